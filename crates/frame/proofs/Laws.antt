@@ -1,0 +1,207 @@
+-- Laws of sealed blocks: their lengths, and a turn of a loop over them.
+-- Assumes nothing.
+use mathlib.Core.Path.{_≡_, refl, sym, ap, _∙_}
+use Prim.Native.Nat.{ℕ, zero, suc, _+_, _-_, _*_, _≤_, _<_, min}
+use native.Mathlib.Nat.{zero-min, min-zero, suc-min-suc}
+use native.Mathlib.Omega.{arith}
+use mathlib.Core.List.{List, [], _∷_, _++_}
+use lib.ListN.{length, take, drop, length-append, length-take, length-drop}
+use borrow.Author.Tests.{lt-ltb, le-ltb}
+use lib.Seq.{length-take-le, drop-drop, take-take}
+use mathlib.Core.Bool.{true, false, cond}
+use Rattle.octets.specs.Bytes.{splice, le}
+use Rattle.octets.proofs.Splice.{splice-append, stored-splice}
+use Rattle.octets.proofs.Le.{length-le}
+use Rattle.crc.specs.Check.{checkOf}
+use denote.Enum.Declared.{tagOf}
+use types.Run.{OneOf}
+use mathlib.Core.Logic.{inl, inr}
+use Rattle.frame.specs.declared.Read.{Read}
+use Rattle.frame.specs.declared.Read.the-variants.{Frame, Short, Start, HeaderCheck, Length, BlockCheck, ReadLent}
+use Rattle.frame.proofs.Read as R
+use Rattle.laws.specs.Outcome.{accepted, refused}
+use Rattle.frame.specs.Frame.{readOf, checkedOf, lentAfterRead, bodyOf, decode, opened, sealOk, blocksOk, users, Parts, sealed, blocks, blockCount, frameSize, headerOf, encode, encodeInto}
+
+-- what `&s[from..e]` is where e is the lesser of from + n and the length
+pub take-min : (n : ℕ) (l : List ℕ) → take (min n (length l)) l ≡ take n l
+take-min zero l = rw zero-min refl
+take-min (suc n) [] = rw min-zero refl
+take-min (suc n) (x ∷ l) = rw suc-min-suc (ap (λ (r : List ℕ). x ∷ r) (take-min n l))
+
+pub part-is : (n from e : ℕ) (s : List ℕ) → from ≤ length s → e ≡ min (from + n) (length s) → take (e - from) (drop from s) ≡ take n (drop from s)
+part-is n from e s h k =
+    let q : e - from ≡ min n (length (drop from s)) = simp length-drop (omega arith) in
+    rw q (take-min n (drop from s))
+
+pub part-length : (from e : ℕ) (s : List ℕ) → e ≤ length s → length (take (e - from) (drop from s)) ≡ e - from
+part-length from e s h = length-take-le (e - from) (drop from s) (simp length-drop (omega arith))
+
+pub length-sealed : (s : List ℕ) → length (sealed s) ≡ length s + 2
+unfolding sealed
+length-sealed s = length-append s (le 2 (checkOf s)) ∙ ap (λ (k : ℕ). length s + k) (length-le 2 (checkOf s))
+
+pub blocks-more : (k : ℕ) (u : List ℕ) → 0 < k → blocks k u ≡ sealed (take 16 u) ++ blocks (k - 1) (drop 16 u)
+unfolding blocks
+blocks-more zero u h = absurd (omega arith)
+blocks-more (suc k) u h =
+    let e : k ≡ suc k - 1 = omega arith in
+    ap (λ (n : ℕ). sealed (take 16 u) ++ blocks n (drop 16 u)) e
+
+pub blocks-none : (k : ℕ) (u : List ℕ) → k ≤ 0 → blocks k u ≡ []
+unfolding blocks
+blocks-none zero u h = refl
+blocks-none (suc k) u h = absurd (omega arith)
+
+-- one block more is put
+pub blocks-turn : (d : List ℕ) (to from e left : ℕ) (s : List ℕ) → 0 < left → from ≤ length s → e ≡ min (from + 16) (length s)
+    → splice (splice d to (sealed (take (e - from) (drop from s)))) (to + (e - from) + 2) (blocks (left - 1) (drop (from + 16) s))
+    ≡ splice d to (blocks left (drop from s))
+blocks-turn d to from e left s pos h k =
+    let g : List ℕ = take (e - from) (drop from s) in
+    let l : length g ≡ e - from = part-length from e s (omega arith) in
+    let n : to + (e - from) + 2 ≡ to + length (sealed g) = simp length-sealed (omega arith) in
+    rw (n, sym (drop-drop 16 from s), sym (splice-append d to (sealed g) (blocks (left - 1) (drop 16 (drop from s)))), part-is 16 from e s h k, sym (blocks-more left (drop from s) pos))
+
+-- ---- the whole frame
+
+pub length-blocks : (k : ℕ) (u : List ℕ) → length u ≤ 16 * k → 16 * k < length u + 16 → length (blocks k u) ≡ length u + 2 * k
+unfolding blocks
+length-blocks zero u h l = omega arith
+length-blocks (suc k) u h l =
+    let ih : length (blocks k (drop 16 u)) ≡ length (drop 16 u) + 2 * k = length-blocks k (drop 16 u) (simp length-drop (omega arith)) (simp length-drop (omega arith)) in
+    simp (length-append, length-sealed, length-take) (omega (arith, length-drop 16 u))
+
+pub length-header : (n c d s : ℕ) → length (headerOf n c d s) ≡ 8
+unfolding headerOf le
+length-header n c d s = refl
+
+pub length-encode : (f : Parts) → length (encode f) ≡ frameSize (length (f .user))
+unfolding encode
+length-encode f = simp (length-append, length-sealed, length-header) (omega (arith, length-blocks (blockCount (length (f .user))) (f .user) (omega arith) (omega arith)))
+
+-- the sealed header, then the blocks
+pub splice-encode : (d : List ℕ) (f : Parts)
+    → splice (splice d 0 (sealed (headerOf (length (f .user)) (f .control) (f .destination) (f .source)))) 10 (blocks (blockCount (length (f .user))) (f .user))
+    ≡ splice d 0 (encode f)
+unfolding encode
+splice-encode d f =
+    let h : List ℕ = headerOf (length (f .user)) (f .control) (f .destination) (f .source) in
+    let e : 10 ≡ 0 + length (sealed h) = simp (length-sealed, length-header) (omega arith) in
+    ap (λ (k : ℕ). splice (splice d 0 (sealed h)) k (blocks (blockCount (length (f .user))) (f .user))) e
+    ∙ sym (splice-append d 0 (sealed h) (blocks (blockCount (length (f .user))) (f .user)))
+
+module _ (room : ℕ) (f : Parts) where
+  pub into-lent : room < 292 → encodeInto room f ≡ refused 33
+  unfolding encodeInto
+  into-lent h = rw (lt-ltb room 292 h)
+
+  pub into-long : 292 ≤ room → 250 < length (f .user) → encodeInto room f ≡ refused 16
+  unfolding encodeInto
+  into-long h l = rw (le-ltb room 292 h, lt-ltb 250 (length (f .user)) l)
+
+  pub into : 292 ≤ room → length (f .user) ≤ 250 → encodeInto room f ≡ accepted (encode f)
+  unfolding encodeInto
+  into h l = rw (le-ltb room 292 h, le-ltb 250 (length (f .user)) l)
+
+-- ---- reading: a turn of a loop over sealed blocks
+
+pub ok-more : (k : ℕ) (b : List ℕ) → 0 < k → blocksOk k b ≡ cond (sealOk (take 18 b)) (blocksOk (k - 1) (drop 18 b)) false
+unfolding blocksOk
+ok-more zero b h = absurd (omega arith)
+ok-more (suc k) b h =
+    let e : k ≡ suc k - 1 = omega arith in
+    ap (λ (n : ℕ). cond (sealOk (take 18 b)) (blocksOk n (drop 18 b)) false) e
+
+pub ok-none : (k : ℕ) (b : List ℕ) → k ≤ 0 → blocksOk k b ≡ true
+unfolding blocksOk
+ok-none zero b h = refl
+ok-none (suc k) b h = absurd (omega arith)
+
+pub users-more : (k : ℕ) (b : List ℕ) → 0 < k → users k b ≡ opened (take 18 b) ++ users (k - 1) (drop 18 b)
+unfolding users
+users-more zero b h = absurd (omega arith)
+users-more (suc k) b h =
+    let e : k ≡ suc k - 1 = omega arith in
+    ap (λ (n : ℕ). opened (take 18 b) ++ users n (drop 18 b)) e
+
+pub users-none : (k : ℕ) (b : List ℕ) → k ≤ 0 → users k b ≡ []
+unfolding users
+users-none zero b h = refl
+users-none (suc k) b h = absurd (omega arith)
+
+module _ (at e left : ℕ) (b : List ℕ) (pos : 0 < left) (h : at ≤ length b) (k : e ≡ min (at + 18) (length b)) where
+  -- a block whose check is right is passed, and one whose check is wrong decides
+  pub ok-turn : sealOk (take (e - at) (drop at b)) ≡ true → blocksOk (left - 1) (drop (at + 18) b) ≡ blocksOk left (drop at b)
+  ok-turn t = rw (ok-more left (drop at b) pos, sym (part-is 18 at e b h k), t, drop-drop 18 at b)
+
+  pub ok-stop : sealOk (take (e - at) (drop at b)) ≡ false → blocksOk left (drop at b) ≡ false
+  ok-stop t = rw (ok-more left (drop at b) pos, sym (part-is 18 at e b h k), t)
+
+  -- a block without its check, `&b[at..e - 2]`
+  pub opened-part : opened (take 18 (drop at b)) ≡ take (e - 2 - at) (drop at b)
+  unfolding opened
+  opened-part =
+      let l : length (take (e - at) (drop at b)) ≡ e - at = part-length at e b (omega arith) in
+      let n : e - at - 2 ≡ e - 2 - at = omega arith in
+      rw (sym (part-is 18 at e b h k), l, take-take (e - at - 2) (e - at) (drop at b) (omega arith), n)
+
+  -- one block more is copied
+  pub users-turn : (d : List ℕ) (to : ℕ)
+      → splice (splice d to (take (e - 2 - at) (drop at b))) (to + (e - 2 - at)) (users (left - 1) (drop (at + 18) b)) ≡ splice d to (users left (drop at b))
+  users-turn d to =
+      let g : List ℕ = take (e - 2 - at) (drop at b) in
+      let l : length g ≡ e - 2 - at = length-take-le (e - 2 - at) (drop at b) (simp length-drop (omega arith)) in
+      let n : to + (e - 2 - at) ≡ to + length g = omega arith in
+      rw (n, sym (drop-drop 18 at b), sym (splice-append d to g (users (left - 1) (drop 18 (drop at b)))), sym opened-part, sym (users-more left (drop at b) pos))
+
+pub length-users : (k : ℕ) (b : List ℕ) → length b ≤ 18 * k → 18 * k < length b + 16 → length (users k b) ≡ length b - 2 * k
+unfolding users opened
+length-users zero b h l = omega arith
+length-users (suc k) b h l =
+    let ih : length (users k (drop 18 b)) ≡ length (drop 18 b) - 2 * k = length-users k (drop 18 b) (simp length-drop (omega arith)) (simp length-drop (omega arith)) in
+    simp (length-append, length-take) (omega (arith, length-drop 18 b))
+
+-- the user bytes of a frame, and where they are once they are copied
+module _ (n : ℕ) (s : List ℕ) (whole : frameSize n ≤ length s) where
+  pub length-body : length (bodyOf n s) ≡ n + 2 * blockCount n
+  length-body = length-take-le (frameSize n - 10) (drop 10 s) (simp length-drop (omega arith)) ∙ omega arith
+
+  pub length-user : length (users (blockCount n) (bodyOf n s)) ≡ n
+  length-user =
+      let l : length (bodyOf n s) ≡ n + 2 * blockCount n = length-body in
+      length-users (blockCount n) (bodyOf n s) (omega arith) (omega arith) ∙ omega arith
+
+  pub user-front : (d : List ℕ) → n ≤ length d → take n (splice d 0 (users (blockCount n) (bodyOf n s))) ≡ users (blockCount n) (bodyOf n s)
+  user-front d h =
+      let u : List ℕ = users (blockCount n) (bodyOf n s) in
+      let l : length u ≡ n = length-user in
+      ap (λ (k : ℕ). take k (splice d 0 u)) (sym l) ∙ stored-splice d 0 u (omega arith)
+
+-- ---- checking first, copying after
+
+pub decode-lent : (room : ℕ) (s : List ℕ) → room < 250 → decode room s ≡ refused 33
+unfolding decode
+decode-lent room s h = rw (lt-ltb room 250 h)
+
+pub decode-room : (room : ℕ) (s : List ℕ) → 250 ≤ room → decode room s ≡ decode 250 s
+unfolding decode
+decode-room room s h = rw (le-ltb room 250 h)
+
+-- a frame that was refused: no user data, and the lent bytes stay
+pub read-refused : (r : Read) (s d : List ℕ) → OneOf (1 ∷ 2 ∷ 3 ∷ 4 ∷ 5 ∷ 6 ∷ []) (tagOf R.the-type r)
+    → (readOf r d ≡ checkedOf r s) × (d ≡ lentAfterRead d (checkedOf r s))
+read-refused (Frame control destination source n) s d h = absurd (not-zero h)
+  where
+    not-zero : OneOf (1 ∷ 2 ∷ 3 ∷ 4 ∷ 5 ∷ 6 ∷ []) 0 → ⊥
+    not-zero (inl e) = omega arith
+    not-zero (inr (inl e)) = omega arith
+    not-zero (inr (inr (inl e))) = omega arith
+    not-zero (inr (inr (inr (inl e)))) = omega arith
+    not-zero (inr (inr (inr (inr (inl e))))) = omega arith
+    not-zero (inr (inr (inr (inr (inr e))))) = omega arith
+read-refused Short s d h = (refl, refl)
+read-refused Start s d h = (refl, refl)
+read-refused HeaderCheck s d h = (refl, refl)
+read-refused Length s d h = (refl, refl)
+read-refused BlockCheck s d h = (refl, refl)
+read-refused ReadLent s d h = (refl, refl)

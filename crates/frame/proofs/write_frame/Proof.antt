@@ -1,0 +1,70 @@
+-- `frame::write_frame` meets its contract: the two refusals by their tests, and else the sealed header with the blocks next to it.
+-- Assumes nothing.
+use mathlib.Core.Path.{refl, sym, ap}
+use native.Mathlib.Omega.{arith}
+use lib.ListN.{length}
+use Rattle.laws.specs.Outcome.{accepted}
+use Rattle.frame.specs.Frame.{Parts, parts}
+use Rattle.frame.proofs.Laws.{into-lent, into-long, into, length-encode, splice-encode}
+use Rattle.frame.proofs.write_frame.Statement.{statement}
+use Rattle.frame.proofs.write_frame.Tie as tie
+
+returns : tie.Need-returns
+returns c =
+    let a = c .before .before .before .args in
+    rw (into-lent (length (a .out .now)) (parts (a .control) (a .destination) (a .source) (a .user .now)) (c .if1 .taken)) (refl, refl)
+
+returns-2 : tie.Need-returns-2
+returns-2 c =
+    let a = c .before .before .before .before .args in
+    rw (into-long (length (a .out .now)) (parts (a .control) (a .destination) (a .source) (a .user .now)) (c .before .if1 .left) (c .if2 .taken)) (refl, refl)
+
+add-k : tie.Need-add-k
+add-k c = omega arith
+
+header-requires : tie.Need-header-requires
+header-requires c κs = omega arith
+
+slice-aggregate-put-sealed : tie.Need-slice-aggregate-put-sealed
+slice-aggregate-put-sealed c = omega arith
+
+put-sealed-requires : tie.Need-put-sealed-requires
+put-sealed-requires c κs = omega arith
+
+put-blocks-requires : tie.Need-put-blocks-requires
+put-blocks-requires c κs = omega arith
+
+add-t9 : tie.Need-add-t9
+add-t9 c = omega arith
+
+mul-t19 : tie.Need-mul-t19
+mul-t19 c = omega arith
+
+add-t20 : tie.Need-add-t20
+add-t20 c = omega arith
+
+same-length : tie.Need-same-length
+same-length c = omega arith
+
+returns-3 : tie.Need-returns-3
+returns-3 c =
+    let a = c .before .before .before .before .before .before .before .before .before .before .before .before .before .before .args in
+    let f : Parts = parts (a .control) (a .destination) (a .source) (a .user .now) in
+    rw (into (length (a .out .now)) f (omega arith) (omega arith)) (ap accepted (sym (length-encode f)), cc (splice-encode (a .out .now) f))
+
+pub write-frame-spec : {M : Type 1} → statement M
+write-frame-spec =
+    tie.close
+    (tie.spec
+    returns
+    returns-2
+    add-k
+    header-requires
+    slice-aggregate-put-sealed
+    put-sealed-requires
+    put-blocks-requires
+    add-t9
+    mul-t19
+    add-t20
+    same-length
+    returns-3)

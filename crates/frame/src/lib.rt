@@ -1,0 +1,255 @@
+// Link frames: written into lent bytes, and read back from bytes.
+ghost use mathlib.Core.Path.{_≡_};
+ghost use Prim.Native.Nat.{_+_, _*_, _-_, _≤_, _<_, min};
+ghost use lib.ListN.{length};
+ghost use Rattle.octets.specs.Bytes.{splice};
+ghost use Rattle.frame.specs.Frame.{
+  parts,
+  sealed,
+  blocks,
+  headerOf,
+  encodeInto,
+  sealOk,
+  blocksOk,
+  users,
+  decodeBody,
+  decode,
+  wroteOf,
+  sizeOf,
+  lentAfterWrite,
+  readOf,
+  lentAfterRead,
+  frameSize,
+  userOf,
+  checkedOf,
+  Whole,
+};
+
+// The most user bytes of a frame, and the bytes of such a frame.
+pub const USER_MAX: usize = 250;
+pub const FRAME_MAX: usize = 292;
+
+// The user bytes of a block.
+pub const BLOCK: usize = 16;
+
+// What writing a frame answers.
+pub enum Wrote {
+    // So many bytes were written.
+    Size(usize),
+    // 16: user data over 250.
+    TooLong,
+    // 33: under 292 lent bytes.
+    WriteLent,
+}
+
+// What reading a frame answers.
+pub enum Read {
+    // The user data is the first `len` lent bytes.
+    Frame {
+        control: u8,
+        destination: u16,
+        source: u16,
+        len: usize,
+    },
+    // 11: under 10 bytes, or under the frame's size.
+    Short,
+    // 12: not 05 64.
+    Start,
+    // 13: header check wrong.
+    HeaderCheck,
+    // 14: length byte under 5.
+    Length,
+    // 15: a block check wrong.
+    BlockCheck,
+    // 33: under 250 lent bytes.
+    ReadLent,
+}
+
+fn least(a: usize, b: usize) -> usize
+    ensures { λ r. ⌜ r ≡ min a b ⌝ }
+{
+    if a < b { a } else { b }
+}
+
+// Puts bytes and then their check at the offset.
+fn put_sealed(out: &mut [u8], at: usize, s: &[u8])
+    requires { ⌜ at + length (now s) + 2 ≤ length (now out) ⌝ }
+    ensures { λ _. ⌜ now (out .exit) ≡ splice (now (out .entry)) at (sealed (now (s .entry))) ⌝ }
+{
+    octets::copy(out, at, s);
+    octets::put2(out, at + s.len(), crc::check(s));
+}
+
+// Puts the bytes at the offset in so many blocks.
+fn put_blocks(out: &mut [u8], at: usize, s: &[u8], k: usize)
+    requires { ⌜ (at + length (now s) + 2 * k ≤ length (now out)) × (length (now s) ≤ 16 * k) × (16 * k < length (now s) + 16) ⌝ }
+    ensures { λ _. ⌜ now (out .exit) ≡ splice (now (out .entry)) at (blocks k (now (s .entry))) ⌝ }
+{
+    let mut from: usize = 0;
+    let mut to = at;
+    let mut left = k;
+    while 0 < left {
+        let e = least(from + BLOCK, s.len());
+        put_sealed(out, to, &s[from..e]);
+        to = to + (e - from) + 2;
+        from += BLOCK;
+        left -= 1;
+    }
+}
+
+fn header(n: usize, control: u8, destination: u16, source: u16) -> [u8; 8]
+    requires { ⌜ n ≤ 250 ⌝ }
+    ensures { λ r. ⌜ r ≡ headerOf n control destination source ⌝ }
+{
+    [
+        5,
+        100,
+        (n + 5) as u8,
+        control,
+        (destination % 256) as u8,
+        (destination / 256 % 256) as u8,
+        (source % 256) as u8,
+        (source / 256 % 256) as u8,
+    ]
+}
+
+// Writes a frame at the front of the lent bytes; a refusal leaves them.
+pub fn write_frame(out: &mut [u8], control: u8, destination: u16, source: u16, user: &[u8]) -> Wrote
+    ensures { λ r. ⌜
+        (wroteOf r ≡ sizeOf (encodeInto (length (now (out .entry))) (parts control destination source (now (user .entry)))))
+        × (now (out .exit) ≡ lentAfterWrite (now (out .entry)) (encodeInto (length (now (out .entry))) (parts control destination source (now (user .entry))))) ⌝ }
+{
+    if out.len() < FRAME_MAX {
+        return Wrote::WriteLent;
+    }
+    let n = user.len();
+    if USER_MAX < n {
+        return Wrote::TooLong;
+    }
+    let k = (n + 15) / BLOCK;
+    let h = header(n, control, destination, source);
+    put_sealed(out, 0, &h);
+    put_blocks(out, 10, user, k);
+    Wrote::Size(10 + n + 2 * k)
+}
+
+// The last two bytes are the check of the others.
+fn seal_ok(s: &[u8]) -> bool
+    requires { ⌜ 2 ≤ length (now s) ⌝ }
+    ensures { λ r. ⌜ r ≡ sealOk (now (s .entry)) ⌝ }
+{
+    let n = s.len() - 2;
+    crc::check(&s[..n]) == octets::take2(s, n)
+}
+
+// Each of so many blocks ends in its check.
+fn blocks_ok(b: &[u8], k: usize) -> bool
+    requires { ⌜ (length (now b) ≤ 18 * k) × (18 * k < length (now b) + 16) ⌝ }
+    ensures { λ r. ⌜ r ≡ blocksOk k (now (b .entry)) ⌝ }
+{
+    let mut at: usize = 0;
+    let mut left = k;
+    while 0 < left {
+        let e = least(at + 18, b.len());
+        if !seal_ok(&b[at..e]) {
+            return false;
+        }
+        at += 18;
+        left -= 1;
+    }
+    true
+}
+
+// Copies the user bytes of so many blocks to the front of the lent bytes.
+fn copy_users(out: &mut [u8], b: &[u8], k: usize)
+    requires { ⌜ (length (now b) ≤ 18 * k) × (18 * k < length (now b) + 16) × (length (now b) ≤ length (now out) + 2 * k) ⌝ }
+    ensures { λ _. ⌜ now (out .exit) ≡ splice (now (out .entry)) 0 (users k (now (b .entry))) ⌝ }
+{
+    let mut at: usize = 0;
+    let mut to: usize = 0;
+    let mut left = k;
+    while 0 < left {
+        let e = least(at + 18, b.len()) - 2;
+        octets::copy(out, to, &b[at..e]);
+        to += e - at;
+        at += 18;
+        left -= 1;
+    }
+}
+
+// Checks the part of a frame after a header that says n user bytes.
+fn check_body(s: &[u8], n: usize) -> Read
+    requires { ⌜ (10 ≤ length (now s)) × (n ≤ 250) ⌝ }
+    ensures { λ r. ⌜ (checkedOf r (now (s .entry)) ≡ decodeBody n (now (s .entry))) × Whole r (now (s .entry)) ⌝ }
+{
+    let k = (n + 15) / BLOCK;
+    let size = 10 + n + 2 * k;
+    if s.len() < size {
+        return Read::Short;
+    }
+    if !blocks_ok(&s[10..size], k) {
+        return Read::BlockCheck;
+    }
+    Read::Frame {
+        control: s[3],
+        destination: octets::take2(s, 4),
+        source: octets::take2(s, 6),
+        len: n,
+    }
+}
+
+// Checks the frame at the front of the bytes; its user data stays in its blocks.
+pub fn check_frame(s: &[u8]) -> Read
+    ensures { λ r. ⌜ (checkedOf r (now (s .entry)) ≡ decode 250 (now (s .entry))) × Whole r (now (s .entry)) ⌝ }
+{
+    if s.len() < 10 {
+        return Read::Short;
+    }
+    if s[0] != 5 {
+        return Read::Start;
+    }
+    if s[1] != 100 {
+        return Read::Start;
+    }
+    if !seal_ok(&s[..10]) {
+        return Read::HeaderCheck;
+    }
+    let len = s[2] as usize;
+    if len < 5 {
+        return Read::Length;
+    }
+    check_body(s, len - 5)
+}
+
+// Copies the user data of a frame that was checked to the front of the lent bytes: for callers that decide between check and copy.
+pub fn copy_user(out: &mut [u8], s: &[u8], n: usize)
+    requires { ⌜ (n ≤ 250) × (frameSize n ≤ length (now s)) × (n ≤ length (now out)) ⌝ }
+    ensures { λ _. ⌜ now (out .exit) ≡ splice (now (out .entry)) 0 (userOf n (now (s .entry))) ⌝ }
+{
+    let k = (n + 15) / BLOCK;
+    let size = 10 + n + 2 * k;
+    copy_users(out, &s[10..size], k);
+}
+
+// Reads the frame at the front of the bytes; its user data goes to the front of the lent bytes. A refusal leaves them.
+pub fn read_frame(s: &[u8], out: &mut [u8]) -> Read
+    ensures { λ r. ⌜
+        (readOf r (now (out .exit)) ≡ decode (length (now (out .entry))) (now (s .entry)))
+        × (now (out .exit) ≡ lentAfterRead (now (out .entry)) (decode (length (now (out .entry))) (now (s .entry)))) ⌝ }
+{
+    if out.len() < USER_MAX {
+        return Read::ReadLent;
+    }
+    let r = check_frame(s);
+    let Read::Frame {
+        control: _,
+        destination: _,
+        source: _,
+        len,
+    } = r
+    else {
+        return r;
+    };
+    copy_user(out, s, len);
+    r
+}

@@ -1,0 +1,178 @@
+-- Laws of receiving and sending one segment: each refusal by its tests, and where the data of a segment goes.
+-- Assumes nothing.
+use mathlib.Core.Path.{_≡_, refl, sym, ap, ap₂, _∙_}
+use mathlib.Core.Bool.{Bool, true, false}
+use Prim.Native.Nat.{ℕ, zero, suc, _+_, _-_, _*_, _/_, _%_, _≤_, _<_, min}
+use native.Mathlib.Omega.{arith}
+use mathlib.Core.List.{List, [], _∷_}
+use lib.ListN.{length, getD, take, drop, set, length-drop, length-take}
+use lib.Seq.{take-all, length-take-le}
+use lib.Dec.{ltb, leb, eqb}
+use borrow.Author.Tests.{lt-ltb, le-ltb, ltb-true, ltb-false, leb-true, leb-false, eq-eqb, ne-eqb, le-leb, lt-leb}
+use Rattle.laws.proofs.Tests.{passed-no, passed-yes}
+use Rattle.octets.specs.Bytes.{splice}
+use Rattle.octets.proofs.Splice.{splice-cons}
+use Rattle.laws.specs.Outcome.{Outcome, accepted, refused}
+use Rattle.transport.specs.Segment.{headOf, fin, fir, sequence, dataOf, nextOf, bitOf, headerOf, segment}
+use Rattle.transport.specs.Receive.{places, receiving}
+use Rattle.transport.specs.Send.{fromOf, lastAt, endOf, nextSegment, nextSender, sending, Written, writtenOf}
+use Rattle.transport.specs.declared.Assembly.{Assembly}
+use Rattle.transport.specs.declared.Sender.{Sender}
+use Rattle.transport.specs.declared.TransportSequence.{TransportSequence}
+
+-- ---- receiving
+
+module _ (room : ℕ) (a : Assembly) (s : List ℕ) where
+  pub got-lent : room < 2048 → receiving room a s ≡ refused 33
+  unfolding receiving
+  got-lent h = rw (lt-ltb room 2048 h)
+
+  pub got-short : 2048 ≤ room → length s < 2 → receiving room a s ≡ refused 21
+  unfolding receiving
+  got-short h l = rw (le-ltb room 2048 h, lt-ltb (length s) 2 l)
+
+  pub got-long : 2048 ≤ room → 2 ≤ length s → 250 < length s → receiving room a s ≡ refused 21
+  unfolding receiving
+  got-long h l m = rw (le-ltb room 2048 h, le-ltb (length s) 2 l, lt-ltb 250 (length s) m)
+
+  pub got-first : 2048 ≤ room → 2 ≤ length s → length s ≤ 250 → headOf s / 64 % 2 ≡ 1 → receiving room a s ≡ accepted 0
+  unfolding receiving
+  got-first h l m e = rw (le-ltb room 2048 h, le-ltb (length s) 2 l, le-ltb 250 (length s) m, eq-eqb (headOf s / 64 % 2) 1 e)
+
+  pub got-next : 2048 ≤ room → 2 ≤ length s → length s ≤ 250 → (headOf s / 64 % 2 ≡ 1 → ⊥)
+      → receiving room a s ≡ places a (sequence (headOf s)) (length (dataOf s))
+  unfolding receiving
+  got-next h l m e = rw (le-ltb room 2048 h, le-ltb (length s) 2 l, le-ltb 250 (length s) m, ne-eqb (headOf s / 64 % 2) 1 e)
+
+module _ (a : Assembly) (q n : ℕ) where
+  pub place-idle : a .begun ≡ false → places a q n ≡ refused 22
+  unfolding places
+  place-idle b = rw b
+
+  pub place-other : a .begun ≡ true → (q ≡ nextOf (a .last) .0 → ⊥) → places a q n ≡ refused 22
+  unfolding places
+  place-other b e = rw (b, ne-eqb q (nextOf (a .last) .0) e)
+
+  pub place-long : a .begun ≡ true → q ≡ nextOf (a .last) .0 → 2048 < a .len + n → places a q n ≡ refused 23
+  unfolding places
+  place-long b e h = rw (b, eq-eqb q (nextOf (a .last) .0) e, lt-ltb 2048 (a .len + n) h)
+
+  pub place-at : a .begun ≡ true → q ≡ nextOf (a .last) .0 → a .len + n ≤ 2048 → places a q n ≡ accepted (a .len)
+  unfolding places
+  place-at b e h = rw (b, eq-eqb q (nextOf (a .last) .0) e, le-ltb 2048 (a .len + n) h)
+
+-- data that is placed passes the limit nowhere
+pub place-fits : (a : Assembly) (q n at : ℕ) → places a q n ≡ accepted at → at + n ≤ 2048
+unfolding places
+place-fits a q n at e =
+    let a1 = passed-yes (a .begun) 22 _ at e in
+    let a2 = passed-yes (eqb q (nextOf (a .last) .0)) 22 _ at (a1 .1) in
+    let a3 = passed-no (ltb 2048 (a .len + n)) 23 _ at (a2 .1) in
+    let l : a .len + n ≤ 2048 = ltb-false _ _ (a3 .0) in
+    let k : a .len ≡ at = cc (a3 .1) in
+    omega arith
+
+-- `&s[1..]` is the segment's data
+pub rest-is : (s : List ℕ) → take (length s - 1) (drop 1 s) ≡ dataOf s
+rest-is s = take-all (length s - 1) (drop 1 s) (simp length-drop (omega arith))
+
+pub rest-length : (s : List ℕ) → length (dataOf s) ≡ length s - 1
+rest-length s = length-drop 1 s
+
+pub rest-length-0 : (s : List ℕ) → 0 + length (dataOf s) ≡ length s - 1
+rest-length-0 s = simp length-drop (omega arith)
+
+-- ---- sending
+
+module _ (room : ℕ) (p : Sender) (f : List ℕ) where
+  pub send-lent : room < 250 → sending room p f ≡ refused 33
+  unfolding sending
+  send-lent h = rw (lt-ltb room 250 h)
+
+  pub send-none : 250 ≤ room → length f < 1 → sending room p f ≡ refused 16
+  unfolding sending
+  send-none h l = rw (le-ltb room 250 h, lt-ltb (length f) 1 l)
+
+  pub send-long : 250 ≤ room → 1 ≤ length f → 2048 < length f → sending room p f ≡ refused 16
+  unfolding sending
+  send-long h l m = rw (le-ltb room 250 h, le-ltb (length f) 1 l, lt-ltb 2048 (length f) m)
+
+  pub send-next : 250 ≤ room → 1 ≤ length f → length f ≤ 2048 → sending room p f ≡ accepted (nextSegment p f)
+  unfolding sending
+  send-next h l m = rw (le-ltb room 250 h, le-ltb (length f) 1 l, le-ltb 2048 (length f) m)
+
+pub bit-le : (b : Bool) → bitOf b ≤ 1
+bit-le true = omega arith
+bit-le false = omega arith
+
+bit-one : (b : Bool) → eqb (bitOf b) 1 ≡ b
+bit-one true = refl
+bit-one false = refl
+
+module _ (first last : Bool) (q : ℕ) where
+  -- the parts of a transport byte
+  pub fin-header : fin (headerOf first last q) ≡ last
+  unfolding headerOf
+  fin-header =
+      let a : bitOf first ≤ 1 = bit-le first in
+      let b : bitOf last ≤ 1 = bit-le last in
+      let e : (128 * bitOf last + 64 * bitOf first + q % 64) / 128 % 2 ≡ bitOf last = omega arith in
+      ap (λ (k : ℕ). eqb k 1) e ∙ bit-one last
+
+  pub fir-header : fir (headerOf first last q) ≡ first
+  unfolding headerOf
+  fir-header =
+      let a : bitOf first ≤ 1 = bit-le first in
+      let b : bitOf last ≤ 1 = bit-le last in
+      let e : (128 * bitOf last + 64 * bitOf first + q % 64) / 64 % 2 ≡ bitOf first = omega arith in
+      ap (λ (k : ℕ). eqb k 1) e ∙ bit-one first
+
+  pub sequence-header : sequence (headerOf first last q) ≡ q % 64
+  unfolding headerOf
+  sequence-header =
+      let a : bitOf first ≤ 1 = bit-le first in
+      let b : bitOf last ≤ 1 = bit-le last in
+      omega arith
+
+-- the part of the fragment from here, at most 249 bytes
+module _ (f : List ℕ) (at e : ℕ) (h : at < length f) (k : e ≡ min (at + 249) (length f)) where
+  pub part-is : take (e - at) (drop at f) ≡ take 249 (drop at f)
+  part-is = go (leb (at + 249) (length f)) refl
+    where
+      go : (b : Bool) → leb (at + 249) (length f) ≡ b → take (e - at) (drop at f) ≡ take 249 (drop at f)
+      go true t =
+          let l : at + 249 ≤ length f = leb-true _ _ t in
+          let n : e - at ≡ 249 = omega arith in
+          ap (λ (m : ℕ). take m (drop at f)) n
+      go false t =
+          let l : length f < at + 249 = leb-false _ _ t in
+          let n : length (drop at f) ≤ e - at = simp length-drop (omega arith) in
+          let m : length (drop at f) ≤ 249 = simp length-drop (omega arith) in
+          take-all (e - at) (drop at f) n ∙ sym (take-all 249 (drop at f) m)
+
+  pub part-length : length (take 249 (drop at f)) ≡ e - at
+  part-length = length-take 249 (drop at f) ∙ simp length-drop (omega arith)
+
+-- what is written, and what is kept
+module _ (p : Sender) (f : List ℕ) (at : ℕ) where
+  pub sender-is : (q : TransportSequence) (x : ℕ) → at ≡ fromOf (p .at) (length f) → q ≡ nextOf (p .next) → x ≡ endOf at (length f)
+      → _≡_ {A = Sender} (record { next = q; at = x }) (nextSender p f)
+  unfolding nextSender
+  sender-is q x e eq ex = ap₂ (λ (r : TransportSequence) (y : ℕ). record { next = r; at = y }) eq (ex ∙ ap (λ (n : ℕ). endOf n (length f)) e)
+
+  module _ (e : ℕ) (here : at ≡ fromOf (p .at) (length f)) (h : at < length f) (k : e ≡ min (at + 249) (length f)) where
+    next-is : nextSegment p f ≡ segment (eqb at 0) (lastAt at (length f)) (p .next .0) (take 249 (drop at f))
+    unfolding nextSegment
+    next-is = ap (λ (n : ℕ). segment (eqb n 0) (lastAt n (length f)) (p .next .0) (take 249 (drop n f))) (sym here)
+
+    pub written-is : writtenOf (nextSegment p f) ≡ accepted (record { size = e - at + 1; last = lastAt at (length f) })
+    written-is =
+        let n : suc (length (take 249 (drop at f))) ≡ e - at + 1 = omega (arith, part-length f at e h k) in
+        ap writtenOf next-is ∙ ap₂ (λ (m : ℕ) (b : Bool). accepted (record { size = m; last = b })) n (fin-header (eqb at 0) (lastAt at (length f)) (p .next .0))
+
+    pub splice-is : (d : List ℕ) (x : ℕ) → x ≡ headerOf (eqb at 0) (lastAt at (length f)) (p .next .0)
+        → splice (set d 0 x) 1 (take (e - at) (drop at f)) ≡ splice d 0 (nextSegment p f)
+    splice-is d x ex =
+        ap₂ (λ (y : ℕ) (l : List ℕ). splice (set d 0 y) 1 l) ex (part-is f at e h k)
+        ∙ sym (splice-cons d 0 (headerOf (eqb at 0) (lastAt at (length f)) (p .next .0)) (take 249 (drop at f)))
+        ∙ ap (splice d 0) (sym next-is)

@@ -1,0 +1,164 @@
+-- `transport::receive` meets its contract: the refusals by their tests, and else the data behind the bytes so far.
+-- Assumes nothing.
+use mathlib.Core.Path.{_≡_, refl, sym, ap, _∙_}
+use Prim.Native.Nat.{ℕ, _+_, _-_, _%_, _≤_}
+use native.Mathlib.Omega.{arith}
+use lib.ListN.{length, getD, drop}
+use Rattle.laws.specs.Outcome.{Outcome, accepted}
+use Rattle.transport.specs.Segment.{dataOf}
+use Rattle.transport.specs.Receive.{receiving, places, placeOf}
+use Rattle.transport.proofs.Laws.{got-lent, got-short, got-long, got-first, got-next, place-fits, rest-is, rest-length, rest-length-0}
+use Rattle.transport.proofs.receive.Statement.{statement}
+use Rattle.transport.proofs.receive.Tie as tie
+
+-- without FIR the data goes where `placed` says
+nexts : (u : tie.Else4) → let a = u .before .before .before .before .before .before .before .args in receiving (length (a .out .now)) (a .a) (a .segment .now) ≡ places (a .a) (getD (a .segment .now) 0 0 % 64) (length (a .segment .now) - 1)
+nexts u =
+    let a = u .before .before .before .before .before .before .before .args in
+    let s = a .segment .now in
+    got-next (length (a .out .now)) (a .a) s (omega arith) (omega arith) (omega arith) (u .if4 .left) ∙ ap (λ (n : ℕ). places (a .a) (getD s 0 0 % 64) n) (rest-length s)
+
+went : (u : tie.After-p) → let a = u .before .before .before .before .before .before .before .before .before .before .args in places (a .a) (getD (a .segment .now) 0 0 % 64) (length (a .segment .now) - 1) ≡ accepted (u .p .given .0 .0)
+went u = sym (u .before .before .placed .ensures) ∙ ap placeOf (u .p .given .1)
+
+returns : tie.Need-returns
+returns c =
+    let a = c .before .before .before .args in
+    rw (got-lent (length (a .out .now)) (a .a) (a .segment .now) (c .if1 .taken)) (refl, refl, refl)
+
+returns-2 : tie.Need-returns-2
+returns-2 c =
+    let a = c .before .before .before .before .args in
+    rw (got-short (length (a .out .now)) (a .a) (a .segment .now) (c .before .if1 .left) (c .if2 .taken)) (refl, refl, refl)
+
+returns-3 : tie.Need-returns-3
+returns-3 c =
+    let a = c .before .before .before .before .before .args in
+    rw (got-long (length (a .out .now)) (a .a) (a .segment .now) (c .before .before .if1 .left) (c .before .if2 .left) (c .if3 .taken)) (refl, refl, refl)
+
+shared-slice-read-header : tie.Need-shared-slice-read-header
+shared-slice-read-header c = omega arith
+
+sub-n : tie.Need-sub-n
+sub-n c = omega arith
+
+sub-copy : tie.Need-sub-copy
+sub-copy c = omega arith
+
+part-copy-start : tie.Need-part-copy-start
+part-copy-start c = omega arith
+
+part-copy-end : tie.Need-part-copy-end
+part-copy-end c = omega arith
+
+copy-requires : tie.Need-copy-requires
+copy-requires c κs = omega arith
+
+taken-requires : tie.Need-taken-requires
+taken-requires c κs = omega arith
+
+same-length : tie.Need-same-length
+same-length c = omega arith
+
+returns-4 : tie.Need-returns-4
+returns-4 c =
+    let t4 = c .before .before .before .before .before .before in
+    let a = t4 .before .before .before .before .before .before .before .args in
+    let s = a .segment .now in
+    rw (got-first (length (a .out .now)) (a .a) s (omega arith) (omega arith) (omega arith) (t4 .if4 .taken), rest-length-0 s)
+    (c .taken .ensures .1, c .taken .ensures .0, cc (rest-is s))
+
+placed-requires : tie.Need-placed-requires
+placed-requires c κs = omega arith
+
+enum-known-p : tie.Need-enum-known-p
+enum-known-p c = omega arith
+
+sub-copy-2 : tie.Need-sub-copy-2
+sub-copy-2 c = omega arith
+
+part-copy-start-2 : tie.Need-part-copy-start-2
+part-copy-start-2 c = omega arith
+
+part-copy-end-2 : tie.Need-part-copy-end-2
+part-copy-end-2 c = omega arith
+
+copy-requires-2 : tie.Need-copy-requires-2
+copy-requires-2 c κs =
+    let u = c .before .before .before in
+    let s = u .before .before .before .before .before .before .before .before .before .before .args .segment .now in
+    simp (rest-is s, rest-length s) (omega (arith, place-fits _ _ _ _ (went u)))
+
+add-taken : tie.Need-add-taken
+add-taken c =
+    let u = c .before .before .before .before .before .before in
+    omega (arith, place-fits _ _ _ _ (went u))
+
+taken-requires-2 : tie.Need-taken-requires-2
+taken-requires-2 c κs = omega arith
+
+enum-told : tie.Need-enum-told
+enum-told c = omega arith
+
+nothing-begun-requires : tie.Need-nothing-begun-requires
+nothing-begun-requires c κs = omega arith
+
+enum-told-2 : tie.Need-enum-told-2
+enum-told-2 c = omega arith
+
+nothing-begun-requires-2 : tie.Need-nothing-begun-requires-2
+nothing-begun-requires-2 c κs = omega arith
+
+same-length-2 : tie.Need-same-length-2
+same-length-2 c = omega arith
+
+returns-5 : tie.Need-returns-5
+returns-5 c =
+    let u = c .before .before .before .before .before .before .before in
+    let s = u .before .before .before .before .before .before .before .before .before .before .args .segment .now in
+    rw (nexts (u .before .before .before), went u, rest-length s) (c .taken2 .ensures .1, c .taken2 .ensures .0, cc (rest-is s))
+
+returns-6 : tie.Need-returns-6
+returns-6 c =
+    let u = c .before .before .before .before in
+    let e = sym (c .before .before .before .placed .ensures) ∙ ap placeOf (c .before .enum-told .given .1) in
+    rw (nexts u, e) (refl, c .nothing-begun .ensures, refl)
+
+returns-7 : tie.Need-returns-7
+returns-7 c =
+    let u = c .before .before .before .before in
+    let e = sym (c .before .before .before .placed .ensures) ∙ ap placeOf (c .before .enum-told2 .given .1) in
+    rw (nexts u, e) (refl, c .nothing-begun2 .ensures, refl)
+
+pub receive-spec : {M : Type 1} → statement M
+receive-spec =
+    tie.close
+    (tie.spec
+    returns
+    returns-2
+    returns-3
+    shared-slice-read-header
+    sub-n
+    sub-copy
+    part-copy-start
+    part-copy-end
+    copy-requires
+    taken-requires
+    same-length
+    returns-4
+    placed-requires
+    enum-known-p
+    sub-copy-2
+    part-copy-start-2
+    part-copy-end-2
+    copy-requires-2
+    add-taken
+    taken-requires-2
+    enum-told
+    nothing-begun-requires
+    enum-told-2
+    nothing-begun-requires-2
+    same-length-2
+    returns-5
+    returns-6
+    returns-7)

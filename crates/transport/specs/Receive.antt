@@ -1,0 +1,104 @@
+-- Receiving: what a segment comes to, in document 01's order of refusals.
+-- Assumes nothing.
+use Prim.Native.Nat.{ℕ, zero, suc, _+_, _*_, _/_, _%_}
+use mathlib.Core.Bool.{Bool, true, false, cond}
+use mathlib.Core.List.{List, [], _∷_}
+use lib.ListN.{length, getD, take, drop}
+use lib.Dec.{ltb, eqb}
+use Rattle.octets.specs.Bytes.{splice}
+use Rattle.laws.specs.Limits.{fragmentMax, segmentDataMax}
+use Rattle.laws.specs.Outcome.{Outcome, accepted, refused}
+use Rattle.transport.specs.Segment.{headOf, fin, fir, sequence, dataOf, nextOf}
+use Rattle.transport.specs.declared.TransportSequence.{TransportSequence}
+use Rattle.transport.specs.declared.Assembly.{Assembly}
+use Rattle.transport.specs.declared.Received.{Received}
+use Rattle.transport.specs.declared.Received.the-variants.{More, Fragment, SegmentLength, OutOfSequence, FragmentTooLong, AssemblyLent}
+use Rattle.transport.specs.declared.Place.{Place}
+use Rattle.transport.specs.declared.Place.the-variants.{At, NotNext, TooLong}
+
+-- nothing begun
+abbrev pub idle : Assembly
+idle = record { begun = false; last = record { 0 = 0 }; len = 0 }
+
+-- without FIR: where n bytes of data go, behind the bytes so far, if a fragment is begun, the sequence is the last one plus 1 modulo 64 and 2,048 are not passed
+unfoldable pub places : Assembly → ℕ → ℕ → Outcome ℕ
+places a q n =
+    cond (a .begun)
+    (cond (eqb q (nextOf (a .last) .0))
+    (cond (ltb fragmentMax (a .len + n)) (refused 23) (accepted (a .len)))
+    (refused 22))
+    (refused 22)
+
+-- where a segment's data goes, so many bytes being lent for the fragment. FIR starts afresh
+unfoldable pub receiving : ℕ → Assembly → List ℕ → Outcome ℕ
+receiving room a s =
+    cond (ltb room fragmentMax) (refused 33)
+    (cond (ltb (length s) 2) (refused 21)
+    (cond (ltb (segmentDataMax + 1) (length s)) (refused 21)
+    (cond (fir (headOf s)) (accepted 0) (places a (sequence (headOf s)) (length (dataOf s))))))
+
+-- ---- the answer, what is kept, and the lent bytes
+
+-- a segment that was taken: more are to come, or the fragment is complete with so many bytes
+pub data Taken : Type 0 where
+  more : Taken
+  complete : ℕ → Taken
+
+-- n bytes came so far, the last of them under this transport byte: the answer, and what is kept
+abbrev pub tellsOf : ℕ → ℕ → Outcome Taken
+tellsOf h n = accepted (cond (fin h) (complete n) more)
+
+abbrev pub keptOf : ℕ → ℕ → Assembly
+keptOf h n = cond (fin h) idle (record { begun = true; last = record { 0 = sequence h }; len = n })
+
+abbrev pub answerOf : List ℕ → Outcome ℕ → Outcome Taken
+answerOf s (accepted at) = tellsOf (headOf s) (at + length (dataOf s))
+answerOf s (refused k) = refused k
+
+-- refusals 22 and 23 forget an unfinished fragment
+abbrev pub forgets : ℕ → Bool
+forgets k = cond (eqb k 22) true (eqb k 23)
+
+abbrev pub assemblyAfter : Assembly → List ℕ → Outcome ℕ → Assembly
+assemblyAfter a s (accepted at) = keptOf (headOf s) (at + length (dataOf s))
+assemblyAfter a s (refused k) = cond (forgets k) idle a
+
+abbrev pub lentAfter : List ℕ → List ℕ → Outcome ℕ → List ℕ
+lentAfter d s (accepted at) = splice d at (dataOf s)
+lentAfter d s (refused k) = d
+
+-- ---- what the answers mean
+
+abbrev pub receivedOf : Received → Outcome Taken
+receivedOf More = accepted more
+receivedOf (Fragment n) = accepted (complete n)
+receivedOf SegmentLength = refused 21
+receivedOf OutOfSequence = refused 22
+receivedOf FragmentTooLong = refused 23
+receivedOf AssemblyLent = refused 33
+
+abbrev pub placeOf : Place → Outcome ℕ
+placeOf (At n) = accepted n
+placeOf NotNext = refused 22
+placeOf TooLong = refused 23
+
+-- ---- several segments in order
+
+pub record Run : Type 0 where
+  pub answers : List (Outcome Taken)
+  pub assembly : Assembly
+  pub lent : List ℕ
+
+abbrev pub answered : Outcome Taken → Run → Run
+answered o r = record { answers = o ∷ r .answers; assembly = r .assembly; lent = r .lent }
+
+unfoldable pub receiveAll : Assembly → List ℕ → List (List ℕ) → Run
+receiveAll a d [] = record { answers = []; assembly = a; lent = d }
+receiveAll a d (s ∷ ss) =
+    answered (answerOf s (receiving (length d) a s))
+    (receiveAll (assemblyAfter a s (receiving (length d) a s)) (lentAfter d s (receiving (length d) a s)) ss)
+
+-- k times more to come, then a complete fragment of n bytes
+unfoldable pub goes : ℕ → ℕ → List (Outcome Taken)
+goes zero n = accepted (complete n) ∷ []
+goes (suc k) n = accepted more ∷ goes k n

@@ -1,0 +1,301 @@
+// The transport function: segments taken into a fragment, and a fragment sent as segments.
+ghost use mathlib.Core.Path.{_≡_};
+ghost use Prim.Native.Nat.{_+_, _-_, _≤_, _<_, _%_, min};
+ghost use lib.ListN.{length};
+ghost use Rattle.octets.specs.Bytes.{splice};
+ghost use Rattle.transport.specs.Segment.{bitOf, headerOf, nextOf};
+ghost use Rattle.transport.specs.Receive.{
+  idle,
+  places,
+  placeOf,
+  receiving,
+  receivedOf,
+  keptOf,
+  tellsOf,
+  answerOf,
+  assemblyAfter,
+  lentAfter,
+};
+ghost use Rattle.transport.specs.Send.{
+  fromOf,
+  endOf,
+  nextSegment,
+  sending,
+  sentOf,
+  writtenOf,
+  answerSent,
+  nextSender,
+  senderAfter,
+  lentAfterSend,
+};
+
+// The most data bytes of a segment, and the bytes of such a segment.
+pub const SEGMENT_DATA_MAX: usize = 249;
+pub const SEGMENT_MAX: usize = 250;
+
+// The most bytes of a fragment.
+pub const FRAGMENT_MAX: usize = 2048;
+
+// A transport sequence number, modulo 64: a type of its own, so that it is not mixed with an application sequence.
+pub struct TransportSequence(pub u8);
+
+// What is kept between segments: whether a fragment is begun, the last sequence taken, and how many bytes it has so far, the first of the lent bytes.
+pub struct Assembly {
+    pub begun: bool,
+    pub last: TransportSequence,
+    pub len: usize,
+}
+
+// What taking a segment answers.
+pub enum Received {
+    // The fragment goes on.
+    More,
+    // The fragment is complete, so many bytes.
+    Fragment(usize),
+    // 21: segment with no data, or over 249.
+    SegmentLength,
+    // 22: no FIR and nothing begun, or sequence not next. The unfinished fragment is forgotten.
+    OutOfSequence,
+    // 23: fragment would pass 2,048. The unfinished fragment is forgotten.
+    FragmentTooLong,
+    // 33: under 2,048 lent bytes.
+    AssemblyLent,
+}
+
+pub struct Reception {
+    pub answer: Received,
+    pub assembly: Assembly,
+}
+
+// Where a segment's data goes in the fragment.
+pub enum Place {
+    At(usize),
+    NotNext,
+    TooLong,
+}
+
+// Nothing begun.
+pub fn nothing_begun() -> Assembly
+    ensures { λ r. ⌜ r ≡ idle ⌝ }
+{
+    Assembly {
+        begun: false,
+        last: TransportSequence(0),
+        len: 0,
+    }
+}
+
+// The sequence after this one.
+pub fn next(q: TransportSequence) -> TransportSequence
+    ensures { λ r. ⌜ r ≡ nextOf q ⌝ }
+{
+    TransportSequence((q.0 % 64 + 1) % 64)
+}
+
+fn least(a: usize, b: usize) -> usize
+    ensures { λ r. ⌜ r ≡ min a b ⌝ }
+{
+    if a < b { a } else { b }
+}
+
+// Where the data of a segment without FIR goes, n bytes of it.
+fn placed(a: Assembly, sequence: u8, n: usize) -> Place
+    requires { ⌜ (0 < n) × (n ≤ 249) ⌝ }
+    ensures { λ r. ⌜ placeOf r ≡ places a sequence n ⌝ }
+{
+    if !a.begun {
+        return Place::NotNext;
+    }
+    let q = next(a.last);
+    if sequence != q.0 {
+        return Place::NotNext;
+    }
+    let len = least(a.len, FRAGMENT_MAX);
+    if FRAGMENT_MAX < len + n {
+        return Place::TooLong;
+    }
+    Place::At(len)
+}
+
+// What is kept and answered once n bytes are in the fragment.
+fn taken(header: u8, n: usize) -> Reception
+    ensures { λ r. ⌜ (r .assembly ≡ keptOf header n) × (receivedOf (r .answer) ≡ tellsOf header n) ⌝ }
+{
+    if header / 128 % 2 == 1 {
+        return Reception {
+            answer: Received::Fragment(n),
+            assembly: nothing_begun(),
+        };
+    }
+    Reception {
+        answer: Received::More,
+        assembly: Assembly {
+            begun: true,
+            last: TransportSequence(header % 64),
+            len: n,
+        },
+    }
+}
+
+// Takes a segment into the fragment whose bytes so far are the first of the lent bytes.
+pub fn receive(a: Assembly, segment: &[u8], out: &mut [u8]) -> Reception
+    ensures { λ r. ⌜
+        (receivedOf (r .answer) ≡ answerOf (now (segment .entry)) (receiving (length (now (out .entry))) a (now (segment .entry))))
+        × (r .assembly ≡ assemblyAfter a (now (segment .entry)) (receiving (length (now (out .entry))) a (now (segment .entry))))
+        × (now (out .exit) ≡ lentAfter (now (out .entry)) (now (segment .entry)) (receiving (length (now (out .entry))) a (now (segment .entry)))) ⌝ }
+{
+    if out.len() < FRAGMENT_MAX {
+        return Reception {
+            answer: Received::AssemblyLent,
+            assembly: a,
+        };
+    }
+    if segment.len() < 2 {
+        return Reception {
+            answer: Received::SegmentLength,
+            assembly: a,
+        };
+    }
+    if SEGMENT_MAX < segment.len() {
+        return Reception {
+            answer: Received::SegmentLength,
+            assembly: a,
+        };
+    }
+    let header = segment[0];
+    let n = segment.len() - 1;
+    if header / 64 % 2 == 1 {
+        octets::copy(out, 0, &segment[1..]);
+        return taken(header, n);
+    }
+    let p = placed(a, header % 64, n);
+    match p {
+        Place::At(at) => {
+            octets::copy(out, at, &segment[1..]);
+            taken(header, at + n)
+        }
+        Place::NotNext => Reception {
+            answer: Received::OutOfSequence,
+            assembly: nothing_begun(),
+        },
+        Place::TooLong => Reception {
+            answer: Received::FragmentTooLong,
+            assembly: nothing_begun(),
+        },
+    }
+}
+
+// What is kept between segments sent: the next sequence, and how many bytes of the fragment were sent.
+pub struct Sender {
+    pub next: TransportSequence,
+    pub at: usize,
+}
+
+// What writing a segment answers.
+pub enum Sent {
+    // So many bytes were written, and whether they are the fragment's last segment.
+    Segment { size: usize, last: bool },
+    // 16: a fragment of 0 or over 2,048 bytes.
+    FragmentLength,
+    // 33: under 250 lent bytes.
+    SegmentLent,
+}
+
+pub struct Sending {
+    pub answer: Sent,
+    pub sender: Sender,
+}
+
+// A sender that has sent nothing.
+pub fn nothing_sent() -> Sender
+    ensures { λ r. ⌜ (r .next .0 ≡ 0) × (r .at ≡ 0) ⌝ }
+{
+    Sender {
+        next: TransportSequence(0),
+        at: 0,
+    }
+}
+
+fn bit(b: bool) -> u8
+    ensures { λ r. ⌜ (r ≡ bitOf b) × (r ≤ 1) ⌝ }
+{
+    if b { 1 } else { 0 }
+}
+
+// The transport byte.
+fn header(first: bool, last: bool, q: TransportSequence) -> u8
+    ensures { λ r. ⌜ r ≡ headerOf first last (q .0) ⌝ }
+{
+    128 * bit(last) + 64 * bit(first) + q.0 % 64
+}
+
+// Where the next segment begins: a place at or past the fragment's end begins it anew.
+fn from(at: usize, n: usize) -> usize
+    requires { ⌜ 0 < n ⌝ }
+    ensures { λ r. ⌜ (r ≡ fromOf at n) × (r < n) ⌝ }
+{
+    if at < n { at } else { 0 }
+}
+
+// Where the segment after one that begins here begins: after the last, at 0 again.
+fn after(at: usize, n: usize) -> usize
+    requires { ⌜ at < n ⌝ }
+    ensures { λ r. ⌜ r ≡ endOf at n ⌝ }
+{
+    if n - at <= SEGMENT_DATA_MAX { 0 } else { at + SEGMENT_DATA_MAX }
+}
+
+// Writes the next segment of a fragment that may be sent.
+fn write_segment(p: Sender, fragment: &[u8], out: &mut [u8]) -> Sending
+    requires { ⌜ (250 ≤ length (now out)) × (0 < length (now fragment)) × (length (now fragment) ≤ 2048) ⌝ }
+    ensures { λ r. ⌜
+        (sentOf (r .answer) ≡ writtenOf (nextSegment p (now (fragment .entry))))
+        × (r .sender ≡ nextSender p (now (fragment .entry)))
+        × (now (out .exit) ≡ splice (now (out .entry)) 0 (nextSegment p (now (fragment .entry)))) ⌝ }
+{
+    let n = fragment.len();
+    let at = from(p.at, n);
+    let e = least(at + SEGMENT_DATA_MAX, n);
+    let last = n <= at + SEGMENT_DATA_MAX;
+    let h = header(at == 0, last, p.next);
+    out[0] = h;
+    octets::copy(out, 1, &fragment[at..e]);
+    Sending {
+        answer: Sent::Segment {
+            size: e - at + 1,
+            last: last,
+        },
+        sender: Sender {
+            next: next(p.next),
+            at: after(at, n),
+        },
+    }
+}
+
+// Writes the next segment of the fragment at the front of the lent bytes.
+pub fn send(p: Sender, fragment: &[u8], out: &mut [u8]) -> Sending
+    ensures { λ r. ⌜
+        (sentOf (r .answer) ≡ answerSent (sending (length (now (out .entry))) p (now (fragment .entry))))
+        × (r .sender ≡ senderAfter p (now (fragment .entry)) (sending (length (now (out .entry))) p (now (fragment .entry))))
+        × (now (out .exit) ≡ lentAfterSend (now (out .entry)) (sending (length (now (out .entry))) p (now (fragment .entry)))) ⌝ }
+{
+    if out.len() < SEGMENT_MAX {
+        return Sending {
+            answer: Sent::SegmentLent,
+            sender: p,
+        };
+    }
+    if fragment.len() < 1 {
+        return Sending {
+            answer: Sent::FragmentLength,
+            sender: p,
+        };
+    }
+    if FRAGMENT_MAX < fragment.len() {
+        return Sending {
+            answer: Sent::FragmentLength,
+            sender: p,
+        };
+    }
+    write_segment(p, fragment, out)
+}
