@@ -1,0 +1,35 @@
+-- The inputs as contracts see them: the installed points of each kind, in the order of their numbers.
+-- Assumes nothing.
+use mathlib.Core.Bool.{false}
+use mathlib.Core.List.{List}
+use lib.IntN.{pos}
+use lib.ListN.{take}
+use Rattle.points.specs.declared.Value.the-variants as Vs
+use Rattle.points.specs.declared.WholeGate.the-variants as W
+use Rattle.points.specs.declared.Measure.the-variants as Ms
+use Rattle.points.specs.declared.BinaryPoint.{BinaryPoint}
+use Rattle.points.specs.declared.AnalogPoint.{AnalogPoint}
+use Rattle.points.specs.declared.Points.{Points}
+
+pub record Inputs : Type 0 where
+  pub binaries : List BinaryPoint
+  pub analogs : List AnalogPoint
+
+-- a count past the array has all of it, so every value of the struct has a meaning
+unfoldable pub inputs : Points → Inputs
+inputs p = record { binaries = take (p .«binary_count») (p .binaries); analogs = take (p .«analog_count») (p .analogs) }
+
+-- what a read past the end of an array of points counts as
+abbrev pub noBinary : BinaryPoint
+noBinary = record { class = 0; seen = false; state = false; flags = 0; reported = 0 }
+
+abbrev pub noAnalog : AnalogPoint
+noAnalog =
+    record {
+      class = 0;
+      seen = false;
+      value = Vs.Long (pos 0);
+      flags = 0;
+      reported = 0;
+      measure = Ms.Long (record { gate = W.Never; reported = pos 0; previous = pos 0; sum = 0 });
+    }
