@@ -1,0 +1,95 @@
+//! Faults on purpose. With one of them on, the program is wrong in that way and no other; this
+//! shows that a comparison can fail. `REFERENCE_FAULT=NAME` turns one on.
+
+use std::sync::atomic::{AtomicUsize, Ordering};
+
+macro_rules! faults {
+    ($($case:ident $name:literal $what:literal)*) => {
+        #[derive(Clone, Copy, Debug, PartialEq, Eq)]
+        pub enum Fault { $($case),* }
+
+        /// Each fault, its name and what it does wrong.
+        pub const FAULTS: &[(Fault, &str, &str)] = &[$((Fault::$case, $name, $what)),*];
+    };
+}
+
+faults! {
+    BlockCheckIgnored "block-check-ignored" "a wrong block check is not refused"
+    HeaderCheckIgnored "header-check-ignored" "a wrong header check is not refused"
+    LengthBeforeCheck "length-before-check" "14 is tested before 13"
+    LentTestedLast "lent-tested-last" "frame reading tests 33 after 11 to 15"
+    WriteLimit249 "write-limit-249" "frame writing refuses 250 user bytes"
+    CountWraps "count-wraps" "a line count goes from 65,535 to 0"
+    NotSupportedUncounted "not-supported-uncounted" "a frame answered NOT_SUPPORTED is not counted"
+    FcvIgnored "fcv-ignored" "FCV 1 is taken"
+    RefusalSpoils "refusal-spoils" "the station writes user data before it decides"
+    SequenceMod16 "sequence-mod-16" "transport sequences are compared modulo 16"
+    EmptySegmentForgets "empty-segment-forgets" "21 forgets the unfinished fragment"
+    Assembly2047 "assembly-2047" "an assembled fragment of 2,048 is refused 23"
+    SendFromZero "send-from-zero" "each fragment sent is numbered from 0"
+    RefusedMovesClock "refused-moves-clock" "a reading refused 4 sets the clock"
+    FlagsBeforeFloat "flags-before-float" "4 is tested before 3"
+    FirstReadingRaises "first-reading-raises" "the first reading raises an event"
+    Distance32 "distance-32" "whole distances are taken in signed 32 bits"
+    ClampedGate "clamped-gate" "a 16-bit point's gate sees the clamped value"
+    MinusZeroKept "minus-zero-kept" "gain 1 and offset zero give back minus zero"
+    FusedScale "fused-scale" "product and sum are rounded once together"
+    InfinityShown "infinity-shown" "an infinite value is not replaced"
+    ZerosDiffer "zeros-differ" "plus and minus zero are different for gates"
+    LimitReached "limit-reached" "a distance equal to the limit passes"
+    SumNotCleared "sum-not-cleared" "a report by flags leaves the sum"
+    SumFromReported "sum-from-reported" "the sum adds the distance from the value last reported"
+    FlagsUnreported "flags-unreported" "a change of flags alone is no report"
+    DropAt255 "drop-at-255" "an event raised while 255 are held is dropped"
+    TableOneMore "table-one-more" "a stopped table counts the refused record"
+    RestartKeepsClock "restart-keeps-clock" "a restart keeps the clock"
+    LongFragment "long-fragment" "a fragment of 2,049 bytes is looked at"
+    ConfirmUns31 "confirm-uns-31" "CONFIRM with UNS is 31"
+    FragmentLentLast "fragment-lent-last" "a fragment's 33 is tested after 31"
+    RefusedConfirmEndsWait "refused-confirm-ends-wait" "CONFIRM refused 32 ends the wait"
+    ReleaseAll "release-all" "CONFIRM releases every held event"
+    TwinsReleased "twins-released" "CONFIRM releases events that only look like those carried"
+    WarningClearedByOldConfirm "warning-cleared-by-old-confirm" "a drop since the response does not keep IIN2.3"
+    ConfirmTimePlus1 "confirm-time-plus-1" "CONFIRM is taken one ms late"
+    FaultKeepsWait "fault-keeps-wait" "a faulty READ leaves the earlier wait"
+    ReadRepeats "read-repeats" "an equal READ is a repeat"
+    RepeatPastRead "repeat-past-read" "a READ does not replace the last request"
+    RepeatRebuilt "repeat-rebuilt" "a repeat shows today's indications"
+    RepeatOperates "repeat-operates" "a repeated OPERATE is carried out again"
+    ArmTimeRestarted "arm-time-restarted" "a repeated SELECT restarts the arm time"
+    ArmTimePlus1 "arm-time-plus-1" "OPERATE is taken one ms late"
+    OperateLate2 "operate-late-2" "a late OPERATE gets status 2"
+    LatchKept "latch-kept" "a faulty request leaves the latch armed"
+    Header17As28 "header-17-as-28" "OPERATE with qualifier 28 meets a SELECT with 17"
+    DuplicateIndexKept "duplicate-index-kept" "an index already in the request gets status 0"
+    IndexLowByte "index-low-byte" "only the low byte of a two-byte index is looked at"
+    StatusOrder "status-order" "a missing output is tested before the status byte"
+    RunCountWrong "run-count-wrong" "a run of events under one header counts one too few from 3 on"
+    StaticReported "static-reported" "READ shows the analog value last reported"
+    StaticAlone "static-alone" "each static analog has a header of its own"
+    EventPastFit "event-past-fit" "READ goes on past the first event that does not fit"
+    Fit2047 "fit-2047" "an answer of 2,048 bytes does not fit"
+    UnknownObject22 "unknown-object-22" "an unknown object is IIN2.2"
+    Headers17 "headers-17" "READ takes 17 headers"
+    ClassBitsAllHeld "class-bits-all-held" "class bits count the carried events"
+    ConWithoutEvents "con-without-events" "CON is not set for IIN2.3 alone"
+    RestartBitKept "restart-bit-kept" "WRITE clears restart after answering"
+}
+
+/// 0 for none, else one more than the fault's place.
+static ACTIVE: AtomicUsize = AtomicUsize::new(0);
+
+pub fn on(fault: Fault) -> bool {
+    ACTIVE.load(Ordering::Relaxed) == fault as usize + 1
+}
+
+/// Turns the named fault on; false when there is none of that name.
+pub fn turn_on(name: &str) -> bool {
+    match FAULTS.iter().find(|(_, n, _)| *n == name) {
+        Some((fault, _, _)) => {
+            ACTIVE.store(*fault as usize + 1, Ordering::Relaxed);
+            true
+        }
+        None => false,
+    }
+}
