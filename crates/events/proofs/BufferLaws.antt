@@ -1,0 +1,134 @@
+-- Laws of the buffer's operations, stated on the list of its slots.
+-- Assumes nothing.
+use mathlib.Core.Path.{_≡_, sym, ap, _∙_}
+use mathlib.Core.Bool.{Bool, true, false}
+use mathlib.Core.List.{List, [], _∷_, _++_}
+use Prim.Native.Nat.{ℕ, _+_, _≤_, _<_, min}
+use native.Mathlib.Numerals.{add-one}
+use native.Mathlib.Omega.{arith}
+use borrow.Author.Tests.{lt-ltb}
+use lib.ListN.{length, take, getD, set, length-take, length-set}
+use lib.Seq.{slice, slice-empty, take-suc-set}
+use Rattle.laws.specs.Lists.{some}
+use Rattle.laws.proofs.Loops.{take-slice, put, skip, keep, done}
+use Rattle.laws.proofs.Filling.{clamped}
+use Rattle.laws.proofs.Search.{Searching, searching-found, searching-end}
+use Rattle.events.specs.Queue.{queue, noHeld, newly, edited, pushed}
+use Rattle.events.specs.declared.Event.{Event}
+use Rattle.events.specs.declared.Held.{Held}
+use Rattle.events.specs.declared.Buffer.{Buffer}
+
+module _ (b : Buffer) (e : Event) (long : length (b .held) ≡ 256) where
+  pub pushed-in : b .count < 256 → queue (record { held = set (b .held) (b .count) (newly e); count = b .count + 1; overflow = b .overflow }) ≡ pushed e (queue b)
+  unfolding pushed queue
+  pushed-in h =
+      let n : length (take (b .count) (b .held)) ≡ b .count = length-take (b .count) (b .held) ∙ omega arith in
+      let s : take (b .count + 1) (set (b .held) (b .count) (newly e)) ≡ take (b .count) (b .held) ++ (newly e ∷ []) =
+      rw add-one (take-suc-set (b .held) (b .count) (newly e) (omega arith)) in
+      rw (n, lt-ltb (b .count) 256 h, s)
+
+  pub pushed-out : 256 ≤ b .count → queue (record { held = b .held; count = b .count; overflow = true }) ≡ pushed e (queue b)
+  unfolding pushed queue
+  pushed-out h =
+      let n : length (take (b .count) (b .held)) ≡ 256 = length-take (b .count) (b .held) ∙ omega arith in
+      rw n
+
+-- what a loop over the first n slots knows: `next` is the buffer as it is, `from` as it was; i slots are read and j written
+pub record Going (G H : List Held → List Held) (n : ℕ) (from next : Buffer) (i j : ℕ) : Type 0 where
+  pub read : i ≤ n
+  pub written : j ≤ i
+  pub slots : length (next .held) ≡ 256
+  pub count : next .count ≡ from .count
+  pub overflow : next .overflow ≡ from .overflow
+  pub rest : take j (next .held) ++ H (slice i n (next .held)) ≡ G (take n (from .held))
+
+module _ (G H K : List Held → List Held) (n : ℕ) (from next : Buffer) (i j : ℕ) (short : n ≤ 256) (below : i < n) (g : Going G H n from next i j) where
+  -- a turn that stores v
+  pub stores : (v : Held) → H (getD (next .held) i noHeld ∷ slice (i + 1) n (next .held)) ≡ v ∷ K (slice (i + 1) n (next .held))
+      → Going G K n from (record { held = set (next .held) j v; count = next .count; overflow = next .overflow }) (i + 1) (j + 1)
+  stores v e =
+      record {
+        read = omega arith;
+        written = omega arith;
+        slots = length-set (next .held) j v ∙ g .slots;
+        count = g .count;
+        overflow = g .overflow;
+        rest = put H K n i j (next .held) noHeld below (omega arith) v (g .written) e ∙ g .rest;
+      }
+
+  -- a turn that stores nothing and passes its slot over
+  pub passes : H (getD (next .held) i noHeld ∷ slice (i + 1) n (next .held)) ≡ K (slice (i + 1) n (next .held)) → Going G K n from next (i + 1) j
+  passes e =
+      record {
+        read = omega arith;
+        written = omega arith;
+        slots = g .slots;
+        count = g .count;
+        overflow = g .overflow;
+        rest = skip H K n i j (next .held) noHeld below (omega arith) e ∙ g .rest;
+      }
+
+  -- a turn that leaves its slot as it is
+  pub keeps : i ≡ j → H (getD (next .held) i noHeld ∷ slice (i + 1) n (next .held)) ≡ getD (next .held) i noHeld ∷ K (slice (i + 1) n (next .held))
+      → Going G K n from next (i + 1) (i + 1)
+  keeps same e =
+      record {
+        read = omega arith;
+        written = omega arith;
+        slots = g .slots;
+        count = g .count;
+        overflow = g .overflow;
+        rest =
+            keep H K n i j (next .held) noHeld below (omega arith) e
+            ∙ ap (λ (m : ℕ). take m (next .held) ++ H (slice i n (next .held))) same
+            ∙ g .rest;
+      }
+
+-- where the count is set to the slots written
+pub shortened : (G H : List Held → List Held) (n : ℕ) (from next : Buffer) (i j : ℕ) → length (from .held) ≡ 256 → n ≡ min (from .count) 256
+    → n ≤ i → H [] ≡ [] → Going G H n from next i j
+    → queue (record { held = next .held; count = j; overflow = next .overflow }) ≡ edited G (queue from)
+unfolding queue
+shortened G H n from next i j slots least over none g =
+    λ k.
+    record {
+      held =
+          (sym (done H n i j (next .held) (g .read) over none)
+          ∙ g .rest
+          ∙ ap G (clamped (from .held) 256 (from .count) n slots least)) k;
+      overflow = g .overflow k;
+    }
+
+module _ (G H : List Held → List Held) (n : ℕ) (from next : Buffer) (i : ℕ) (slots : length (from .held) ≡ 256) (least : n ≡ min (from .count) 256) (g : Going G H n from next i i) where
+  -- where the count stays, and the specification leaves what is to come
+  pub halted : H (slice i n (next .held)) ≡ slice i n (next .held) → queue next ≡ edited G (queue from)
+  unfolding queue
+  halted e =
+      let m : n ≡ min (next .count) 256 = omega (arith, g .count) in
+      λ k.
+      record {
+        held =
+            (sym (clamped (next .held) 256 (next .count) n (g .slots) m)
+            ∙ sym (take-slice n i (next .held) (g .read))
+            ∙ ap (λ (r : List Held). take i (next .held) ++ r) (sym e)
+            ∙ g .rest
+            ∙ ap G (clamped (from .held) 256 (from .count) n slots least)) k;
+        overflow = g .overflow k;
+      }
+
+  -- where every slot was written and the count stays
+  pub rewritten : n ≤ i → H [] ≡ [] → queue next ≡ edited G (queue from)
+  rewritten over none =
+      let same : i ≡ n = omega (arith, g .read) in
+      let gone : slice i n (next .held) ≡ [] = ap (λ (m : ℕ). slice m n (next .held)) same ∙ slice-empty n (next .held) in
+      halted (ap H gone ∙ none ∙ sym gone)
+
+-- a search of the held events: found, and not found
+module _ (p : Held → Bool) (b : Buffer) (n i : ℕ) (slots : length (b .held) ≡ 256) (least : n ≡ min (b .count) 256) (s : Searching p (b .held) n i) where
+  pub found : i < n → p (getD (b .held) i noHeld) ≡ true → true ≡ some p (queue b .held)
+  unfolding queue
+  found below h = searching-found p (b .held) n i s noHeld below h ∙ ap (some p) (clamped (b .held) 256 (b .count) n slots least)
+
+  pub not-found : n ≤ i → false ≡ some p (queue b .held)
+  unfolding queue
+  not-found over = searching-end p (b .held) n i s over ∙ ap (some p) (clamped (b .held) 256 (b .count) n slots least)

@@ -1,0 +1,79 @@
+-- The event buffer as its contracts see it: the events held, oldest first, and the overflow indication.
+-- Assumes nothing.
+use Prim.Native.Nat.{ℕ}
+use mathlib.Core.Bool.{Bool, true, false, cond, not, _&&_}
+use mathlib.Core.List.{List, [], _∷_, _++_, map}
+use lib.Dec.{ltb, eqb}
+use lib.ListN.{length, take}
+use Rattle.laws.specs.Lists.{filter, some}
+use Rattle.events.specs.declared.Event.{Event}
+use Rattle.events.specs.declared.Held.{Held}
+use Rattle.events.specs.declared.Shown.the-variants.{State}
+use Rattle.events.specs.declared.Buffer.{Buffer}
+use Rattle.events.specs.declared.Classes.{Classes}
+use Rattle.events.specs.declared.Pack.{Pack}
+use Rattle.events.specs.Placing.{asked, emptyPack, fits, packed}
+
+pub record Queue : Type 0 where
+  pub held : List Held
+  pub overflow : Bool
+
+-- the first `count` slots; a count past the array holds them all, so every value of the struct has a meaning
+unfoldable pub queue : Buffer → Queue
+queue b = record { held = take (b .count) (b .held); overflow = b .overflow }
+
+-- what a read past the end of an array of held events counts as
+abbrev pub noHeld : Held
+noHeld = record { event = record { point = 0; shown = State false; flags = 0; time = 0; class = 0 }; carried = false }
+
+-- an event as it is when it is raised
+abbrev pub newly : Event → Held
+newly e = record { event = e; carried = false }
+
+-- a held event with another mark
+abbrev pub marked : Bool → Held → Held
+marked c h = record { event = h .event; carried = c }
+
+-- the same buffer, its held events changed as a list
+abbrev pub edited : (List Held → List Held) → Queue → Queue
+edited G q = record { held = G (q .held); overflow = q .overflow }
+
+-- "An event raised while 256 are held is dropped; otherwise it is held."
+unfoldable pub pushed : Event → Queue → Queue
+pushed e q =
+    cond (ltb (length (q .held)) 256)
+    (record { held = q .held ++ (newly e ∷ []); overflow = q .overflow })
+    (record { held = q .held; overflow = true })
+
+-- a new request: no event is carried any more
+abbrev pub cleared : Queue → Queue
+cleared = edited (map (marked false))
+
+-- "Events come first, oldest first, each once, up to the first that would not fit": of unmarked events, those carried are marked
+unfoldable pub carry : Classes → Pack → List Held → List Held
+carry m k [] = []
+carry m k (h ∷ hs) =
+    cond (asked m (h .event .class))
+    (cond (fits k (h .event)) (marked true h ∷ carry m (packed k (h .event)) hs) (h ∷ hs))
+    (h ∷ carry m k hs)
+
+-- a response with so many bytes left for events
+abbrev pub selected : Classes → ℕ → Queue → Queue
+selected m room q = edited (carry m (emptyPack room)) (cleared q)
+
+abbrev pub isCarried : Held → Bool
+isCarried h = h .carried
+
+abbrev pub waits : Held → Bool
+waits h = not (h .carried)
+
+-- "releases exactly the events carried"
+abbrev pub released : Queue → Queue
+released = edited (filter waits)
+
+-- "events of that class held and not in this response"
+abbrev pub leftOf : ℕ → Held → Bool
+leftOf c h = waits h && eqb (h .event .class) c
+
+abbrev pub leftBehind : List Held → Classes
+leftBehind hs = record { one = some (leftOf 1) hs; two = some (leftOf 2) hs; three = some (leftOf 3) hs }

@@ -1,0 +1,5 @@
+pub mod RunLaws
+pub mod WriterLaws
+pub mod Twos
+pub mod Nan
+pub mod ValueLaws

@@ -1,0 +1,2 @@
+pub mod ResponseLaws
+pub mod Examples

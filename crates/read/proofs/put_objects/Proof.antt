@@ -1,0 +1,31 @@
+-- `read::put_objects` meets its contract.
+-- Assumes nothing.
+use native.Mathlib.Omega.{arith}
+use lib.ListN.{take, length-append}
+use Rattle.points.specs.Inputs.{inputs}
+use Rattle.events.specs.Queue.{queue}
+use Rattle.event_objects.specs.Events.{carriedBytes}
+use Rattle.static_objects.specs.Static.{staticBytes}
+use Rattle.read.proofs.ResponseLaws.{two-put}
+use borrow.Author.Needs.{needs}
+use Rattle.read.proofs.put_objects.Statement.{statement}
+use Rattle.read.proofs.put_objects.Tie as tie
+
+put-events-requires : tie.Need-put-events-requires
+put-events-requires c κs = search needs
+
+put-static-requires : tie.Need-put-static-requires
+put-static-requires c κs = search needs
+
+same-length : tie.Need-same-length
+same-length c = search needs
+
+returns : tie.Need-returns
+returns c =
+    let a = c .before .before .before .before .before .before .before .before .before .args in (
+      omega (arith, length-append (carriedBytes (queue (a .b) .held)) (staticBytes (inputs (a .p)) (take (a .plan .count) (a .plan .headers))), c .before .before .put-static .ensures .0, c .before .before .before .before .before .before .put-events .ensures .0),
+      two-put _ _ _ _ _ _ (c .before .before .before .before .before .before .put-events .ensures .0) (c .before .before .before .before .before .before .put-events .ensures .1) (c .before .before .put-static .ensures .1),
+    )
+
+pub put-objects-spec : {M : Type 1} → statement M
+put-objects-spec = tie.close (tie.spec put-events-requires put-static-requires same-length returns)

@@ -1,0 +1,5 @@
+pub mod RepeatLaws
+pub mod ReplyLaws
+pub mod StepLaws
+pub mod Controls
+pub mod Examples

@@ -1,0 +1,90 @@
+-- Laws of an answer: the longest echo, the function that is never answered, and header and echo together.
+-- Assumes nothing.
+use mathlib.Core.Path.{_≡_, refl, sym, ap, _∙_}
+use mathlib.Core.Bool.{Bool, true, false, cond}
+use mathlib.Core.List.{List, [], _∷_, _++_}
+use Prim.Native.Nat.{ℕ, zero, suc, _+_, _≤_}
+use native.Mathlib.Omega.{arith}
+use lib.ListN.{length, take, drop, replicate, length-append, length-replicate}
+use Rattle.octets.specs.Bytes.{splice}
+use Rattle.octets.proofs.Splice.{splice-nil, stored-splice}
+use Rattle.application.specs.Response.{responseOf}
+use Rattle.application.specs.declared.Fault.{Fault}
+use Rattle.application.specs.declared.Indications.{Indications}
+use Rattle.application.proofs.AnswerLaws.{answer-whole}
+use Rattle.control.specs.declared.Crob.{Crob}
+use Rattle.control.specs.declared.Form.{Form}
+use Rattle.control.specs.declared.Form.the-variants.{Wrong, Objects}
+use Rattle.control.specs.Objects.{echoMax, answerMax, formed, crobs}
+use Rattle.control.specs.Status.{statuses, echoOf}
+use Rattle.select.specs.declared.ControlFunction.{ControlFunction}
+use Rattle.select.specs.Select.{Selection, isUnanswered, isOperate, statusesBy, operateStatus, byForm, effectOf}
+use Rattle.control.proofs.FormLaws.{formed-fits, echo-length}
+
+length-crobs : (w n : ℕ) (b : List ℕ) → length (crobs w n b) ≡ n
+unfolding crobs
+length-crobs w zero b = refl
+length-crobs w (suc n) b = ap suc (length-crobs w n (drop (w + 11) b))
+
+length-statuses : (outputs : ℕ) (e : List ℕ) (cs : List Crob) → length (statuses outputs e cs) ≡ length cs
+unfolding statuses
+length-statuses outputs e [] = refl
+length-statuses outputs e (c ∷ cs) = ap suc (length-statuses outputs (c .index ∷ e) cs)
+
+length-by : (f : ControlFunction) (outputs s : ℕ) (cs : List Crob) → length (statusesBy f outputs s cs) ≡ length cs
+length-by f outputs s cs = go (isOperate f) where
+  go : (b : Bool) → length (cond b (replicate (length cs) s) (statuses outputs [] cs)) ≡ length cs
+  go true = length-replicate (length cs) s
+  go false = length-statuses outputs [] cs
+
+module _ (outputs arm : ℕ) (l : Selection) (f : ControlFunction) (sequence time : ℕ) (o : List ℕ) where
+  pub echo-most : length (effectOf outputs arm l f sequence time o .echo) ≤ echoMax
+  unfolding effectOf
+  echo-most = by (formed o) refl where
+    two : (b : Bool) (e : List ℕ) → length e ≤ echoMax → length (cond b [] e) ≤ echoMax
+    two true e h = omega arith
+    two false e h = h
+
+    by : (x : Form) → formed o ≡ x → length (byForm x outputs arm l f sequence time o .echo) ≤ echoMax
+    by (Wrong y) e = omega arith
+    by (Objects w n) e =
+        let fit = formed-fits o w n e in
+        let ss : List ℕ = statusesBy f outputs (operateStatus arm l sequence time o) (crobs w n (drop (3 + w) o)) in
+        let k = length-by f outputs (operateStatus arm l sequence time o) (crobs w n (drop (3 + w) o)) ∙ length-crobs w n (drop (3 + w) o) in
+        let m : length (echoOf w ss o) ≡ length o = echo-length w n ss o k (fit .size) in
+        two (isUnanswered f) (echoOf w ss o) (omega arith)
+
+  pub unanswered-echo : isUnanswered f ≡ true → effectOf outputs arm l f sequence time o .echo ≡ []
+  unfolding effectOf
+  unanswered-echo u = by (formed o) where
+    by : (x : Form) → byForm x outputs arm l f sequence time o .echo ≡ []
+    by (Wrong y) = refl
+    by (Objects w n) = rw u
+
+length-response : (sequence : ℕ) (i : Indications) (x : Fault) → length (responseOf sequence false i x) ≡ 4
+unfolding responseOf
+length-response sequence i x = refl
+
+pub answer-most : (u : Bool) (n m : ℕ) → m ≡ cond u 0 (4 + n) → n ≤ echoMax → m ≤ answerMax
+answer-most true n m e h = omega arith
+answer-most false n m e h = omega arith
+
+module _ (u : Bool) (sequence : ℕ) (i : Indications) (x : Fault) (echo : List ℕ) (none : u ≡ true → echo ≡ []) where
+  pub answer-length : (n m : ℕ) → n ≡ length echo → m ≡ cond u 0 (4 + n) → m ≡ length (cond u [] (responseOf sequence false i x ++ echo))
+  answer-length n m e k = k ∙ go u where
+    go : (b : Bool) → cond b 0 (4 + n) ≡ length (cond b [] (responseOf sequence false i x ++ echo))
+    go true = refl
+    go false =
+        let h : length (responseOf sequence false i x) ≡ 4 = length-response sequence i x in
+        simp length-append (omega arith)
+
+  pub answer-bytes : (d d₁ d₂ : List ℕ) → d₁ ≡ splice d 4 echo → d₂ ≡ cond u d₁ (splice d₁ 0 (responseOf sequence false i x))
+      → d₂ ≡ splice d 0 (cond u [] (responseOf sequence false i x ++ echo))
+  answer-bytes d d₁ d₂ e k = k ∙ go u none where
+    go : (b : Bool) → (b ≡ true → echo ≡ []) → cond b d₁ (splice d₁ 0 (responseOf sequence false i x)) ≡ splice d 0 (cond b [] (responseOf sequence false i x ++ echo))
+    go true z = e ∙ ap (splice d 4) (z refl) ∙ splice-nil d 4 ∙ sym (splice-nil d 0)
+    go false z = ap (λ (y : List ℕ). splice y 0 (responseOf sequence false i x)) e ∙ answer-whole d (responseOf sequence false i x) echo (length-response sequence i x)
+
+-- the answer is the first bytes
+pub answer-taken : (d d₂ a : List ℕ) (m : ℕ) → d₂ ≡ splice d 0 a → m ≡ length a → m ≤ length d → take m d₂ ≡ a
+answer-taken d d₂ a m e k h = ap (λ (y : List ℕ). take m y) e ∙ ap (λ (j : ℕ). take j (splice d 0 a)) k ∙ stored-splice d 0 a (omega arith)

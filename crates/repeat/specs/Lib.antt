@@ -1,0 +1,4 @@
+pub mod Repeat
+pub mod Reply
+pub mod Requests
+pub mod Operates

@@ -1,0 +1,114 @@
+-- `request::headers` meets its contract. The invariant: the headers read, before those of the bytes to come, are all.
+-- Assumes nothing.
+use mathlib.Core.Path.{refl, sym, _∙_}
+use Prim.Native.Nat.{_-_}
+use native.Mathlib.Omega.{arith}
+use Rattle.request.specs.Plans.{plannedOf}
+use Rattle.request.proofs.ParseLaws.{Reading, begun, over, unknown, bad, asked, all, asked-small}
+use borrow.Author.Needs.{needs}
+use Rattle.request.proofs.headers.Statement.{statement}
+use Rattle.request.proofs.headers.Tie as tie
+
+abbrev Inv-loop : tie.InvT-loop
+Inv-loop s binaries analogs list₀ n₀ at₀ list n at = Reading binaries analogs s list n at
+
+abbrev μ-loop : tie.MeasureT-loop
+μ-loop s binaries analogs list₀ n₀ at₀ list n at = 16 - n
+
+points-from-requires : tie.Need-points-from-requires Inv-loop μ-loop
+points-from-requires c κs = search needs
+
+loop-holds : tie.Need-loop-holds Inv-loop μ-loop
+loop-holds c = begun _ _ _ _ refl
+
+none-requires : tie.Need-none-requires Inv-loop μ-loop
+none-requires c κs = search needs
+
+returns : tie.Need-returns Inv-loop μ-loop
+returns c = c .none .ensures ∙ over _ _ _ _ _ _ (c .before .before .before .loop .inv) (c .before .if1 .taken) (c .before .before .loop-test .taken)
+
+sub-front : tie.Need-sub-front Inv-loop μ-loop
+sub-front c = search needs
+
+part-front-start : tie.Need-part-front-start Inv-loop μ-loop
+part-front-start c = search needs
+
+part-front-end : tie.Need-part-front-end Inv-loop μ-loop
+part-front-end c = search needs
+
+front-requires : tie.Need-front-requires Inv-loop μ-loop
+front-requires c κs = search needs
+
+enum-known-step : tie.Need-enum-known-step Inv-loop μ-loop
+enum-known-step c = search needs
+
+mul-list : tie.Need-mul-list Inv-loop μ-loop
+mul-list c = search needs
+
+array-set-from-list : tie.Need-array-set-from-list Inv-loop μ-loop
+array-set-from-list c = search needs
+
+add-n : tie.Need-add-n Inv-loop μ-loop
+add-n c = search needs
+
+add-at : tie.Need-add-at Inv-loop μ-loop
+add-at c =
+    let h = asked-small _ _ _ _ _ (sym (c .before .before .before .front .ensures) ∙ c .before .step .given .1) in
+    omega (arith, h)
+
+loop-less : tie.Need-loop-less Inv-loop μ-loop
+loop-less c = search needs
+
+loop-again : tie.Need-loop-again Inv-loop μ-loop
+loop-again c = asked _ _ _ _ _ _ (c .before .before .before .before .before .before .before .loop .inv) (c .before .before .before .before .before .if1 .left) (c .before .before .before .before .before .before .loop-test .taken) _ _ (sym (c .before .before .before .front .ensures) ∙ c .before .step .given .1)
+
+enum-told : tie.Need-enum-told Inv-loop μ-loop
+enum-told c = search needs
+
+none-requires-2 : tie.Need-none-requires-2 Inv-loop μ-loop
+none-requires-2 c κs = search needs
+
+returns-2 : tie.Need-returns-2 Inv-loop μ-loop
+returns-2 c = c .none2 .ensures ∙ unknown _ _ _ _ _ _ (c .before .before .before .before .before .before .before .loop .inv) (c .before .before .before .before .before .if1 .left) (c .before .before .before .before .before .before .loop-test .taken) (sym (c .before .before .before .front .ensures) ∙ c .before .enum-told .given .1)
+
+enum-told-2 : tie.Need-enum-told-2 Inv-loop μ-loop
+enum-told-2 c = search needs
+
+none-requires-3 : tie.Need-none-requires-3 Inv-loop μ-loop
+none-requires-3 c κs = search needs
+
+returns-3 : tie.Need-returns-3 Inv-loop μ-loop
+returns-3 c = c .none3 .ensures ∙ bad _ _ _ _ _ _ (c .before .before .before .before .before .before .before .loop .inv) (c .before .before .before .before .before .if1 .left) (c .before .before .before .before .before .before .loop-test .taken) (sym (c .before .before .before .front .ensures) ∙ c .before .enum-told2 .given .1)
+
+returns-4 : tie.Need-returns-4 Inv-loop μ-loop
+unfolding plannedOf
+returns-4 c = all _ _ _ _ _ _ (c .before .loop .inv) (c .loop-test .left)
+
+pub headers-spec : {M : Type 1} → statement M
+headers-spec =
+    tie.close
+    (tie.spec
+    Inv-loop
+    μ-loop
+    points-from-requires
+    loop-holds
+    none-requires
+    returns
+    sub-front
+    part-front-start
+    part-front-end
+    front-requires
+    enum-known-step
+    mul-list
+    array-set-from-list
+    add-n
+    add-at
+    loop-less
+    loop-again
+    enum-told
+    none-requires-2
+    returns-2
+    enum-told-2
+    none-requires-3
+    returns-3
+    returns-4)

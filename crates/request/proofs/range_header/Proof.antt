@@ -1,0 +1,29 @@
+-- `request::range_header` meets its contract.
+-- Assumes nothing.
+use borrow.Author.Tests.{lt-ltb, le-ltb}
+use Rattle.request.specs.Headers.{rangeHeader}
+use borrow.Author.Needs.{needs}
+use Rattle.request.proofs.range_header.Statement.{statement}
+use Rattle.request.proofs.range_header.Tie as tie
+
+returns : tie.Need-returns
+unfolding rangeHeader
+returns c = rw (lt-ltb _ _ (c .if1 .taken))
+
+add-points-from : tie.Need-add-points-from
+add-points-from c = search needs
+
+points-from-requires : tie.Need-points-from-requires
+points-from-requires c κs = search needs
+
+returns-2 : tie.Need-returns-2
+unfolding rangeHeader
+returns-2 c = rw (le-ltb _ _ (c .before .before .if1 .left), lt-ltb _ _ (c .before .if2 .taken), c .points-from .ensures)
+
+returns-3 : tie.Need-returns-3
+unfolding rangeHeader
+returns-3 c = rw (le-ltb _ _ (c .before .if1 .left), le-ltb _ _ (c .if2 .left))
+
+pub range-header-spec : {M : Type 1} → statement M
+range-header-spec =
+    tie.close (tie.spec returns add-points-from points-from-requires returns-2 returns-3)

@@ -1,0 +1,75 @@
+-- One object header of a READ: what it asks for, or its fault.
+-- Assumes nothing.
+use Prim.Native.Nat.{ℕ, _+_, _-_}
+use mathlib.Core.Bool.{Bool, true, false, cond}
+use mathlib.Core.List.{List}
+use lib.Dec.{ltb, eqb}
+use lib.ListN.{length, getD}
+use Rattle.octets.specs.Bytes.{valueAt}
+use Rattle.request.specs.declared.Header.{Header}
+use Rattle.request.specs.declared.Step.{Step}
+use Rattle.request.specs.declared.Step.the-variants.{Asked, ObjectUnknown, BadParameter}
+use Rattle.request.specs.declared.Object.{Object}
+use Rattle.request.specs.declared.Object.the-variants.{Class, Binary, Analog, Unknown}
+
+-- ---- what a header asks for: events of a class 1 to 3, and so many binaries and analogs from a first one on
+
+abbrev pub eventsOf : ℕ → Header
+eventsOf c = record { class = c; binary = 0; binaries = 0; analog = 0; analogs = 0 }
+
+abbrev pub binariesFrom : ℕ → ℕ → Header
+binariesFrom start n = record { class = 0; binary = start; binaries = n; analog = 0; analogs = 0 }
+
+abbrev pub analogsFrom : ℕ → ℕ → Header
+analogsFrom start n = record { class = 0; binary = 0; binaries = 0; analog = start; analogs = n }
+
+-- points of one of the two kinds, by a first one and how many
+abbrev pub pointsFrom : Bool → ℕ → ℕ → Header
+pointsFrom true start n = analogsFrom start n
+pointsFrom false start n = binariesFrom start n
+
+-- "class 0 gives binaries, then analogs": all of them
+abbrev pub everyPoint : ℕ → ℕ → Header
+everyPoint nb na = record { class = 0; binary = 0; binaries = nb; analog = 0; analogs = na }
+
+-- ---- "60 var 1 to 4 with qualifier 06; 1 var 0 or 2 and 30 var 0 with 06, 00, 01"
+
+-- the object of a group and a variation; 60 var 1 is class 0, var 2 to 4 are the classes 1 to 3
+unfoldable pub objectOf : ℕ → ℕ → Object
+objectOf g v =
+    cond (eqb g 60) (cond (ltb v 1) Unknown (cond (ltb 4 v) Unknown (Class (v - 1))))
+    (cond (eqb g 1) (cond (eqb v 0) Binary (cond (eqb v 2) Binary Unknown))
+    (cond (eqb g 30) (cond (eqb v 0) Analog Unknown)
+    Unknown))
+
+-- a class, where there are nb binaries and na analogs: qualifier 06
+unfoldable pub classHeader : ℕ → ℕ → ℕ → List ℕ → Step
+classHeader nb na c s =
+    cond (eqb (getD s 2 0) 6) (Asked (cond (eqb c 0) (everyPoint nb na) (eventsOf c)) 3) BadParameter
+
+-- "start above stop or stop no such point 2.2", of the n points there are
+unfoldable pub rangeHeader : Bool → ℕ → ℕ → ℕ → ℕ → Step
+rangeHeader a n start stop size =
+    cond (ltb stop start) BadParameter
+    (cond (ltb stop n) (Asked (pointsFrom a start (stop - start + 1)) size) BadParameter)
+
+-- points: qualifier 06, all; 00, a start and a stop of one byte; 01, of two bytes; "range cut short .. 2.2"
+unfoldable pub pointHeader : Bool → ℕ → List ℕ → Step
+pointHeader a n s =
+    cond (eqb (getD s 2 0) 6) (Asked (pointsFrom a 0 n) 3)
+    (cond (eqb (getD s 2 0) 0)
+    (cond (ltb (length s) 5) BadParameter (rangeHeader a n (getD s 3 0) (getD s 4 0) 5))
+    (cond (eqb (getD s 2 0) 1)
+    (cond (ltb (length s) 7) BadParameter (rangeHeader a n (valueAt 2 3 s) (valueAt 2 5 s) 7))
+    BadParameter))
+
+abbrev pub byObject : Object → ℕ → ℕ → List ℕ → Step
+byObject (Class c) nb na s = classHeader nb na c s
+byObject Binary nb na s = pointHeader false nb s
+byObject Analog nb na s = pointHeader true na s
+byObject Unknown nb na s = ObjectUnknown
+
+-- the header at the front of the bytes: "under 3 bytes 2.2, object 2.1, qualifier 2.2, range .. 2.2"
+unfoldable pub headerOf : ℕ → ℕ → List ℕ → Step
+headerOf nb na s =
+    cond (ltb (length s) 3) BadParameter (byObject (objectOf (getD s 0 0) (getD s 1 0)) nb na s)

@@ -1,0 +1,255 @@
+// A READ's object headers: what they ask for, or the first fault.
+ghost use mathlib.Core.Path.{_≡_};
+ghost use Prim.Native.Nat.{min, _≤_};
+ghost use lib.ListN.{length, take};
+ghost use mathlib.Core.List.{[]};
+ghost use Rattle.request.specs.Headers.{objectOf, pointsFrom, rangeHeader, pointHeader, classHeader, headerOf};
+ghost use Rattle.request.specs.Parse.{headersMax, parse, asksFor};
+ghost use Rattle.request.specs.Plans.{planned, plannedOf};
+
+// A READ has at most so many object headers.
+pub const HEADERS_MAX: usize = 16;
+
+// What a header asks for: events of a class 1 to 3 (0: none), and so many binaries and analogs from a first one on.
+pub struct Header {
+    pub class: u8,
+    pub binary: u16,
+    pub binaries: u16,
+    pub analog: u16,
+    pub analogs: u16,
+}
+
+// What a group and a variation name: 60 var 1 to 4, 1 var 0 or 2, 30 var 0, or nothing that a READ may ask for.
+pub enum Object {
+    Class(u8),
+    Binary,
+    Analog,
+    Unknown,
+}
+
+// What stands at the front of the bytes: a header and its size, or its fault.
+pub enum Step {
+    Asked(Header, usize),
+    ObjectUnknown,
+    BadParameter,
+}
+
+// What all headers come to.
+pub enum Verdict {
+    Faultless,
+    ObjectUnknown,
+    BadParameter,
+}
+
+// The headers are the first `count` of the array, where the verdict is Faultless.
+pub struct Plan {
+    pub verdict: Verdict,
+    pub headers: [Header; HEADERS_MAX],
+    pub count: usize,
+}
+
+fn object_of(group: u8, variation: u8) -> Object
+    ensures { λ r. ⌜ r ≡ objectOf group variation ⌝ }
+{
+    if group == 60 {
+        if variation < 1 {
+            return Object::Unknown;
+        }
+        if 4 < variation {
+            return Object::Unknown;
+        }
+        return Object::Class(variation - 1);
+    }
+    if group == 1 {
+        if variation == 0 {
+            return Object::Binary;
+        }
+        if variation == 2 {
+            return Object::Binary;
+        }
+        return Object::Unknown;
+    }
+    if group == 30 {
+        if variation == 0 {
+            return Object::Analog;
+        }
+        return Object::Unknown;
+    }
+    Object::Unknown
+}
+
+fn points_from(analog: bool, start: u16, n: u16) -> Header
+    ensures { λ r. ⌜ r ≡ pointsFrom analog start n ⌝ }
+{
+    if analog {
+        Header {
+            class: 0,
+            binary: 0,
+            binaries: 0,
+            analog: start,
+            analogs: n,
+        }
+    } else {
+        Header {
+            class: 0,
+            binary: start,
+            binaries: n,
+            analog: 0,
+            analogs: 0,
+        }
+    }
+}
+
+fn class_header(s: &[u8], binaries: u16, analogs: u16, class: u8) -> Step
+    requires { ⌜ 3 ≤ length (now s) ⌝ }
+    ensures { λ r. ⌜ r ≡ classHeader binaries analogs class (now (s .entry)) ⌝ }
+{
+    if s[2] != 6 {
+        return Step::BadParameter;
+    }
+    if class == 0 {
+        let h = Header {
+            class: 0,
+            binary: 0,
+            binaries: binaries,
+            analog: 0,
+            analogs: analogs,
+        };
+        return Step::Asked(h, 3);
+    }
+    let h = Header {
+        class: class,
+        binary: 0,
+        binaries: 0,
+        analog: 0,
+        analogs: 0,
+    };
+    Step::Asked(h, 3)
+}
+
+fn range_header(analog: bool, n: u16, start: u16, stop: u16, size: usize) -> Step
+    ensures { λ r. ⌜ r ≡ rangeHeader analog n start stop size ⌝ }
+{
+    if stop < start {
+        return Step::BadParameter;
+    }
+    if stop < n {
+        let h = points_from(analog, start, stop - start + 1);
+        return Step::Asked(h, size);
+    }
+    Step::BadParameter
+}
+
+fn point_header(s: &[u8], analog: bool, n: u16) -> Step
+    requires { ⌜ 3 ≤ length (now s) ⌝ }
+    ensures { λ r. ⌜ r ≡ pointHeader analog n (now (s .entry)) ⌝ }
+{
+    let q = s[2];
+    if q == 6 {
+        let h = points_from(analog, 0, n);
+        return Step::Asked(h, 3);
+    }
+    if q == 0 {
+        if s.len() < 5 {
+            return Step::BadParameter;
+        }
+        return range_header(analog, n, s[3] as u16, s[4] as u16, 5);
+    }
+    if q == 1 {
+        if s.len() < 7 {
+            return Step::BadParameter;
+        }
+        return range_header(analog, n, octets::take2(s, 3), octets::take2(s, 5), 7);
+    }
+    Step::BadParameter
+}
+
+// The header at the front of the bytes.
+fn front(s: &[u8], binaries: u16, analogs: u16) -> Step
+    ensures { λ r. ⌜ r ≡ headerOf binaries analogs (now (s .entry)) ⌝ }
+{
+    if s.len() < 3 {
+        return Step::BadParameter;
+    }
+    let o = object_of(s[0], s[1]);
+    match o {
+        Object::Class(c) => class_header(s, binaries, analogs, c),
+        Object::Binary => point_header(s, false, binaries),
+        Object::Analog => point_header(s, true, analogs),
+        Object::Unknown => Step::ObjectUnknown,
+    }
+}
+
+// A plan with no headers.
+fn none(verdict: Verdict) -> Plan
+    ensures { λ r. ⌜ plannedOf r ≡ planned verdict [] ⌝ }
+{
+    let blank = points_from(false, 0, 0);
+    let list = [blank; HEADERS_MAX];
+    Plan {
+        verdict: verdict,
+        headers: list,
+        count: 0,
+    }
+}
+
+// The headers of a READ, of the bytes after control and function, where there are so many binaries and analogs.
+pub fn headers(s: &[u8], binaries: u16, analogs: u16) -> Plan
+    ensures { λ r. ⌜ plannedOf r ≡ parse binaries analogs (now (s .entry)) ⌝ }
+{
+    let blank = points_from(false, 0, 0);
+    let mut list = [blank; HEADERS_MAX];
+    let mut n: usize = 0;
+    let mut at: usize = 0;
+    while at < s.len() {
+        if n == HEADERS_MAX {
+            return none(Verdict::BadParameter);
+        }
+        let step = front(&s[at..], binaries, analogs);
+        match step {
+            Step::Asked(h, size) => {
+                list[n] = h;
+                n += 1;
+                at += size;
+            }
+            Step::ObjectUnknown => {
+                return none(Verdict::ObjectUnknown);
+            }
+            Step::BadParameter => {
+                return none(Verdict::BadParameter);
+            }
+        }
+    }
+    Plan {
+        verdict: Verdict::Faultless,
+        headers: list,
+        count: n,
+    }
+}
+
+// How many headers the plan has.
+fn filled(count: usize) -> usize
+    ensures { λ r. ⌜ r ≡ min count headersMax ⌝ }
+{
+    if count < HEADERS_MAX {
+        count
+    } else {
+        HEADERS_MAX
+    }
+}
+
+// One of the headers asks for events of the class, 1 to 3.
+pub fn asks(p: Plan, class: u8) -> bool
+    ensures { λ r. ⌜ r ≡ asksFor class (take (p .count) (p .headers)) ⌝ }
+{
+    let n = filled(p.count);
+    let mut i: usize = 0;
+    while i < n {
+        let h = p.headers[i];
+        if h.class == class {
+            return true;
+        }
+        i += 1;
+    }
+    false
+}

@@ -1,0 +1,126 @@
+-- `select::control` meets its contract: by the form of the object bytes.
+-- Assumes nothing.
+use mathlib.Core.Path.{refl, sym, ap, ap₂, _∙_}
+use mathlib.Core.List.{List}
+use Prim.Native.Nat.{ℕ}
+use native.Mathlib.Omega.{arith}
+use borrow.Author.Needs.{needs}
+use lib.ListN.{length, take}
+use Rattle.octets.specs.Bytes.{splice}
+use Rattle.octets.proofs.Splice.{splice-nil}
+use Rattle.control.specs.declared.Form.{Form}
+use Rattle.control.specs.Objects.{crobsBy, countBy}
+use Rattle.control.specs.Status.{echoOf, echoWith}
+use Rattle.control.proofs.FormLaws.{formed-fits}
+use Rattle.select.specs.Select.{latchOf, statusesBy, echoBy, carriedBy, latchBy}
+use Rattle.select.proofs.Laws.{effect-wrong, effect-objects}
+use Rattle.select.proofs.control.Statement.{statement}
+use Rattle.select.proofs.control.Tie as tie
+
+header-requires : tie.Need-header-requires
+header-requires c κs = search needs
+
+enum-known-fault : tie.Need-enum-known-fault
+enum-known-fault c = search needs
+
+none-requires : tie.Need-none-requires
+none-requires c κs = search needs
+
+empty-requires : tie.Need-empty-requires
+empty-requires c κs = search needs
+
+enum-known-count : tie.Need-enum-known-count
+enum-known-count c = search needs
+
+objects-requires : tie.Need-objects-requires
+objects-requires c κs = search needs
+
+operate-requires : tie.Need-operate-requires
+operate-requires c κs = search needs
+
+statuses-requires : tie.Need-statuses-requires
+statuses-requires c κs =
+    let wd = c .before .before .before in
+    let hd = wd .before .before in
+    let s = hd .before .before .before in
+    let a = s .args in
+    let form = sym (hd .header .ensures) ∙ wd .count .given .1 in
+    let fit = formed-fits (a .o .now) (wd .count .given .0 .0) (wd .count .given .0 .1 .0) form in
+    let count = c .before .objects .ensures .1 ∙ ap countBy form in
+    omega (arith, count, fit .few)
+
+answer-requires : tie.Need-answer-requires
+answer-requires c κs = c .before .before .before .before .before .before .before .before .before .before .pre
+
+carry-requires : tie.Need-carry-requires
+carry-requires c κs = search needs
+
+latch-after-requires : tie.Need-latch-after-requires
+latch-after-requires c κs =
+    let wd = c .before .before .before .before .before .before .before .before .before in
+    let hd = wd .before .before in
+    let s = hd .before .before .before in
+    let a = s .args in
+    let form = sym (hd .header .ensures) ∙ wd .count .given .1 in
+    let fit = formed-fits (a .o .now) (wd .count .given .0 .0) (wd .count .given .0 .1 .0) form in
+    fit .short
+
+returns : tie.Need-returns
+returns c =
+    let fl = c .before .before .before in
+    let hd = fl .before .before in
+    let a = hd .before .before .before .args in
+    rw
+    (effect-wrong (a .outputs) (a .arm-time) (latchOf (a .latch)) (a .f) (a .sequence .0) (a .time) (a .o .now) (fl .fault .given .0 .0)
+    (sym (hd .header .ensures) ∙ fl .fault .given .1))
+    (record { fault = refl; len = refl; lent = sym (splice-nil (a .out .now) 4); carried = c .before .none .ensures .0; latch = c .empty .ensures })
+
+same-length : tie.Need-same-length
+same-length c = search needs
+
+returns-2 : tie.Need-returns-2
+returns-2 c =
+    let an = c .before .before .before .before .answer in
+    let st = c .before .before .before .before .before .before .statuses in
+    let op = c .before .before .before .before .before .before .before .operate in
+    let ob = c .before .before .before .before .before .before .before .before .objects in
+    let wd = c .before .before .before .before .before .before .before .before .before .before in
+    let hd = wd .before .before in
+    let a = hd .before .before .before .args in
+    let w = wd .count .given .0 .0 in
+    let n = wd .count .given .0 .1 .0 in
+    let form = sym (hd .header .ensures) ∙ wd .count .given .1 in
+    let cs = ob .ensures .0 ∙ ap (λ (x : Form). crobsBy x (a .o .now)) form in
+    let by = st .ensures .0 ∙ ap₂ (statusesBy (a .f) (a .outputs)) (op .ensures) cs in
+    let ss = ap (λ (k : ℕ). take k (st .result)) (sym (ob .ensures .1 ∙ ap countBy form)) ∙ by in
+    rw (effect-objects (a .outputs) (a .arm-time) (latchOf (a .latch)) (a .f) (a .sequence .0) (a .time) (a .o .now) w n form)
+    (record {
+      fault = refl;
+      len =
+          an .ensures .1 ∙ ap (λ (x : Form). length (echoBy (a .f) (echoWith x (st .result) (a .o .now)))) form
+          ∙ ap (λ (x : List ℕ). length (echoBy (a .f) (echoOf w x (a .o .now)))) ss;
+      lent =
+          an .ensures .0 ∙ ap (λ (x : Form). splice (a .out .now) 4 (echoBy (a .f) (echoWith x (st .result) (a .o .now)))) form
+          ∙ ap (λ (x : List ℕ). splice (a .out .now) 4 (echoBy (a .f) (echoOf w x (a .o .now)))) ss;
+      carried = c .before .carry .ensures ∙ ap₂ (carriedBy (a .f)) cs by;
+      latch = c .latch-after .ensures ∙ ap (λ (x : List ℕ). latchBy (a .f) x (a .sequence .0) (a .time) (a .o .now)) ss;
+    })
+
+pub control-spec : {M : Type 1} → statement M
+control-spec =
+    tie.close
+    (tie.spec
+    header-requires
+    enum-known-fault
+    none-requires
+    empty-requires
+    enum-known-count
+    objects-requires
+    operate-requires
+    statuses-requires
+    answer-requires
+    carry-requires
+    latch-after-requires
+    returns
+    same-length
+    returns-2)

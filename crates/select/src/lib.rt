@@ -1,0 +1,256 @@
+// The select latch, and what a control request does to it, to the answer and to the outputs.
+ghost use mathlib.Core.Path.{_≡_};
+ghost use Prim.Native.Nat.{_-_, _≤_, _<_, min};
+ghost use lib.ListN.{length, take};
+ghost use Rattle.octets.specs.Bytes.{splice};
+ghost use Rattle.control.specs.Objects.{objectsMax, echoMax, answerMax, formed, listOf};
+ghost use Rattle.control.specs.Status.{echoWith};
+ghost use Rattle.select.specs.Select.{
+  noSelect,
+  selected,
+  latchOf,
+  operateStatus,
+  isSelect,
+  isOperate,
+  isUnanswered,
+  statusesBy,
+  carriedBy,
+  latchBy,
+  echoBy,
+  effectOf,
+  Done,
+};
+use application::ApplicationSequence;
+use application::Fault;
+use control::Crobs;
+use control::ECHO_MAX;
+use control::Form;
+use control::OBJECTS_MAX;
+
+// The functions 3 to 6.
+pub enum ControlFunction {
+    Select,
+    Operate,
+    DirectOperate,
+    DirectOperateNoResponse,
+}
+
+// Empty, or armed with a SELECT's sequence, time and object bytes.
+pub struct Latch {
+    pub armed: bool,
+    pub sequence: ApplicationSequence,
+    pub time: u64,
+    pub objects: [u8; ECHO_MAX],
+    pub len: usize,
+}
+
+// What a control request does. The echo of so many bytes is in the lent bytes from 4.
+pub struct Controlled {
+    pub fault: Fault,
+    pub len: usize,
+    pub carried: Crobs,
+    pub latch: Latch,
+}
+
+// The lesser number.
+pub fn least(a: usize, b: usize) -> usize
+    ensures { λ r. ⌜ r ≡ min a b ⌝ }
+{
+    if a < b { a } else { b }
+}
+
+// The time from one to the other.
+fn elapsed(from: u64, to: u64) -> u64
+    ensures { λ r. ⌜ r ≡ to - from ⌝ }
+{
+    if from < to { to - from } else { 0 }
+}
+
+// No select.
+pub fn empty() -> Latch
+    ensures { λ r. ⌜ latchOf r ≡ noSelect ⌝ }
+{
+    let objects = [0u8; ECHO_MAX];
+    Latch {
+        armed: false,
+        sequence: ApplicationSequence(0),
+        time: 0,
+        objects: objects,
+        len: 0,
+    }
+}
+
+// Armed by a SELECT with these object bytes.
+fn arm(sequence: ApplicationSequence, time: u64, o: &[u8]) -> Latch
+    requires { ⌜ length (now o) ≤ echoMax ⌝ }
+    ensures { λ r. ⌜ latchOf r ≡ selected (sequence .0) time (now (o .entry)) ⌝ }
+{
+    let mut objects = [0u8; ECHO_MAX];
+    octets::copy(&mut objects, 0, o);
+    Latch {
+        armed: true,
+        sequence: sequence,
+        time: time,
+        objects: objects,
+        len: o.len(),
+    }
+}
+
+// The status of every object of an OPERATE.
+pub fn operate(
+    latch: Latch,
+    arm_time: u64,
+    sequence: ApplicationSequence,
+    time: u64,
+    o: &[u8],
+) -> u8
+    ensures { λ r. ⌜ r ≡ operateStatus «arm_time» (latchOf latch) (sequence .0) time (now (o .entry)) ⌝ }
+{
+    if !latch.armed {
+        return 2;
+    }
+    let objects = latch.objects;
+    let n = least(latch.len, ECHO_MAX);
+    if !application::equal(o, &objects[..n]) {
+        return 2;
+    }
+    let expected = application::next(latch.sequence);
+    if sequence.0 != expected.0 {
+        return 2;
+    }
+    if arm_time < elapsed(latch.time, time) {
+        1
+    } else {
+        0
+    }
+}
+
+fn is_select(f: ControlFunction) -> bool
+    ensures { λ r. ⌜ r ≡ isSelect f ⌝ }
+{
+    match f {
+        ControlFunction::Select => true,
+        ControlFunction::Operate => false,
+        ControlFunction::DirectOperate => false,
+        ControlFunction::DirectOperateNoResponse => false,
+    }
+}
+
+fn is_operate(f: ControlFunction) -> bool
+    ensures { λ r. ⌜ r ≡ isOperate f ⌝ }
+{
+    match f {
+        ControlFunction::Select => false,
+        ControlFunction::Operate => true,
+        ControlFunction::DirectOperate => false,
+        ControlFunction::DirectOperateNoResponse => false,
+    }
+}
+
+// Function 6 is never answered.
+pub fn is_unanswered(f: ControlFunction) -> bool
+    ensures { λ r. ⌜ r ≡ isUnanswered f ⌝ }
+{
+    match f {
+        ControlFunction::Select => false,
+        ControlFunction::Operate => false,
+        ControlFunction::DirectOperate => false,
+        ControlFunction::DirectOperateNoResponse => true,
+    }
+}
+
+// The status of each object; s is that of an OPERATE.
+fn statuses(f: ControlFunction, cs: Crobs, outputs: u16, s: u8) -> [u8; OBJECTS_MAX]
+    requires { ⌜ cs .count ≤ objectsMax ⌝ }
+    ensures { λ r. ⌜ (take (cs .count) r ≡ statusesBy f outputs s (listOf cs)) × (length r ≡ objectsMax) ⌝ }
+{
+    if is_operate(f) {
+        [s; OBJECTS_MAX]
+    } else {
+        control::judged(cs, outputs)
+    }
+}
+
+// The objects to hand to the host.
+fn carry(f: ControlFunction, cs: Crobs, ss: [u8; OBJECTS_MAX]) -> Crobs
+    ensures { λ r. ⌜ listOf r ≡ carriedBy f (listOf cs) (take (cs .count) ss) ⌝ }
+{
+    if is_select(f) {
+        control::none()
+    } else {
+        control::with_zero(cs, ss)
+    }
+}
+
+// The latch after a request with these statuses.
+fn latch_after(
+    f: ControlFunction,
+    ss: [u8; OBJECTS_MAX],
+    n: usize,
+    sequence: ApplicationSequence,
+    time: u64,
+    o: &[u8],
+) -> Latch
+    requires { ⌜ length (now o) ≤ echoMax ⌝ }
+    ensures { λ r. ⌜ latchOf r ≡ latchBy f (take n ss) (sequence .0) time (now (o .entry)) ⌝ }
+{
+    if is_select(f) {
+        if control::all_zero(ss, n) {
+            arm(sequence, time, o)
+        } else {
+            empty()
+        }
+    } else {
+        empty()
+    }
+}
+
+// Puts the echo, where the function is answered, and says its length.
+fn answer(f: ControlFunction, out: &mut [u8], o: &[u8], ss: [u8; OBJECTS_MAX]) -> usize
+    requires { ⌜ answerMax ≤ length (now out) ⌝ }
+    ensures { λ r. ⌜
+        (now (out .exit) ≡ splice (now (out .entry)) 4 (echoBy f (echoWith (formed (now (o .entry))) ss (now (o .entry)))))
+        × (r ≡ length (echoBy f (echoWith (formed (now (o .entry))) ss (now (o .entry))))) ⌝ }
+{
+    if is_unanswered(f) {
+        0
+    } else {
+        control::put_echo(out, o, ss)
+    }
+}
+
+// What a control request with these object bytes does.
+pub fn control(
+    latch: Latch,
+    outputs: u16,
+    arm_time: u64,
+    f: ControlFunction,
+    sequence: ApplicationSequence,
+    time: u64,
+    o: &[u8],
+    out: &mut [u8],
+) -> Controlled
+    requires { ⌜ answerMax ≤ length (now out) ⌝ }
+    ensures { λ r. ⌜ Done r (now (out .entry)) (now (out .exit)) (effectOf outputs «arm_time» (latchOf latch) f (sequence .0) time (now (o .entry))) ⌝ }
+{
+    match control::header(o) {
+        Form::Wrong(fault) => Controlled {
+            fault: fault,
+            len: 0,
+            carried: control::none(),
+            latch: empty(),
+        },
+        Form::Objects { width: _, count } => {
+            let cs = control::objects(o);
+            let s = operate(latch, arm_time, sequence, time, o);
+            let ss = statuses(f, cs, outputs, s);
+            let len = answer(f, out, o, ss);
+            Controlled {
+                fault: Fault::Faultless,
+                len: len,
+                carried: carry(f, cs, ss),
+                latch: latch_after(f, ss, count, sequence, time, o),
+            }
+        }
+    }
+}

@@ -1,0 +1,3 @@
+pub mod StaticLaws
+pub mod HeaderLaws
+pub mod Examples
