@@ -27,6 +27,7 @@ ghost use Rattle.frame.specs.Frame.{
 
 // The most user bytes of a frame, and the bytes of such a frame.
 pub const USER_MAX: usize = 250;
+
 pub const FRAME_MAX: usize = 292;
 
 // The user bytes of a block.

@@ -36,8 +36,11 @@ pub const COUNT_MAX: u16 = 65535;
 
 // Control bytes: replies, and outgoing data.
 pub const ACK: u8 = 0x00;
+
 pub const LINK_STATUS: u8 = 0x0B;
+
 pub const NOT_SUPPORTED: u8 = 0x0F;
+
 pub const USER_DATA: u8 = 0x44;
 
 // The line record, kept by the host: counts of accepted frames and of refusals 11 to 15 and 17.
@@ -217,13 +220,33 @@ pub fn take_frame(st: Station, s: &[u8], out: &mut [u8]) -> Taken
 // Takes a frame, and counts it in the line record, in place.
 pub fn receive(line: &mut LineRecord, st: Station, s: &[u8], out: &mut [u8]) -> Taken
     ensures { λ r. ⌜
-        (takenOf r (now (out .exit)) ≡ station (length (now (out .entry))) st (now (s .entry)))
+        (r ≡ answerFor (station (length (now (out .entry))) st (now (s .entry))))
+        × ((takenOf r (now (out .exit)) ≡ station (length (now (out .entry))) st (now (s .entry)))
         × ((now (out .exit) ≡ lentAfter (now (out .entry)) (station (length (now (out .entry))) st (now (s .entry))))
-        × (now (line .exit) ≡ countedOf (now (line .entry)) (numberOf (station (length (now (out .entry))) st (now (s .entry)))))) ⌝ }
+        × (now (line .exit) ≡ countedOf (now (line .entry)) (numberOf (station (length (now (out .entry))) st (now (s .entry))))))) ⌝ }
 {
     let t = take_frame(st, s, out);
     *line = counted(*line, t);
     t
+}
+
+// A frame taken, and the line record after it.
+pub struct Received {
+    pub taken: Taken,
+    pub line: LineRecord,
+}
+
+// `receive` for callers that keep the record in a local: it lends its own. Its parameters are plain, so a caller needs no walk.
+pub fn receive_by_value(line: LineRecord, st: Station, s: &[u8], out: &mut [u8]) -> Received
+    ensures { λ r. ⌜
+        (r .taken ≡ answerFor (station (length (now (out .entry))) st (now (s .entry))))
+        × ((takenOf (r .taken) (now (out .exit)) ≡ station (length (now (out .entry))) st (now (s .entry)))
+        × ((now (out .exit) ≡ lentAfter (now (out .entry)) (station (length (now (out .entry))) st (now (s .entry))))
+        × (r .line ≡ countedOf line (numberOf (station (length (now (out .entry))) st (now (s .entry))))))) ⌝ }
+{
+    let mut m = line;
+    let t = receive(&mut m, st, s, out);
+    Received { taken: t, line: m }
 }
 
 // Writes a reply to the master: a frame with this control byte and no user data.

@@ -31,6 +31,7 @@ ghost use Rattle.transport.specs.Send.{
 
 // The most data bytes of a segment, and the bytes of such a segment.
 pub const SEGMENT_DATA_MAX: usize = 249;
+
 pub const SEGMENT_MAX: usize = 250;
 
 // The most bytes of a fragment.
@@ -242,7 +243,11 @@ fn after(at: usize, n: usize) -> usize
     requires { ⌜ at < n ⌝ }
     ensures { λ r. ⌜ r ≡ endOf at n ⌝ }
 {
-    if n - at <= SEGMENT_DATA_MAX { 0 } else { at + SEGMENT_DATA_MAX }
+    if n - at <= SEGMENT_DATA_MAX {
+        0
+    } else {
+        at + SEGMENT_DATA_MAX
+    }
 }
 
 // Writes the next segment of a fragment that may be sent.

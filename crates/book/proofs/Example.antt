@@ -1,0 +1,73 @@
+-- A run of the book that antt computes: two readings of a binary of class 1, a READ of class 1, a CONFIRM with a wrong sequence
+-- and its CONFIRM.
+-- Assumes nothing.
+use Prim.Native.Nat.{ℕ}
+use mathlib.Core.Path.{_≡_, refl}
+use mathlib.Core.Bool.{Bool, true, false}
+use mathlib.Core.List.{List, [], _∷_}
+use lib.ListN.{replicate}
+use Rattle.points.specs.Reading as P
+use Rattle.points.specs.declared.WholeGate.the-variants as W
+use Rattle.points.specs.declared.AnalogKind.the-variants as Ks
+use Rattle.events.specs.declared.Shown.the-variants.{State}
+use Rattle.events.specs.Placing as E
+use Rattle.request.specs.Headers as H
+use Rattle.request.specs.Parse as A
+use Rattle.application.specs.Fragment as F
+use Rattle.objects.specs.Runs.{encoded, runs, allBytes}
+use Rattle.static_objects.specs.Static.{staticBytes, rangeBytes, pointObjects}
+use Rattle.outstation.specs.declared.Setup.{Setup}
+use Rattle.outstation.specs.declared.Measured.the-variants as Ms
+use Rattle.outstation.specs.Setup as U
+use Rattle.outstation.specs.Readings as R
+use Rattle.outstation.specs.Requests as Q
+use Rattle.outstation.specs.Step.{Call, reading, fragment}
+use Rattle.book.specs.Book as B
+use Rattle.book.specs.Book.{Book, Said, takes, refuses, carries, accepts, built!, confirmed!, released, enter, opened}
+use Rattle.book.specs.Demand3.{bookAfter, historyAfter}
+
+-- one binary, of class 1
+abbrev u : Setup
+u =
+    record {
+      own = 1;
+      master = 2;
+      «arm_time» = 5000;
+      «confirm_time» = 5000;
+      outputs = 16;
+      «binary_count» = 1;
+      «analog_count» = 0;
+      classes = 1 ∷ replicate 63 0;
+      analogs = replicate 64 (record { class = 0; kind = Ks.Long W.Never });
+    }
+
+-- the binary is so, from this time on
+abbrev isAt : ℕ → Bool → Call
+isAt time on = reading (record { time = time; point = 0; measured = Ms.State on; flags = 1 })
+
+abbrev calls : List Call
+calls =
+    isAt 0 false
+    ∷ isAt 1000 true
+    ∷ fragment 1001 (0xC3 ∷ 0x01 ∷ 0x3C ∷ 0x02 ∷ 0x06 ∷ []) 2048
+    ∷ fragment 1002 (0xC4 ∷ 0x00 ∷ []) 2048
+    ∷ fragment 1003 (0xC3 ∷ 0x00 ∷ []) 2048
+    ∷ []
+
+-- what the book says of each call
+abbrev sayings : List Call → Book → List Said
+sayings [] b = []
+sayings (c ∷ cs) b = enter c b .said ∷ sayings cs (enter c b .book)
+
+-- one event was raised, carried and released; the wrong CONFIRM was refused
+run :
+    (bookAfter calls (opened u) .rows
+    ≡ record { event = record { point = 0; shown = State true; flags = 1; time = 1000; class = 1 }; mark = released } ∷ [])
+    × (sayings calls (opened u)
+    ≡ takes 1 0 ∷ takes 1 0 ∷ carries (0 ∷ []) [] ∷ refuses 32 ∷ accepts ∷ [])
+    × (historyAfter calls (opened u) [] ≡ confirmed! 0 ∷ built! 0 (0 ∷ []) ∷ [])
+unfolding B.opened B.enter B.readingEntry B.enterReading B.readingNews B.enterEvent B.full B.fragmentEntry B.readEntry B.confirmEntry B.confirmedEntry
+    U.binaryClasses U.analogSetups R.hear R.badTime P.binaryReading P.reports P.raises
+    Q.ask Q.confirmed F.classified F.malformed A.headersOf H.headerOf H.objectOf H.classHeader A.asksFor
+    E.fits E.packed E.costOf staticBytes rangeBytes pointObjects encoded runs allBytes
+run = (refl, refl, refl)

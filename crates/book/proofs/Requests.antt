@@ -1,0 +1,115 @@
+-- What both sides say of a request: when it is a repeat, what it does to the queue and the wait, and the bits of its response.
+-- Assumes nothing.
+use Prim.Native.Nat.{ℕ, _+_, _/_, _%_, _<_}
+use mathlib.Core.Path.{_≡_, refl}
+use mathlib.Core.Bool.{Bool, true, false, _||_, and-true}
+use mathlib.Core.List.{List, [], _∷_, _++_}
+use native.Mathlib.Omega.{arith}
+use lib.ListN.{length, drop}
+use lib.Dec.{eqb, ltb}
+use borrow.Author.Tests.{ltb-false}
+use Rattle.laws.specs.Lists.{same}
+use Rattle.points.specs.Inputs.{Inputs}
+use Rattle.application.specs.declared.Fault.{Fault}
+use Rattle.application.specs.declared.Fault.the-variants.{Faultless, FunctionUnknown, ObjectUnknown, BadParameter}
+use Rattle.application.specs.declared.Indications.{Indications}
+use Rattle.application.specs.Fragment as F
+use Rattle.application.specs.Fragment.{classified, functionOf, sequenceOf, controlOf, isConfirm, objectsOf}
+use Rattle.application.specs.Response.{responseOf, faultBits, weight}
+use Rattle.request.specs.Parse.{Parsed, headers, fault}
+use Rattle.repeat.specs.Repeat.{Memory, nothing, kept, isRepeat}
+use Rattle.events.specs.Queue.{Queue, cleared}
+use Rattle.static_objects.specs.Static.{readOf}
+use Rattle.outstation.specs.declared.Wait.the-variants.{Idle}
+use Rattle.outstation.specs.World.{World}
+use Rattle.outstation.specs.Requests.{malformed, asks, ask, readAsk}
+use Rattle.outstation.specs.Step.{Deed, deedBy}
+use Rattle.book.specs.Demand3.{overflowBit}
+use Rattle.book.proofs.RowLists.{by, split}
+
+-- ---- a repeat
+
+-- the bytes of the request that is kept
+abbrev pub lastBytes : Memory → List ℕ
+lastBytes nothing = []
+lastBytes (kept bytes answer) = bytes
+
+-- a fragment that is neither a READ nor empty repeats the one that is kept where the bytes are the same
+pub repeat-same : (m : Memory) (f : List ℕ) → eqb (functionOf f) 1 ≡ false → 0 < length f → isRepeat m f ≡ same f (lastBytes m)
+unfolding isRepeat same
+repeat-same nothing [] e l = let z : ⊥ = omega arith in absurd z
+repeat-same nothing (x ∷ f) e l = refl
+repeat-same (kept bytes answer) f e l = rw (e, and-true)
+
+-- a request that is no READ has at least two bytes
+pub record Asks (f : List ℕ) (function : ℕ) : Type 0 where
+  pub is : functionOf f ≡ function
+  pub other : eqb function 1 ≡ false
+  pub long : 0 < length f
+
+asks-read : (q q′ function : ℕ) (p : Parsed) → readAsk q p ≡ asks q′ function → ⊥
+asks-read q q′ function (headers hs) e = let z : _≡_ {A = ℕ} 0 1 = cc in omega arith
+asks-read q q′ function (fault n) e = let z : _≡_ {A = ℕ} 0 1 = cc in omega arith
+
+or-left : (a b : Bool) → (a || b) ≡ false → a ≡ false
+or-left true b h = h
+or-left false b h = refl
+
+-- fewer than two bytes are malformed
+well-long : (f : List ℕ) → F.malformed f ≡ false → 0 < length f
+unfolding F.malformed
+well-long f h = let l = ltb-false (length f) 2 (or-left (ltb (length f) 2) _ h) in omega arith
+
+pub asks-inverse : (i : Inputs) (f : List ℕ) (q function : ℕ) → ask i f ≡ asks q function → Asks f function
+unfolding ask classified
+asks-inverse i f q function =
+    by (F.malformed f)
+    (λ t. rw t (λ e. absurd (let z : _≡_ {A = ℕ} 0 1 = cc in omega arith)))
+    (λ t. rw t (by (isConfirm f)
+    (λ c. rw c (λ e. absurd (let z : _≡_ {A = ℕ} 0 1 = cc in omega arith)))
+    (λ c. rw c (by (eqb (functionOf f) 1)
+    (λ r. rw r (λ e. absurd (asks-read (sequenceOf (controlOf f)) q function (readOf i (objectsOf f)) e)))
+    (λ r. rw r (λ e. let s : functionOf f ≡ function = cc in record { is = s; other = rw s at r; long = well-long f t }))))))
+
+-- ---- its effects
+
+-- a request that is no READ ends the wait and takes the marks away
+pub record Ends (k : Queue) (d : Deed) : Type 0 where
+  pub queue : d .queue ≡ cleared k
+  pub wait : d .wait ≡ Idle
+
+pub deed-ends : (w : World) (q function time : ℕ) (o : List ℕ) → Ends (w .queue) (deedBy w q function time o)
+deed-ends w q function time o =
+    let P : Deed → Type 0 = Ends (w .queue) in
+    split P (eqb function 2) (λ _. record { queue = refl; wait = refl })
+    (λ _. split P (eqb function 3) (λ _. record { queue = refl; wait = refl })
+    (λ _. split P (eqb function 4) (λ _. record { queue = refl; wait = refl })
+    (λ _. split P (eqb function 5) (λ _. record { queue = refl; wait = refl })
+    (λ _. split P (eqb function 6) (λ _. record { queue = refl; wait = refl })
+    (λ _. record { queue = refl; wait = refl })))))
+
+-- ---- its response
+
+-- four bytes, then the objects
+pub response-long : (q : ℕ) (con : Bool) (i : Indications) (f : Fault) (o : List ℕ) → length (responseOf q con i f ++ o) ≡ 4 + length o
+unfolding responseOf
+response-long q con i f o = omega arith
+
+pub response-objects : (q : ℕ) (con : Bool) (i : Indications) (f : Fault) (o : List ℕ) → drop 4 (responseOf q con i f ++ o) ≡ o
+unfolding responseOf
+response-objects q con i f o = refl
+
+-- the bit IIN2.3 beside a fault's
+bit-beside : (f : Fault) (t : Bool) → eqb ((faultBits f + weight t 8) / 8 % 2) 1 ≡ t
+bit-beside Faultless true = refl
+bit-beside Faultless false = refl
+bit-beside FunctionUnknown true = refl
+bit-beside FunctionUnknown false = refl
+bit-beside ObjectUnknown true = refl
+bit-beside ObjectUnknown false = refl
+bit-beside BadParameter true = refl
+bit-beside BadParameter false = refl
+
+pub response-bit : (q : ℕ) (con : Bool) (i : Indications) (f : Fault) (o : List ℕ) → overflowBit (responseOf q con i f ++ o) ≡ i .dropped
+unfolding responseOf
+response-bit q con i f o = bit-beside f (i .dropped)

@@ -1,0 +1,412 @@
+-- One call: the outstation's step and the book's entry keep the outstation a view of the book, and the answer is what the book says.
+-- Assumes nothing.
+use Prim.Native.Nat.{ℕ, suc, _+_, _≤_, _<_}
+use mathlib.Core.Path.{_≡_, refl, sym, ap, _∙_}
+use mathlib.Core.Logic.{_↔_}
+use mathlib.Core.Bool.{Bool, true, false, not, cond, _&&_, _||_}
+use mathlib.Core.List.{List, [], _∷_, _++_, map, append-nil}
+use native.Mathlib.Omega.{arith}
+use native.Mathlib.Nat.{le-refl}
+use lib.ListN.{length, length-append}
+use lib.Seq.{drop-length}
+use lib.Dec.{eqb, ltb}
+use Rattle.laws.specs.Limits.{fragmentMax, eventsMax}
+use Rattle.laws.specs.Outcome.{Outcome, accepted, refused}
+use Rattle.laws.specs.Lists.{count, isNil, member, same}
+use Rattle.application.specs.Fragment.{objectsOf}
+use Rattle.control.specs.declared.Crob.{Crob}
+use Rattle.select.specs.Select.{Selection, noSelect}
+use Rattle.repeat.specs.Repeat.{Memory, nothing, kept, isRepeat}
+use Rattle.events.specs.declared.Event.{Event}
+use Rattle.events.specs.Placing.{emptyPack}
+use Rattle.events.specs.Queue.{pushed, newly, marked}
+use Rattle.event_objects.specs.Events.{eventsBytes}
+use Rattle.static_objects.specs.Static.{staticBytes}
+use Rattle.request.specs.declared.Header.{Header}
+use Rattle.outstation.specs.declared.Setup.{Setup}
+use Rattle.outstation.specs.declared.Reading.{Reading}
+use Rattle.outstation.specs.declared.Wait as D
+use Rattle.outstation.specs.declared.Wait.the-variants.{Idle, Awaiting}
+use Rattle.outstation.specs.World.{World, restarted}
+use Rattle.outstation.specs.Readings.{badTime, Heard, hear}
+use Rattle.read.specs.Response.{classesOf, roomBeside}
+use Rattle.outstation.specs.Requests.{Ask, malformed, confirms, reads, misreads, asks, ask, confirmed}
+use Rattle.outstation.specs.Step as S
+use Rattle.outstation.specs.Step.{Call, reading, table, fragment, answers, Result, Deed, onHeard}
+use Rattle.book.specs.Book as B
+use Rattle.book.specs.Book.{Book, Row, Entry, Happening, rowHeld, dropSince, picked, release}
+use Rattle.book.specs.Demand3.{Pending, eventAt, Response, Carrying, Told}
+use Rattle.book.proofs.RowLists.{by, both, split, isNil-nil, nor-left}
+use Rattle.book.proofs.Rows.{collect, length-collect, collect-snoc, collect-none, heldRow, droppedRow, since-held, since-dropped}
+use Rattle.book.proofs.Rows.{picks-below, carry-collect, carried-bytes, carried-events, some-carried, keep-collect}
+use Rattle.book.proofs.Requests.{lastBytes, repeat-same, asks-inverse, Ends, deed-ends, response-long, response-objects, response-bit}
+
+-- ---- the outstation that a book stands for
+
+-- what the book does not keep; shown: whether the awaited response showed IIN2.3
+pub record Extra : Type 0 where
+  pub armTime : ℕ
+  pub outputs : ℕ
+  pub restarted : Bool
+  pub last : Memory
+  pub latch : Selection
+  pub shown : Bool
+
+abbrev pub waitRows : B.Wait → List ℕ
+waitRows B.idle = []
+waitRows (B.awaiting q t ws n k) = ws
+
+abbrev pub waitFrom : B.Wait → ℕ
+waitFrom B.idle = 0
+waitFrom (B.awaiting q t ws n k) = n
+
+abbrev pub waitView : Bool → List Row → B.Wait → D.Wait
+waitView shown rows B.idle = Idle
+waitView shown rows (B.awaiting q t ws n k) = Awaiting (record { 0 = q }) t shown (dropSince n rows)
+
+abbrev pub view : Book → Extra → World
+view b x =
+    record {
+      armTime = x .armTime;
+      confirmTime = b .confirmTime;
+      outputs = x .outputs;
+      clock = b .clock;
+      inputs = b .inputs;
+      queue = record { held = collect (waitRows (b .wait)) 0 (b .rows); overflow = b .warning };
+      exchange =
+          record {
+            restarted = x .restarted;
+            wait = waitView (x .shown) (b .rows) (b .wait);
+            last = x .last;
+            latch = x .latch;
+          };
+    }
+
+-- the wait's numbers are rows of the book; a response that did not show IIN2.3 was built when there was no warning
+pub record Inv (w : B.Wait) (rows : List Row) (warning shown : Bool) : Type 0 where
+  pub below : (j : ℕ) → member j (waitRows w) ≡ true → j < length rows
+  pub from : waitFrom w ≤ length rows
+  pub quiet : shown ≡ false → dropSince (waitFrom w) rows ≡ false → warning ≡ false
+
+-- and the book's last request is the one that is kept
+pub record Fits (b : Book) (x : Extra) : Type 0 where
+  pub inv : Inv (b .wait) (b .rows) (b .warning) (x .shown)
+  pub last : lastBytes (x .last) ≡ b .last
+
+pub record Sim (w : World) (b : Book) : Type 0 where
+  pub extra : Extra
+  pub is : w ≡ view b extra
+  pub fits : Fits b extra
+
+-- a step and an entry, h the history before the call
+pub record Match (h : List Happening) (r : Result) (e : Entry) : Type 0 where
+  pub sim : Sim (r .state) (e .book)
+  pub told : Told h (e .book .rows) (e .said) (r .answer)
+
+-- ---- an event raised
+
+wait-held : (shown : Bool) (rows : List Row) (w : B.Wait) (e : Event) → waitFrom w ≤ length rows
+    → waitView shown (rows ++ (heldRow e ∷ [])) w ≡ waitView shown rows w
+wait-held shown rows B.idle e h = refl
+wait-held shown rows (B.awaiting q t ws n k) e h = rw since-held
+
+wait-dropped : (shown : Bool) (rows : List Row) (w : B.Wait) (e : Event) → waitFrom w ≤ length rows
+    → waitView shown (rows ++ (droppedRow e ∷ [])) w ≡ S.noted (waitView shown rows w)
+wait-dropped shown rows B.idle e h = refl
+wait-dropped shown rows (B.awaiting q t ws n k) e h = rw since-dropped
+
+module _ (w : B.Wait) (rows : List Row) (warning shown : Bool) (i : Inv w rows warning shown) (e : Event) where
+  fresh-row : member (length rows) (waitRows w) ≡ false
+  fresh-row = by (member (length rows) (waitRows w)) (λ h. let z : ⊥ = omega (arith, i .below (length rows) h) in absurd z) (λ h. h)
+
+  collect-held : collect (waitRows w) 0 (rows ++ (heldRow e ∷ [])) ≡ collect (waitRows w) 0 rows ++ (newly e ∷ [])
+  collect-held = let z : 0 + length rows ≡ length rows = omega arith in rw (collect-snoc, z, fresh-row)
+
+  collect-dropped : collect (waitRows w) 0 (rows ++ (droppedRow e ∷ [])) ≡ collect (waitRows w) 0 rows
+  collect-dropped = rw (collect-snoc, append-nil)
+
+  inv-held : Inv w (rows ++ (heldRow e ∷ [])) warning shown
+  inv-held =
+      record {
+        below = λ j h. simp length-append (omega (arith, i .below j h));
+        from = simp length-append (omega (arith, i .from));
+        quiet = rw (since-held (waitFrom w) rows e (i .from)) (i .quiet);
+      }
+
+  inv-dropped : Inv w (rows ++ (droppedRow e ∷ [])) true shown
+  inv-dropped =
+      record {
+        below = λ j h. simp length-append (omega (arith, i .below j h));
+        from = simp length-append (omega (arith, i .from));
+        quiet = λ a d. let z : true ≡ false = sym (since-dropped (waitFrom w) rows e (i .from)) ∙ d in cc;
+      }
+
+raise-ok : (b : Book) (x : Extra) (e : Event) → Fits b x → Sim (S.raise e (view b x)) (B.enterEvent e b)
+unfolding S.raise pushed B.enterEvent B.full
+raise-ok b x e i =
+    let l : length (collect (waitRows (b .wait)) 0 (b .rows)) ≡ count rowHeld (b .rows) = length-collect (waitRows (b .wait)) 0 (b .rows) in
+    by (ltb (count rowHeld (b .rows)) eventsMax)
+    (λ t. rw (l, t) (record {
+      extra = x;
+      is = rw (collect-held (b .wait) (b .rows) (b .warning) (x .shown) (i .inv) e, wait-held (x .shown) (b .rows) (b .wait) e (i .inv .from));
+      fits = record { inv = inv-held (b .wait) (b .rows) (b .warning) (x .shown) (i .inv) e; last = i .last };
+    }))
+    (λ t. rw (l, t) (record {
+      extra = x;
+      is = rw (collect-dropped (b .wait) (b .rows) (b .warning) (x .shown) (i .inv) e, wait-dropped (x .shown) (b .rows) (b .wait) e (i .inv .from));
+      fits = record { inv = inv-dropped (b .wait) (b .rows) (b .warning) (x .shown) (i .inv) e; last = i .last };
+    }))
+
+-- ---- readings
+
+-- two terms that branch on one reading
+on-heard {ℓ} : {A C : Type 0} (R : A → C → Type ℓ) (v : Outcome Heard) {x : Heard → A} {y : ℕ → A} {x′ : Heard → C} {y′ : ℕ → C}
+    → ((h : Heard) → R (x h) (x′ h)) → ((n : ℕ) → R (y n) (y′ n)) → R (onHeard v x y) (onHeard v x′ y′)
+on-heard R (accepted h) p q = p h
+on-heard R (refused n) p q = q n
+
+taken-ok : (b : Book) (x : Extra) (r : Reading) (a : Heard) → Fits b x → Sim (S.taken (view b x) r a) (B.enterReading b r a)
+unfolding S.takenWith B.enterReading
+taken-ok b x r a i =
+    both Sim (a .raised)
+    (λ _. raise-ok (B.withInputs b (r .time) (a .inputs)) x (a .event) (record { inv = i .inv; last = i .last }))
+    (λ _. record { extra = x; is = refl; fits = record { inv = i .inv; last = i .last } })
+
+module _ (h : List Happening) where
+  reading-ok : (r : Reading) (b : Book) (x : Extra) → Fits b x → Match h (S.readingStep r (view b x)) (B.readingEntry r b)
+  unfolding S.readingStep B.readingEntry
+  reading-ok r b x i =
+      on-heard (Match h) (hear (b .clock) (b .inputs) r)
+      (λ a. record { sim = taken-ok b x r a i; told = refl })
+      (λ n. record { sim = record { extra = x; is = refl; fits = i }; told = refl })
+
+  table-ok : (rs : List Reading) (k : ℕ) (ns : List Happening) (b : Book) (x : Extra) → Fits b x
+      → Match h (S.tableFrom rs k (view b x)) (B.tableFrom rs k ns b)
+  unfolding S.tableFrom B.tableFrom
+  table-ok [] k ns b x i = record { sim = record { extra = x; is = refl; fits = i }; told = refl }
+  table-ok (r ∷ rs) k ns b x i =
+      on-heard (Match h) (hear (b .clock) (b .inputs) r)
+      (λ a. let m = taken-ok b x r a i in
+      rw (m .is) (table-ok rs (suc k) (B.readingNews b a ++ ns) (B.enterReading b r a) (m .extra) (m .fits)))
+      (λ n. record { sim = record { extra = x; is = refl; fits = i }; told = refl })
+
+  refused-ok : (n : ℕ) (b : Book) (x : Extra) → Fits b x → Match h (S.refusal n (view b x)) (B.refusedEntry n b)
+  refused-ok n b x i = record { sim = record { extra = x; is = refl; fits = i }; told = refl }
+
+-- ---- requests
+
+idle-inv : (rows : List Row) (warning : Bool) → Inv B.idle rows warning true
+idle-inv rows warning = record { below = λ j h. let z : _≡_ {A = ℕ} 0 1 = cc in omega arith; from = omega arith; quiet = λ h d. cc }
+
+-- the book that a new request leaves
+abbrev afterRequest : Book → ℕ → List ℕ → B.Wait → ℕ → Book
+afterRequest b time f wait built =
+    record {
+      confirmTime = b .confirmTime;
+      clock = time;
+      inputs = b .inputs;
+      rows = b .rows;
+      wait = wait;
+      warning = b .warning;
+      last = f;
+      built = built;
+    }
+
+-- the outstation that it leaves, by what it does to the queue and the wait
+done-ok : (b : Book) (x : Extra) (time : ℕ) (f answer : List ℕ) (d : Deed) (wait : B.Wait) (built : ℕ) (shown : Bool)
+    → d .queue ≡ record { held = collect (waitRows wait) 0 (b .rows); overflow = b .warning } → d .wait ≡ waitView shown (b .rows) wait
+    → Inv wait (b .rows) (b .warning) shown → Sim (S.done (view b x) time f answer d) (afterRequest b time f wait built)
+done-ok b x time f answer d wait built shown queued waited inv =
+    record {
+      extra = record { armTime = x .armTime; outputs = x .outputs; restarted = d .restarted; last = kept f answer; latch = d .latch; shown = shown };
+      is = rw (queued, waited);
+      fits = record { inv = inv; last = refl };
+    }
+
+-- the response's IIN2.3 is the overflow
+response-of : (h : List Happening) (q : ℕ) (d : Deed) (operated : List Crob) → ((d .queue .overflow ≡ true) ↔ Pending h)
+    → Response h (answers (S.responseBytes q d) operated)
+response-of h q d operated p =
+    record {
+      bytes = S.responseBytes q d;
+      operated = operated;
+      is = refl;
+      overflow = rw (response-bit q (d .con) (S.indications d) (d .fault) (d .objects)) p;
+    }
+
+carrying-of : (h : List Happening) (q : ℕ) (d : Deed) (events : List Event) (static : List ℕ) → d .objects ≡ eventsBytes events ++ static
+    → ((d .queue .overflow ≡ true) ↔ Pending h) → Carrying h (answers (S.responseBytes q d) []) events static
+unfolding response-of
+carrying-of h q d events static e p =
+    record {
+      response = response-of h q d [] p;
+      long = response-long q (d .con) (S.indications d) (d .fault) (d .objects) ∙ ap (λ (o : List ℕ). 4 + length o) e;
+      objects = response-objects q (d .con) (S.indications d) (d .fault) (d .objects) ∙ e;
+    }
+
+-- a READ: the queue and the wait that it leaves are those of the rows picked
+module _ (q time : ℕ) (hs : List Header) (b : Book) (x : Extra) where
+  abbrev deed : Deed
+  deed = S.readDeed (view b x) q time hs
+
+  abbrev newWait : B.Wait
+  newWait = cond (not (isNil (picked b hs)) || b .warning) (B.awaiting q time (picked b hs) (length (b .rows)) (b .built)) B.idle
+
+  unmarked : map (marked false) (collect (waitRows (b .wait)) 0 (b .rows)) ≡ collect [] 0 (b .rows)
+  unmarked = collect-none (waitRows (b .wait)) 0 (b .rows)
+
+  read-objects : deed .objects ≡ eventsBytes (map (eventAt (b .rows)) (picked b hs)) ++ staticBytes (b .inputs) hs
+  read-objects = rw (unmarked, carried-bytes, carried-events (classesOf hs) (emptyPack (roomBeside (b .inputs) hs)) [] 0 (b .rows) refl)
+
+  read-queue : deed .queue ≡ record { held = collect (waitRows newWait) 0 (b .rows); overflow = b .warning }
+  read-queue =
+      rw (unmarked, carry-collect (classesOf hs) (emptyPack (roomBeside (b .inputs) hs)) 0 (b .rows))
+      (by (not (isNil (picked b hs)) || b .warning)
+      (λ c. rw c)
+      (λ c. rw (c, isNil-nil (picked b hs) (nor-left (isNil (picked b hs)) (b .warning) c))))
+
+  read-wait : deed .wait ≡ waitView (b .warning) (b .rows) newWait
+  read-wait =
+      rw (unmarked, some-carried (classesOf hs) (emptyPack (roomBeside (b .inputs) hs)) (b .rows))
+      (by (not (isNil (picked b hs)) || b .warning) (λ c. rw (c, drop-length)) (λ c. rw c))
+
+  read-inv : Inv newWait (b .rows) (b .warning) (b .warning)
+  read-inv =
+      split (λ w. Inv w (b .rows) (b .warning) (b .warning)) (not (isNil (picked b hs)) || b .warning)
+      (λ _. record {
+        below = λ j h. omega (arith, picks-below (classesOf hs) (emptyPack (roomBeside (b .inputs) hs)) j 0 (b .rows) h);
+        from = le-refl _;
+        quiet = λ h d. h;
+      })
+      (λ _. record { below = idle-inv (b .rows) (b .warning) .below; from = omega arith; quiet = λ h d. h })
+
+  read-ok : (h : List Happening) (f : List ℕ) → ((b .warning ≡ true) ↔ Pending h)
+      → Match h (S.readStep (view b x) q time f deed) (B.readEntry b q time f hs)
+  unfolding S.readStep B.readEntry
+  read-ok h f p =
+      record {
+        sim = done-ok b x time f [] deed newWait (suc (b .built)) (b .warning) read-queue read-wait read-inv;
+        told = carrying-of h q deed (map (eventAt (b .rows)) (picked b hs)) (staticBytes (b .inputs) hs) read-objects p;
+      }
+
+-- any other request that is no repeat; d is what it does
+module _ (h : List Happening) (q time : ℕ) (f : List ℕ) (b : Book) (x : Extra) (d : Deed) (e : Ends (view b x .queue) d) where
+  other-queue : d .queue ≡ record { held = collect [] 0 (b .rows); overflow = b .warning }
+  other-queue = e .queue ∙ rw (collect-none (waitRows (b .wait)) 0 (b .rows))
+
+  other-sim : (answer : List ℕ) (built : ℕ) → Sim (S.done (view b x) time f answer d) (afterRequest b time f B.idle built)
+  other-sim answer built = done-ok b x time f answer d B.idle built true other-queue (e .wait) (idle-inv (b .rows) (b .warning))
+
+  other-response : (operated : List Crob) → ((b .warning ≡ true) ↔ Pending h) → Response h (answers (S.responseBytes q d) operated)
+  other-response operated p = response-of h q d operated (rw (e .queue) p)
+
+  misread-ok : ((b .warning ≡ true) ↔ Pending h) → Match h (S.readStep (view b x) q time f d) (B.otherEntry b true time f)
+  unfolding S.readStep B.otherEntry
+  misread-ok p = record { sim = other-sim [] (suc (b .built)); told = other-response [] p }
+
+  request-ok : (function : ℕ) → ((b .warning ≡ true) ↔ Pending h)
+      → Match h (S.requestStep (view b x) q function time f d) (B.otherEntry b (not (eqb function 6)) time f)
+  unfolding S.requestStep B.otherEntry
+  request-ok function p =
+      by (eqb function 6)
+      (λ t. rw t (record { sim = other-sim [] (b .built); told = tt }))
+      (λ t. rw t (record { sim = other-sim (S.responseBytes q d) (suc (b .built)); told = other-response (d .operated) p }))
+
+-- a repeat moves the clock
+repeat-ok : (h : List Happening) (function time : ℕ) (b : Book) (x : Extra) → Fits b x
+    → Match h (S.repeatStep (view b x) function time) (B.repeatEntry b time)
+unfolding S.repeatStep B.repeatEntry
+repeat-ok h function time b x i =
+    record {
+      sim = record { extra = x; is = refl; fits = record { inv = i .inv; last = i .last } };
+      told = by (eqb function 6) (λ t. rw t tt) (λ t. rw t refl);
+    }
+
+-- ---- CONFIRM
+
+clear-eq : (shown d w : Bool) → (shown ≡ false → d ≡ false → w ≡ false) → cond (shown && not d) false w ≡ cond d w false
+clear-eq true true w h = refl
+clear-eq true false w h = refl
+clear-eq false true w h = refl
+clear-eq false false w h = h refl refl
+
+module _ (h : List Happening) where
+  confirmed-ok : (time q t : ℕ) (ws : List ℕ) (n k : ℕ) (b : Book) (x : Extra) → b .wait ≡ B.awaiting q t ws n k → Fits b x
+      → Match h (S.confirmedStep (view b x) time (x .shown) (dropSince n (b .rows))) (B.confirmedEntry b time ws n k)
+  unfolding S.confirmedStep B.confirmedEntry
+  confirmed-ok time q t ws n k b x e i =
+      record {
+        sim =
+            record {
+              extra = record { armTime = x .armTime; outputs = x .outputs; restarted = x .restarted; last = x .last; latch = x .latch; shown = true };
+              is = rw (e, keep-collect ws 0 (b .rows), clear-eq (x .shown) (dropSince n (b .rows)) (b .warning) (rw e at (i .inv .quiet)));
+              fits =
+                  record {
+                    inv = idle-inv (release ws 0 (b .rows)) (cond (dropSince n (b .rows)) (b .warning) false);
+                    last = i .last;
+                  };
+            };
+        told = refl;
+      }
+
+  confirm-ok : (q : ℕ) (uns : Bool) (time : ℕ) (b : Book) (x : Extra) (w : B.Wait) → b .wait ≡ w → Fits b x
+      → Match h (S.confirmStep (view b x) (waitView (x .shown) (b .rows) w) q uns time) (B.confirmEntry b w q uns time)
+  unfolding S.confirmStep B.confirmEntry
+  confirm-ok q uns time b x B.idle e i = refused-ok h 32 b x i
+  confirm-ok q uns time b x (B.awaiting q₁ t₁ ws n k) e i =
+      both (Match h) (confirmed (b .confirmTime) q uns time q₁ t₁)
+      (λ _. confirmed-ok time q₁ t₁ ws n k b x e i)
+      (λ _. refused-ok h 32 b x i)
+
+-- ---- fragments
+
+module _ (h : List Happening) (b : Book) (x : Extra) (i : Fits b x) (p : (b .warning ≡ true) ↔ Pending h) where
+  ask-ok : (a : Ask) (time : ℕ) (f : List ℕ) → ask (b .inputs) f ≡ a → Match h (S.onAsk a (view b x) time f) (B.askEntry a b time f)
+  ask-ok malformed time f e = refused-ok h 31 b x i
+  ask-ok (confirms q uns) time f e = confirm-ok h q uns time b x (b .wait) refl i
+  ask-ok (reads q hs) time f e = read-ok q time hs b x h f p
+  ask-ok (misreads q n) time f e =
+      misread-ok h q time f b x (S.plainDeed (view b x) (S.readFault n) (x .restarted)) (record { queue = refl; wait = refl }) p
+  ask-ok (asks q function) time f e =
+      let a = asks-inverse (b .inputs) f q function e in
+      let s : isRepeat (x .last) f ≡ same f (b .last) = rw (← i .last) (repeat-same (x .last) f (rw (a .is) (a .other)) (a .long)) in
+      let d = S.deedBy (view b x) q function time (objectsOf f) in
+      rw s
+      (both (Match h) (same f (b .last))
+      (λ _. repeat-ok h function time b x i)
+      (λ _. request-ok h q time f b x d (deed-ends (view b x) q function time (objectsOf f)) function p))
+
+  fragment-ok : (time : ℕ) (f : List ℕ) (room : ℕ) → Match h (S.fragmentStep time f room (view b x)) (B.fragmentEntry time f room b)
+  unfolding S.fragmentStep B.fragmentEntry
+  fragment-ok time f room =
+      both (Match h) (badTime (b .clock) time)
+      (λ _. refused-ok h 1 b x i)
+      (λ _. both (Match h) (ltb room fragmentMax) (λ _. refused-ok h 33 b x i) (λ _. ask-ok (ask (b .inputs) f) time f refl))
+
+  step-view : (c : Call) → Match h (S.step c (view b x)) (B.enter c b)
+  unfolding S.step B.enter
+  step-view (reading r) = reading-ok h r b x i
+  step-view (table rs) = table-ok h rs 0 [] b x i
+  step-view (fragment time f room) = fragment-ok time f room
+
+-- one call, from any outstation that is a view of the book
+pub step-ok : (h : List Happening) (c : Call) (w : World) (b : Book) → ((b .warning ≡ true) ↔ Pending h) → Sim w b
+    → Match h (S.step c w) (B.enter c b)
+step-ok h c w b p m = rw (m .is) (step-view h b (m .extra) (m .fits) p c)
+
+pub start-ok : (u : Setup) → Sim (restarted u) (B.opened u)
+unfolding restarted B.opened
+start-ok u =
+    record {
+      extra =
+          record {
+            armTime = u .«arm_time»;
+            outputs = u .outputs;
+            restarted = true;
+            last = nothing;
+            latch = noSelect;
+            shown = true;
+          };
+      is = refl;
+      fits = record { inv = idle-inv [] false; last = refl };
+    }

@@ -1,0 +1,75 @@
+-- Demand 3, over every list of calls.
+-- Assumes nothing.
+use Prim.Native.Nat.{suc, _+_}
+use mathlib.Core.Path.{_≡_, refl, ap}
+use mathlib.Core.Logic.{_↔_}
+use mathlib.Core.Bool.{true, cond}
+use mathlib.Core.List.{List, [], _∷_, _++_}
+use native.Mathlib.Omega.{arith}
+use lib.ListN.{length}
+use Rattle.laws.specs.Lists.{count}
+use Rattle.outstation.specs.declared.Outstation.{Outstation}
+use Rattle.outstation.specs.declared.Setup.{Setup}
+use Rattle.outstation.specs.World.{World, world, restarted}
+use Rattle.outstation.specs.Step.{Call, Answer, Result, step}
+use Rattle.outstation.specs.Contracts.{Did}
+use Rattle.book.specs.Book.{Book, Row, Happening, held, released, dropped, isHeld, isReleased, isDropped}
+use Rattle.book.specs.Book.{rowHeld, rowReleased, rowDropped, enter, opened}
+use Rattle.book.specs.Demand3.{Pending, AllTold, bookAfter, historyAfter, Demand3, Demand3Holds, Ran, none, more}
+use Rattle.book.proofs.RowLists.{by}
+use Rattle.book.proofs.Rows.{collect, length-collect, events-collect}
+use Rattle.book.proofs.Step.{Sim, Match, step-ok, start-ok, waitRows}
+use Rattle.book.proofs.Past.{KeptBy, enter-kept, opened-kept}
+use Rattle.book.proofs.Places.{PlacingBy, enter-placing, opened-placing, placed}
+
+-- each row has one of the three marks
+places : (rows : List Row) → length rows ≡ count rowHeld rows + count rowReleased rows + count rowDropped rows
+places [] = refl
+places (r ∷ rs) =
+    let h = places rs in
+    elim (r .mark) as
+    (λ m. suc (length rs)
+    ≡ cond (isHeld m) (suc (count rowHeld rs)) (count rowHeld rs)
+    + cond (isReleased m) (suc (count rowReleased rs)) (count rowReleased rs)
+    + cond (isDropped m) (suc (count rowDropped rs)) (count rowDropped rs))
+    [ held ↦ omega arith | released ↦ omega arith | dropped ↦ omega arith ]
+
+-- the warning stands exactly when a drop is pending
+warns : (b : Book) (h : List Happening) → KeptBy b h → (b .warning ≡ true) ↔ Pending h
+warns b h k = (k .warned, λ p. by (b .warning) (λ t. t) (λ t. absurd (k .clear t p)))
+
+placing-after : (cs : List Call) (b : Book) (h : List Happening) → PlacingBy b h → PlacingBy (bookAfter cs b) (historyAfter cs b h)
+placing-after [] b h p = p
+placing-after (c ∷ cs) b h p = placing-after cs (enter c b .book) (enter c b .news ++ h) (enter-placing c b h p)
+
+-- any states, the world of one, and what a call's contract ensures: the step of that world
+module _ (O : Type 0) (worldOf : O → World) (did : O → Call → Answer → O → Type 0)
+    (does : (o o₁ : O) (c : Call) (a : Answer) → did o c a o₁
+    → _≡_ {A = Result} (record { state = worldOf o₁; answer = a }) (step c (worldOf o))) where
+  all-told : {o o₂ : O} {cs : List Call} {ans : List Answer} (b : Book) (h : List Happening) → Sim (worldOf o) b → KeptBy b h → Ran O did o cs ans o₂
+      → AllTold b h cs ans × Sim (worldOf o₂) (bookAfter cs b)
+  all-told b h m k none = (tt, m)
+  all-told b h m k (more {o} {o₁} {o₂} {c} {cs} {a} {ans} d rest) =
+      let x : Match h (record { state = worldOf o₁; answer = a }) (enter c b) = rw (does o o₁ c a d) (step-ok h c (worldOf o) b (warns b h k) m) in
+      let (ts, m₂) = all-told (enter c b .book) (enter c b .news ++ h) (x .sim) (enter-kept c b h k) rest in
+      ((x .told, ts), m₂)
+
+  -- from a restart
+  pub demand3 : (u : Setup) {o o₂ : O} {cs : List Call} {ans : List Answer} → worldOf o ≡ restarted u → Ran O did o cs ans o₂
+      → Demand3 u cs ans (worldOf o₂)
+  demand3 u {o} {o₂} {cs} {ans} e r =
+      let (ts, m) = all-told (opened u) [] (rw e (start-ok u)) (opened-kept u) r in
+      let b = bookAfter cs (opened u) in
+      let hs : worldOf o₂ .queue .held ≡ collect (waitRows (b .wait)) 0 (b .rows) = ap (λ (w : World). w .queue .held) (m .is) in
+      record {
+        told = ts;
+        placed =
+            placed (b .wait) (b .rows) (b .built) (historyAfter cs (opened u) []) (placing-after cs (opened u) [] (opened-placing u));
+        holds = rw hs (events-collect (waitRows (b .wait)) 0 (b .rows));
+        places = rw (hs, length-collect) (places (b .rows));
+      }
+
+-- of the outstation's own states and contracts
+pub demand3-holds : Demand3Holds
+unfolding Did
+demand3-holds u o o₂ cs ans f e r = demand3 Outstation world Did (λ o o₁ c a d. d) u e r

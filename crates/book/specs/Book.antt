@@ -1,0 +1,297 @@
+-- The event book (document 01, "The event book"): "fed setup and arguments, the length of the lent output among them, and no answers".
+-- Assumes nothing.
+use Prim.Native.Nat.{ℕ, zero, suc, _+_, _-_}
+use mathlib.Core.Bool.{Bool, true, false, not, cond, _&&_, _||_}
+use mathlib.Core.List.{List, [], _∷_, _++_, map}
+use lib.ListN.{length, drop}
+use lib.Dec.{eqb, ltb}
+use Rattle.laws.specs.Limits.{fragmentMax, eventsMax}
+use Rattle.laws.specs.Lists.{some, count, isNil, member, same}
+use Rattle.points.specs.Inputs.{Inputs}
+use Rattle.points.specs.Setup.{freshBinary, freshAnalog}
+use Rattle.events.specs.declared.Event.{Event}
+use Rattle.events.specs.declared.Classes.{Classes}
+use Rattle.events.specs.declared.Pack.{Pack}
+use Rattle.events.specs.Placing.{asked, emptyPack, fits, packed}
+use Rattle.request.specs.declared.Header.{Header}
+use Rattle.static_objects.specs.Static.{staticBytes}
+use Rattle.outstation.specs.declared.Setup.{Setup}
+use Rattle.outstation.specs.declared.Reading.{Reading}
+use Rattle.outstation.specs.Setup.{binaryClasses, analogSetups}
+use Rattle.outstation.specs.Readings.{badTime, Heard, hear}
+use Rattle.read.specs.Response.{classesOf, roomBeside}
+use Rattle.outstation.specs.Requests.{Ask, malformed, confirms, reads, misreads, asks, ask, confirmed}
+use Rattle.outstation.specs.Step.{Call, reading, table, fragment, onHeard}
+
+-- ---- "It keeps the clock, each point as "Readings" needs it, the last request, the wait, a warning (its IIN2.3) and a row for
+-- each event raised: point, shown value and flags, time, mark."
+
+pub data Mark : Type 0 where
+  held released dropped : Mark
+
+pub record Row : Type 0 where
+  pub event : Event
+  pub mark : Mark
+
+-- no wait; or one: the response's sequence and time, the numbers of the rows that it carries, how many rows there were, and its
+-- number among the responses newly built
+pub data Wait : Type 0 where
+  idle : Wait
+  awaiting : (sequence time : ℕ) (rows : List ℕ) (upto number : ℕ) → Wait
+
+pub record Book : Type 0 where
+  pub confirmTime : ℕ
+  pub clock : ℕ
+  pub inputs : Inputs
+  pub rows : List Row
+  pub wait : Wait
+  pub warning : Bool
+  pub last : List ℕ
+  pub built : ℕ
+
+abbrev pub isHeld : Mark → Bool
+isHeld held = true
+isHeld released = false
+isHeld dropped = false
+
+abbrev pub isReleased : Mark → Bool
+isReleased held = false
+isReleased released = true
+isReleased dropped = false
+
+abbrev pub isDropped : Mark → Bool
+isDropped held = false
+isDropped released = false
+isDropped dropped = true
+
+abbrev pub rowHeld : Row → Bool
+rowHeld r = isHeld (r .mark)
+
+abbrev pub rowReleased : Row → Bool
+rowReleased r = isReleased (r .mark)
+
+abbrev pub rowDropped : Row → Bool
+rowDropped r = isDropped (r .mark)
+
+abbrev pub rowEvent : Row → Event
+rowEvent r = r .event
+
+-- ---- what the book says of a call
+
+-- so many readings taken, and the refusal that stopped them (0: none); a fragment refused; a CONFIRM accepted; a READ's response
+-- newly built, with the rows that it carries and its static part; another response newly built; accepted with no response newly
+-- built (a repeat, or function 6)
+pub data Said : Type 0 where
+  takes : (taken refusal : ℕ) → Said
+  refuses : ℕ → Said
+  accepts : Said
+  carries : (rows : List ℕ) (static : List ℕ) → Said
+  builds : Said
+  unbuilt : Said
+
+-- what happened, for the sentence on IIN2.3: a row dropped; response k newly built with these rows; response k confirmed
+pub data Happening : Type 0 where
+  drop! : (row : ℕ) → Happening
+  built! : (number : ℕ) (rows : List ℕ) → Happening
+  confirmed! : (number : ℕ) → Happening
+
+-- the book after a call, what it says of it, and what happened, newest first
+pub record Entry : Type 0 where
+  pub book : Book
+  pub said : Said
+  pub news : List Happening
+
+-- "A call refused by the table below changes nothing"
+abbrev pub refusedEntry : ℕ → Book → Entry
+refusedEntry n b = record { book = b; said = refuses n; news = [] }
+
+-- ---- readings: "A raised event is a new row, dropped if 256 are held, else held; a drop sets the warning."
+
+unfoldable pub full : Book → Bool
+full b = not (ltb (count rowHeld (b .rows)) eventsMax)
+
+unfoldable pub enterEvent : Event → Book → Book
+enterEvent e b =
+    cond (full b)
+    (record {
+      confirmTime = b .confirmTime;
+      clock = b .clock;
+      inputs = b .inputs;
+      rows = b .rows ++ (record { event = e; mark = dropped } ∷ []);
+      wait = b .wait;
+      warning = true;
+      last = b .last;
+      built = b .built;
+    })
+    (record {
+      confirmTime = b .confirmTime;
+      clock = b .clock;
+      inputs = b .inputs;
+      rows = b .rows ++ (record { event = e; mark = held } ∷ []);
+      wait = b .wait;
+      warning = b .warning;
+      last = b .last;
+      built = b .built;
+    })
+
+-- "an accepted one sets the clock"
+abbrev pub withInputs : Book → ℕ → Inputs → Book
+withInputs b time i =
+    record {
+      confirmTime = b .confirmTime;
+      clock = time;
+      inputs = i;
+      rows = b .rows;
+      wait = b .wait;
+      warning = b .warning;
+      last = b .last;
+      built = b .built;
+    }
+
+unfoldable pub enterReading : Book → Reading → Heard → Book
+enterReading b r h =
+    cond (h .raised) (enterEvent (h .event) (withInputs b (r .time) (h .inputs))) (withInputs b (r .time) (h .inputs))
+
+unfoldable pub readingNews : Book → Heard → List Happening
+readingNews b h = cond (h .raised && full b) (drop! (length (b .rows)) ∷ []) []
+
+unfoldable pub readingEntry : Reading → Book → Entry
+readingEntry r b =
+    onHeard (hear (b .clock) (b .inputs) r)
+    (λ h. record { book = enterReading b r h; said = takes 1 0; news = readingNews b h })
+    (λ n. record { book = b; said = takes 0 n; news = [] })
+
+-- "A table counts as its readings up to a refused one": from the k-th on, the news so far handed on
+unfoldable pub tableFrom : List Reading → ℕ → List Happening → Book → Entry
+tableFrom [] k ns b = record { book = b; said = takes k 0; news = ns }
+tableFrom (r ∷ rs) k ns b =
+    onHeard (hear (b .clock) (b .inputs) r)
+    (λ h. tableFrom rs (suc k) (readingNews b h ++ ns) (enterReading b r h))
+    (λ n. record { book = b; said = takes k n; news = ns })
+
+-- ---- requests: "Requests except repeats end the wait. A faultless READ carries the held rows that its rule picks; with CON it
+-- waits for its CONFIRM."
+
+-- the numbers of the rows that a READ picks, from row i on: held, asked for, oldest first, up to the first that does not fit
+abbrev pub picks : Classes → Pack → ℕ → List Row → List ℕ
+picks m k i [] = []
+picks m k i (r ∷ rs) =
+    cond (rowHeld r && asked m (r .event .class))
+    (cond (fits k (r .event)) (i ∷ picks m (packed k (r .event)) (suc i) rs) [])
+    (picks m k (suc i) rs)
+
+abbrev pub picked : Book → List Header → List ℕ
+picked b hs = picks (classesOf hs) (emptyPack (roomBeside (b .inputs) hs)) 0 (b .rows)
+
+unfoldable pub readEntry : Book → ℕ → ℕ → List ℕ → List Header → Entry
+readEntry b q time f hs =
+    record {
+      book =
+          record {
+            confirmTime = b .confirmTime;
+            clock = time;
+            inputs = b .inputs;
+            rows = b .rows;
+            wait =
+                cond (not (isNil (picked b hs)) || b .warning)
+                (awaiting q time (picked b hs) (length (b .rows)) (b .built))
+                idle;
+            warning = b .warning;
+            last = f;
+            built = suc (b .built);
+          };
+      said = carries (picked b hs) (staticBytes (b .inputs) hs);
+      news = built! (b .built) (picked b hs) ∷ [];
+    }
+
+-- a request that is no faultless READ and no repeat; answered: it has a response
+unfoldable pub otherEntry : Book → (answered : Bool) → ℕ → List ℕ → Entry
+otherEntry b answered time f =
+    record {
+      book =
+          record {
+            confirmTime = b .confirmTime;
+            clock = time;
+            inputs = b .inputs;
+            rows = b .rows;
+            wait = idle;
+            warning = b .warning;
+            last = f;
+            built = cond answered (suc (b .built)) (b .built);
+          };
+      said = cond answered builds unbuilt;
+      news = cond answered (built! (b .built) [] ∷ []) [];
+    }
+
+-- "A repeat's answer is not newly built."
+unfoldable pub repeatEntry : Book → ℕ → Entry
+repeatEntry b time = record { book = withInputs b time (b .inputs); said = unbuilt; news = [] }
+
+-- ---- CONFIRM: "An accepted CONFIRM ends the wait, marks those rows released and, with no drop since that response, clears the
+-- warning."
+
+-- the rows with those numbers are released; i is the first row's number
+abbrev pub release : List ℕ → ℕ → List Row → List Row
+release ws i [] = []
+release ws i (r ∷ rs) = record { event = r .event; mark = cond (member i ws) released (r .mark) } ∷ release ws (suc i) rs
+
+-- a drop since the book had that many rows
+abbrev pub dropSince : ℕ → List Row → Bool
+dropSince n rows = some rowDropped (drop n rows)
+
+unfoldable pub confirmedEntry : Book → ℕ → List ℕ → ℕ → ℕ → Entry
+confirmedEntry b time ws upto number =
+    record {
+      book =
+          record {
+            confirmTime = b .confirmTime;
+            clock = time;
+            inputs = b .inputs;
+            rows = release ws 0 (b .rows);
+            wait = idle;
+            warning = cond (dropSince upto (b .rows)) (b .warning) false;
+            last = b .last;
+            built = b .built;
+          };
+      said = accepts;
+      news = confirmed! number ∷ [];
+    }
+
+unfoldable pub confirmEntry : Book → Wait → ℕ → Bool → ℕ → Entry
+confirmEntry b idle q uns time = refusedEntry 32 b
+confirmEntry b (awaiting awaited sent ws upto number) q uns time =
+    cond (confirmed (b .confirmTime) q uns time awaited sent) (confirmedEntry b time ws upto number) (refusedEntry 32 b)
+
+-- ---- fragments
+
+abbrev pub askEntry : Ask → Book → ℕ → List ℕ → Entry
+askEntry malformed b time f = refusedEntry 31 b
+askEntry (confirms q uns) b time f = confirmEntry b (b .wait) q uns time
+askEntry (reads q hs) b time f = readEntry b q time f hs
+askEntry (misreads q n) b time f = otherEntry b true time f
+askEntry (asks q function) b time f =
+    cond (same f (b .last)) (repeatEntry b time) (otherEntry b (not (eqb function 6)) time f)
+
+unfoldable pub fragmentEntry : (time : ℕ) (bytes : List ℕ) (room : ℕ) → Book → Entry
+fragmentEntry time f room b =
+    cond (badTime (b .clock) time) (refusedEntry 1 b)
+    (cond (ltb room fragmentMax) (refusedEntry 33 b) (askEntry (ask (b .inputs) f) b time f))
+
+unfoldable pub enter : Call → Book → Entry
+enter (reading r) b = readingEntry r b
+enter (table rs) b = tableFrom rs 0 [] b
+enter (fragment time f room) b = fragmentEntry time f room b
+
+-- the book of a setup
+unfoldable pub opened : Setup → Book
+opened u =
+    record {
+      confirmTime = u .«confirm_time»;
+      clock = 0;
+      inputs = record { binaries = map freshBinary (binaryClasses u); analogs = map freshAnalog (analogSetups u) };
+      rows = [];
+      wait = idle;
+      warning = false;
+      last = [];
+      built = 0;
+    }

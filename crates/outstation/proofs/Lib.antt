@@ -1,0 +1,4 @@
+pub mod ReadLaws
+pub mod AllLoop
+pub mod SetupLaws
+pub mod StepLaws

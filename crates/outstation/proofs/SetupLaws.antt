@@ -1,0 +1,133 @@
+-- Laws of a setup: what its limits tell, and the outstation that it gives.
+-- Assumes nothing.
+use mathlib.Core.Path.{_≡_, refl, sym, ap, _∙_}
+use mathlib.Core.Bool.{Bool, true, false, not, _&&_}
+use mathlib.Core.List.{List, [], map}
+use Prim.Native.Nat.{ℕ, _≤_}
+use native.Mathlib.Omega.{arith}
+use borrow.Author.Tests.{le-leb, leb-true, ne-eqb, eq-eqb}
+use lib.Dec.{leb, eqb}
+use lib.ListN.{take}
+use Rattle.laws.specs.Lists.{all}
+use Rattle.laws.proofs.AllLaws.{refuted}
+use Rattle.points.specs.Setup.{classOk, analogOk, freshBinary, freshAnalog}
+use Rattle.points.specs.declared.AnalogPoint.{AnalogPoint}
+use Rattle.points.specs.declared.BinaryPoint.{BinaryPoint}
+use Rattle.points.specs.Inputs.{inputs}
+use Rattle.events.specs.declared.Buffer.{Buffer}
+use Rattle.events.specs.Queue.{queue}
+use Rattle.outstation.specs.declared.Setup.{Setup}
+use Rattle.outstation.specs.declared.Session.{Session}
+use Rattle.outstation.specs.Setup.{binaryClasses, analogSetups, setupOk}
+use Rattle.outstation.specs.World.{exchangeOf, freshExchange, world, restarted}
+use Rattle.outstation.proofs.AllLoop.{map-take}
+
+-- the limits that are tests of numbers
+pub record Bounds (u : Setup) : Type 0 where
+  pub binaries : u .«binary_count» ≤ 64
+  pub analogs : u .«analog_count» ≤ 64
+  pub outputs : u .outputs ≤ 16
+  pub own : u .own ≤ 65519
+  pub master : u .master ≤ 65519
+  pub differ : u .own ≡ u .master → ⊥
+  pub arm : u .«arm_time» ≤ 64000
+  pub some : 1 ≤ u .«confirm_time»
+  pub confirm : u .«confirm_time» ≤ 60000
+
+first : (a b : Bool) → a && b ≡ true → (a ≡ true) × (b ≡ true)
+first true b h = (refl, h)
+first false b h = let z : _≡_ {A = ℕ} 0 1 = cc in absurd (omega arith)
+
+unlike : (a b : ℕ) → not (eqb a b) ≡ true → a ≡ b → ⊥
+unlike a b h e =
+    let z : _≡_ {A = ℕ} 0 1 = cc (eq-eqb a b e) in
+    omega arith
+
+-- an accepted setup keeps them
+pub bounds : (u : Setup) → setupOk u ≡ true → Bounds u
+unfolding setupOk
+bounds u h =
+    let a = first (leb (u .«binary_count») 64) _ h in
+    let b = first (leb (u .«analog_count») 64) _ (a .1) in
+    let d = first (leb (u .outputs) 16) _ (b .1) in
+    let e = first (leb (u .own) 65519) _ (d .1) in
+    let f = first (leb (u .master) 65519) _ (e .1) in
+    let g = first (not (eqb (u .own) (u .master))) _ (f .1) in
+    let i = first (leb (u .«arm_time») 64000) _ (g .1) in
+    let j = first (leb 1 (u .«confirm_time»)) _ (i .1) in
+    let k = first (leb (u .«confirm_time») 60000) _ (j .1) in
+    record {
+      binaries = leb-true _ _ (a .0);
+      analogs = leb-true _ _ (b .0);
+      outputs = leb-true _ _ (d .0);
+      own = leb-true _ _ (e .0);
+      master = leb-true _ _ (f .0);
+      differ = unlike _ _ (g .0);
+      arm = leb-true _ _ (i .0);
+      some = leb-true _ _ (j .0);
+      confirm = leb-true _ _ (k .0);
+    }
+
+-- a setup that breaks one is not accepted
+pub broken : (u : Setup) → (Bounds u → ⊥) → false ≡ setupOk u
+broken u h = sym (refuted (setupOk u) (λ e. h (bounds u e)))
+
+-- a setup that keeps them is as good as its inputs
+module _ (u : Setup) (b : Bounds u) where
+  kept : setupOk u ≡ (all (map classOk (binaryClasses u)) && (all (map analogOk (analogSetups u)) && true))
+  unfolding setupOk
+  kept =
+      rw (
+        le-leb _ _ (b .binaries),
+        le-leb _ _ (b .analogs),
+        le-leb _ _ (b .outputs),
+        le-leb _ _ (b .own),
+        le-leb _ _ (b .master),
+        ne-eqb _ _ (b .differ),
+        le-leb _ _ (b .arm),
+        le-leb _ _ (b .some),
+        le-leb _ _ (b .confirm),
+      )
+
+  and-true : (t : Bool) → t ≡ (t && true)
+  and-true true = refl
+  and-true false = refl
+
+  pub good-classes : (t : Bool) → all (map classOk (take (u .«binary_count») (u .classes))) ≡ true → t ≡ all (map analogOk (take (u .«analog_count») (u .analogs))) → t ≡ setupOk u
+  unfolding binaryClasses analogSetups
+  good-classes t h e = rw (kept, h) (e ∙ and-true _)
+
+  pub bad-classes : all (map classOk (take (u .«binary_count») (u .classes))) ≡ false → false ≡ setupOk u
+  unfolding binaryClasses
+  bad-classes h = rw (kept, h)
+
+-- the outstation that a setup gives
+pub set-up : (u : Setup) (bs : List BinaryPoint) (ps : List AnalogPoint) (b : Buffer) (s : Session) → bs ≡ map freshBinary (u .classes) → ps ≡ map freshAnalog (u .analogs)
+    → queue b ≡ record { held = []; overflow = false } → exchangeOf s ≡ freshExchange
+    → world
+    (record {
+      «arm_time» = u .«arm_time»;
+      «confirm_time» = u .«confirm_time»;
+      outputs = u .outputs;
+      clock = 0;
+      points = record { binaries = bs; «binary_count» = u .«binary_count»; analogs = ps; «analog_count» = u .«analog_count» };
+      buffer = b;
+      session = s;
+    })
+    ≡ restarted u
+unfolding restarted inputs binaryClasses analogSetups
+set-up u bs ps b s eb ep q x =
+    λ k.
+    record {
+      armTime = u .«arm_time»;
+      confirmTime = u .«confirm_time»;
+      outputs = u .outputs;
+      clock = 0;
+      inputs =
+          record {
+            binaries = (ap (take (u .«binary_count»)) eb ∙ map-take freshBinary (u .«binary_count») (u .classes)) k;
+            analogs = (ap (take (u .«analog_count»)) ep ∙ map-take freshAnalog (u .«analog_count») (u .analogs)) k;
+          };
+      queue = q k;
+      exchange = x k;
+    }

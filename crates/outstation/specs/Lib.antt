@@ -1,0 +1,7 @@
+pub mod Setup
+pub mod World
+pub mod Readings
+pub mod Requests
+pub mod Step
+pub mod Contracts
+pub mod Singly

@@ -1,0 +1,40 @@
+-- The setup and its limits (document 01, "The cubicle's equipment"): refusal 5 exactly when one is broken.
+-- Assumes nothing.
+use Prim.Native.Nat.{ℕ}
+use mathlib.Core.Bool.{Bool, true, false, not, _&&_}
+use mathlib.Core.List.{List, [], _∷_, map}
+use lib.Dec.{leb, eqb}
+use lib.ListN.{take}
+use Rattle.laws.specs.Limits.{pointsMax, outputsMax, addressMax, armTimeMax, confirmTimeMax}
+use Rattle.laws.specs.Lists.{all}
+use Rattle.points.specs.Setup.{classOk, analogOk}
+use Rattle.points.specs.declared.AnalogSetup.{AnalogSetup}
+use Rattle.outstation.specs.declared.Setup.{Setup}
+
+-- the classes of the binary inputs, and the analog inputs: the first so many of the arrays
+unfoldable pub binaryClasses : Setup → List ℕ
+binaryClasses u = take (u .«binary_count») (u .classes)
+
+unfoldable pub analogSetups : Setup → List AnalogSetup
+analogSetups u = take (u .«analog_count») (u .analogs)
+
+-- the setup breaks no limit
+unfoldable pub setupOk : Setup → Bool
+setupOk u =
+    all
+    -- "At most 64 binary inputs, 64 analog inputs, 16 control outputs"
+    (leb (u .«binary_count») pointsMax
+    ∷ leb (u .«analog_count») pointsMax
+    ∷ leb (u .outputs) outputsMax
+    -- "Own and master addresses are 0 to 65,519 and differ."
+    ∷ leb (u .own) addressMax
+    ∷ leb (u .master) addressMax
+    ∷ not (eqb (u .own) (u .master))
+    -- "The arm time is 0 to 64,000 ms, the confirm time 1 to 60,000 ms."
+    ∷ leb (u .«arm_time») armTimeMax
+    ∷ leb 1 (u .«confirm_time»)
+    ∷ leb (u .«confirm_time») confirmTimeMax
+    -- "Every input has a class 0 to 3"; gain, offset and limits of float points finite, limits not below 0
+    ∷ all (map classOk (binaryClasses u))
+    ∷ all (map analogOk (analogSetups u))
+    ∷ [])

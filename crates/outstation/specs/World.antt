@@ -1,0 +1,82 @@
+-- The outstation as its contracts see it: numbers, and lists of what is in use.
+-- Assumes nothing.
+use Prim.Native.Nat.{ℕ}
+use mathlib.Core.Bool.{Bool, true, false}
+use mathlib.Core.List.{List, [], map}
+use Rattle.points.specs.Inputs.{Inputs, inputs}
+use lib.ListN.{replicate}
+use Rattle.points.specs.Setup.{freshBinary, freshAnalog}
+use Rattle.points.specs.declared.WholeGate.the-variants as W
+use Rattle.points.specs.declared.AnalogKind.the-variants as Ks
+use Rattle.events.specs.Queue.{Queue, queue}
+use Rattle.select.specs.Select.{Selection, noSelect, latchOf}
+use Rattle.repeat.specs.Repeat.{Memory, nothing, lastOf}
+use Rattle.outstation.specs.declared.Wait.{Wait}
+use Rattle.outstation.specs.declared.Wait.the-variants.{Idle, Awaiting}
+use Rattle.outstation.specs.declared.Session.{Session}
+use Rattle.outstation.specs.declared.Outstation.{Outstation}
+use Rattle.outstation.specs.declared.Setup.{Setup}
+use Rattle.outstation.specs.Setup.{binaryClasses, analogSetups}
+
+-- the exchange with the master: IIN1.7, the awaited confirmation, the last accepted request with its answer, the select latch
+pub record Exchange : Type 0 where
+  pub restarted : Bool
+  pub wait : Wait
+  pub last : Memory
+  pub latch : Selection
+
+pub record World : Type 0 where
+  pub armTime : ℕ
+  pub confirmTime : ℕ
+  pub outputs : ℕ
+  pub clock : ℕ
+  pub inputs : Inputs
+  pub queue : Queue
+  pub exchange : Exchange
+
+unfoldable pub exchangeOf : Session → Exchange
+exchangeOf s = record { restarted = s .restarted; wait = s .wait; last = lastOf (s .last); latch = latchOf (s .latch) }
+
+abbrev pub world : Outstation → World
+world o =
+    record {
+      armTime = o .«arm_time»;
+      confirmTime = o .«confirm_time»;
+      outputs = o .outputs;
+      clock = o .clock;
+      inputs = inputs (o .points);
+      queue = queue (o .buffer);
+      exchange = exchangeOf (o .session);
+    }
+
+-- after a restart: IIN1.7 stands, nothing is awaited, kept or selected
+abbrev pub freshExchange : Exchange
+freshExchange = record { restarted = true; wait = Idle; last = nothing; latch = noSelect }
+
+-- "A restart keeps only the setup."
+unfoldable pub restarted : Setup → World
+restarted u =
+    record {
+      armTime = u .«arm_time»;
+      confirmTime = u .«confirm_time»;
+      outputs = u .outputs;
+      clock = 0;
+      inputs = record { binaries = map freshBinary (binaryClasses u); analogs = map freshAnalog (analogSetups u) };
+      queue = record { held = []; overflow = false };
+      exchange = freshExchange;
+    }
+
+-- a setup with no points and no outputs: what a refused setup is replaced by, so that nothing can be reported or operated
+abbrev pub bareSetup : Setup
+bareSetup =
+    record {
+      own = 0;
+      master = 0;
+      «arm_time» = 0;
+      «confirm_time» = 0;
+      outputs = 0;
+      «binary_count» = 0;
+      «analog_count» = 0;
+      classes = replicate 64 0;
+      analogs = replicate 64 (record { class = 0; kind = Ks.Long W.Never });
+    }
