@@ -1,0 +1,71 @@
+-- Laws of a READ's deed, from what the READ is and what was put for it.
+-- Assumes nothing.
+use mathlib.Core.Path.{_≡_, refl, sym, ap, subst, _∙_}
+use mathlib.Core.Bool.{Bool, true, false, cond, _||_}
+use mathlib.Core.List.{List, []}
+use Prim.Native.Nat.{ℕ, _+_, _≤_}
+use native.Mathlib.Omega.{arith}
+use lib.ListN.{length}
+use Rattle.octets.specs.Bytes.{splice}
+use Rattle.octets.proofs.Splice.{splice-nil}
+use Rattle.laws.specs.Lists.{some}
+use Rattle.events.specs.Queue.{Queue, isCarried}
+use Rattle.request.specs.Parse.{Parsed, headers, fault}
+use Rattle.request.specs.declared.Header.{Header}
+use Rattle.static_objects.specs.Static.{readOf}
+use Rattle.read.specs.Response.{queueAfter, responseObjects}
+use Rattle.read.proofs.ResponseLaws.{response-fits}
+use Rattle.outstation.specs.declared.Wait.{Wait}
+use Rattle.outstation.specs.declared.Wait.the-variants.{Idle, Awaiting}
+use Rattle.outstation.specs.World.{World}
+use Rattle.outstation.specs.Step.{plainDeed, readFault}
+use Rattle.fragments.specs.declared.Deed.{Deed}
+use Rattle.fragments.specs.Given.{Worked, ReadDone, readDeedBy}
+
+module _ (w : World) (q time : ℕ) (r : Deed) (b a : List ℕ) (k : Queue) (size : ℕ) where
+  done-worked : (hs : List Header) → ReadDone r w q time k size → k ≡ queueAfter (w .inputs) (headers hs) (w .queue)
+      → size ≡ 4 + length (responseObjects (w .inputs) (headers hs) (w .queue)) → a ≡ splice b 4 (responseObjects (w .inputs) (headers hs) (w .queue))
+      → Worked r b a (readDeedBy w q time (headers hs))
+  done-worked hs done marked sized put =
+      record {
+        fault = done .fault;
+        con = done .con ∙ ap (λ (x : Queue). some isCarried (x .held) || x .overflow) marked;
+        size = done .sized ∙ sized;
+        lent = put;
+        operated = done .operated;
+        queue = done .queue ∙ marked;
+        wait =
+            done .wait
+            ∙ ap (λ (x : Queue). cond (some isCarried (x .held) || x .overflow) (Awaiting (record { 0 = q }) time (x .overflow) false) Idle) marked;
+        latch = done .latch;
+        restarted = done .restarted;
+      }
+
+  -- a READ of these headers
+  pub read-worked : (hs : List Header) (p : Parsed) → headers hs ≡ p → ReadDone r w q time k size → k ≡ queueAfter (w .inputs) p (w .queue)
+      → size ≡ 4 + length (responseObjects (w .inputs) p (w .queue)) → a ≡ splice b 4 (responseObjects (w .inputs) p (w .queue))
+      → Worked r b a (readDeedBy w q time p)
+  read-worked hs p e done =
+      subst
+      (λ (x : Parsed). k ≡ queueAfter (w .inputs) x (w .queue) → size ≡ 4 + length (responseObjects (w .inputs) x (w .queue))
+      → a ≡ splice b 4 (responseObjects (w .inputs) x (w .queue)) → Worked r b a (readDeedBy w q time x)) e
+      (done-worked hs done)
+
+-- a READ with a fault
+pub misread-worked : (w : World) (q time : ℕ) (r : Deed) (b a : List ℕ) (n : ℕ) (p : Parsed) → fault n ≡ p
+    → a ≡ splice b 4 (responseObjects (w .inputs) p (w .queue)) → Worked r b b (plainDeed w (readFault n) (w .exchange .restarted))
+    → Worked r b a (readDeedBy w q time p)
+misread-worked w q time r b a n p e put h =
+    let same : a ≡ b = put ∙ ap (λ (x : Parsed). splice b 4 (responseObjects (w .inputs) x (w .queue))) (sym e) ∙ splice-nil b 4 in
+    subst (λ (x : List ℕ). Worked r b x (readDeedBy w q time p)) (sym same)
+    (subst (λ (x : Parsed). Worked r b b (readDeedBy w q time x)) e h)
+
+read-objects : (w : World) (q time : ℕ) (p : Parsed) → readDeedBy w q time p .objects ≡ responseObjects (w .inputs) p (w .queue)
+read-objects w q time (headers hs) = refl
+read-objects w q time (fault n) = refl
+
+-- a READ's answer has at most 2,048 bytes
+pub read-most : (w : World) (q time : ℕ) (o : List ℕ) → 4 + length (readDeedBy w q time (readOf (w .inputs) o) .objects) ≤ 2048
+read-most w q time o =
+    let e = ap length (read-objects w q time (readOf (w .inputs) o)) in
+    omega (arith, e, response-fits (w .inputs) o (w .queue))

@@ -1,0 +1,17 @@
+-- What a fragment's contract says as the step of its call, the form that the event book takes.
+-- Assumes nothing.
+use mathlib.Core.Path.{_≡_}
+use mathlib.Core.List.{List}
+use Prim.Native.Nat.{ℕ}
+use lib.ListN.{length}
+use Rattle.outstation.specs.declared.Outstation.{Outstation}
+use Rattle.outstation.specs.World.{world}
+use Rattle.outstation.specs.Step.{fragment, step}
+use Rattle.outstation.specs.Contracts.{Did}
+use Rattle.fragments.specs.declared.Answered.{Answered}
+use Rattle.fragments.specs.Given.{fragmentAnswer, Given}
+
+pub given-did : (o : Outstation) (time : ℕ) (f b a : List ℕ) (r : Answered) → Given r b a (step (fragment time f (length b)) (world o))
+    → Did o (fragment time f (length b)) (fragmentAnswer r a) (r .state)
+unfolding Did
+given-did o time f b a r g = λ k. record { state = g .state k; answer = g .answer k }

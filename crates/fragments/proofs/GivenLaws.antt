@@ -1,0 +1,224 @@
+-- Laws of a fragment's result: the answer put together from a request's deed, what is kept, and what is left.
+-- Assumes nothing.
+use mathlib.Core.Path.{_≡_, refl, sym, ap, ap₂, _∙_}
+use mathlib.Core.Bool.{Bool, true, false, cond, not, _&&_}
+use mathlib.Core.List.{List, [], _∷_, _++_}
+use Prim.Native.Nat.{ℕ, _+_, _≤_}
+use native.Mathlib.Omega.{arith}
+use lib.Dec.{eqb}
+use lib.ListN.{length, take, length-append, length-take}
+use Rattle.octets.specs.Bytes.{splice}
+use Rattle.octets.proofs.Splice.{splice-nil}
+use Rattle.application.specs.declared.Fault.{Fault}
+use Rattle.application.specs.declared.Indications.{Indications}
+use Rattle.application.specs.Response.{responseOf}
+use Rattle.application.proofs.AnswerLaws.{answer-whole}
+use Rattle.control.specs.declared.Crob.{Crob}
+use Rattle.control.specs.declared.Crobs.{Crobs}
+use Rattle.control.specs.Objects.{listOf}
+use Rattle.select.specs.Select.{latchOf, effectOf}
+use Rattle.select.specs.declared.ControlFunction.{ControlFunction}
+use Rattle.select.specs.declared.ControlFunction.the-variants.{Select, Operate, DirectOperate, DirectOperateNoResponse}
+use Rattle.repeat.specs.declared.Last.{Last}
+use Rattle.repeat.specs.Repeat.{Memory, nothing, kept, lastOf, answerOf}
+use Rattle.repeat.proofs.ReplyLaws.{echo-most, unanswered-echo, answer-taken}
+use Rattle.events.specs.declared.Buffer.{Buffer}
+use Rattle.events.specs.Queue.{Queue, queue, released}
+use Rattle.outstation.specs.declared.Outstation.{Outstation}
+use Rattle.outstation.specs.declared.Wait.{Wait}
+use Rattle.outstation.specs.declared.Wait.the-variants.{Idle, Awaiting}
+use Rattle.application.specs.declared.ApplicationSequence.{ApplicationSequence}
+use Rattle.outstation.specs.Requests.{confirmed}
+use Rattle.outstation.specs.World.{World, world}
+use Rattle.outstation.specs.Step.{Answer, answers, silent, refuses, handed, lentAfter, Result, refusal, left, done, atTime, indicationsOf, indications, responseBytes, controlDeed, deedBy, readStep, requestStep, repeatStep, clearing, confirmedStep, confirmStep}
+use Rattle.outstation.specs.Step as S
+use Rattle.fragments.specs.declared.FragmentAnswer.{FragmentAnswer}
+use Rattle.fragments.specs.declared.FragmentAnswer.the-variants as Fs
+use Rattle.fragments.specs.declared.Answered.{Answered}
+use Rattle.fragments.specs.declared.Deed.{Deed}
+use Rattle.fragments.specs.Given.{answerBy, Given, Still, Worked}
+
+pub length-response : (q : ℕ) (con : Bool) (i : Indications) (f : Fault) → length (responseOf q con i f) ≡ 4
+unfolding responseOf
+length-response q con i f = refl
+
+-- ---- a refusal
+
+pub refused-given : (r : Answered) (o : Outstation) (a : FragmentAnswer) (n : ℕ) → r .state ≡ o → r .answer ≡ a → listOf (r .operated) ≡ []
+    → ((d : List ℕ) (x : List Crob) → answerBy a d x ≡ refuses n) → Still r (refusal n (world o))
+refused-given r o a n s e h k d =
+    record {
+      state = ap world s;
+      answer = ap (λ (b : FragmentAnswer). answerBy b d (listOf (r .operated))) e ∙ k d (listOf (r .operated));
+      operated = h;
+      lent = refl;
+    }
+
+-- ---- a CONFIRM
+
+-- the events that wait, and IIN2.3 by the rule
+pub overflow-stored : (b c : Buffer) (shown since x : Bool) → queue c ≡ released (queue b) → x ≡ cond (shown && not since) false (c .overflow)
+    → queue (record { held = c .held; count = c .count; overflow = x }) ≡ clearing shown since (released (queue b))
+unfolding queue
+overflow-stored b c shown since x e h =
+    λ k.
+    record {
+      held = e k .held;
+      overflow = (h ∙ ap (λ (y : Queue). cond (shown && not since) false (y .overflow)) e) k;
+    }
+
+module _ (o : Outstation) (v : Wait) (q : ℕ) (uns : Bool) (time : ℕ) (r : Answered) where
+  pub confirm-idle : v ≡ Idle → Still r (refusal 32 (world o)) → Still r (confirmStep (world o) v q uns time)
+  unfolding confirmStep
+  confirm-idle e h = rw e h
+
+  module _ (awaited : ApplicationSequence) (sent : ℕ) (shown since : Bool) (e : v ≡ Awaiting awaited sent shown since) where
+    pub confirm-late : confirmed (o .«confirm_time») q uns time (awaited .0) sent ≡ false → Still r (refusal 32 (world o)) → Still r (confirmStep (world o) v q uns time)
+    unfolding confirmStep
+    confirm-late t h = rw (e, t) h
+
+    pub confirm-good : confirmed (o .«confirm_time») q uns time (awaited .0) sent ≡ true → Still r (confirmedStep (world o) time shown since)
+        → Still r (confirmStep (world o) v q uns time)
+    unfolding confirmStep
+    confirm-good t h = rw (e, t) h
+
+-- ---- an answer
+
+module _ (q : ℕ) (r : Deed) (b a₁ a₂ : List ℕ) (d : S.Deed) (w : Worked r b a₁ d)
+    (put : a₂ ≡ splice a₁ 0 (responseOf q (r .con) (indicationsOf (queue (r .buffer)) (r .restarted)) (r .fault))) where
+  header-is : responseOf q (r .con) (indicationsOf (queue (r .buffer)) (r .restarted)) (r .fault) ≡ responseOf q (d .con) (indications d) (d .fault)
+  header-is = rw (w .con, w .queue, w .restarted, w .fault)
+
+  pub answer-lent : a₂ ≡ splice b 0 (responseBytes q d)
+  answer-lent =
+      put
+      ∙ ap₂ (λ (x h : List ℕ). splice x 0 h) (w .lent) header-is
+      ∙ answer-whole b (responseOf q (d .con) (indications d) (d .fault)) (d .objects) (length-response q (d .con) (indications d) (d .fault))
+
+  pub answer-size : r .size ≡ length (responseBytes q d)
+  answer-size =
+      w .size
+      ∙ sym
+      (length-append (responseOf q (d .con) (indications d) (d .fault)) (d .objects)
+      ∙ ap (λ (n : ℕ). n + length (d .objects)) (length-response q (d .con) (indications d) (d .fault)))
+
+  pub answer-is : r .size ≤ length b → take (r .size) a₂ ≡ responseBytes q d
+  answer-is room = answer-taken b a₂ (responseBytes q d) (r .size) answer-lent answer-size room
+
+-- ---- what is left
+
+module _ (w s : World) (r : Deed) (b a₁ : List ℕ) (d : S.Deed) (worked : Worked r b a₁ d) (time : ℕ) (m : Memory) (f a : List ℕ)
+    (leaves : s ≡ left w time m (queue (r .buffer)) (r .wait) (latchOf (r .latch)) (r .restarted)) (keeps : m ≡ kept f a) where
+  pub left-done : s ≡ done w time f a d
+  left-done =
+      leaves
+      ∙ (λ k.
+      record {
+        armTime = w .armTime;
+        confirmTime = w .confirmTime;
+        outputs = w .outputs;
+        clock = time;
+        inputs = w .inputs;
+        queue = worked .queue k;
+        exchange = record { restarted = worked .restarted k; wait = worked .wait k; last = keeps k; latch = worked .latch k };
+      })
+
+-- ---- a deed's objects
+
+-- an answer that is kept has at most 113 bytes
+pub objects-most : (w : World) (q function time : ℕ) (o : List ℕ) → length (deedBy w q function time o .objects) ≤ 109
+objects-most w q function time o = go (eqb function 2) (eqb function 3) (eqb function 4) (eqb function 5) (eqb function 6)
+  where
+    most : (f : ControlFunction) → length (controlDeed w f q time o .objects) ≤ 109
+    most f = echo-most (w .outputs) (w .armTime) (w .exchange .latch) f q time o
+    go : (a b c d e : Bool)
+        → length
+        (cond a (S.writeDeed w o)
+        (cond b (controlDeed w Select q time o)
+        (cond c (controlDeed w Operate q time o)
+        (cond d (controlDeed w DirectOperate q time o)
+        (cond e (controlDeed w DirectOperateNoResponse q time o)
+        (S.plainDeed w Fault.FunctionUnknown (w .exchange .restarted)))))) .objects) ≤ 109
+    go true b c d e = omega arith
+    go false true c d e = most Select
+    go false false true d e = most Operate
+    go false false false true e = most DirectOperate
+    go false false false false true = most DirectOperateNoResponse
+    go false false false false false = omega arith
+
+-- function 6 is never answered, so it has no objects
+pub silent-objects : (w : World) (q function time : ℕ) (o : List ℕ) → function ≡ 6 → deedBy w q function time o .objects ≡ []
+silent-objects w q function time o e =
+    ap (λ (n : ℕ). deedBy w q n time o .objects) e
+    ∙ unanswered-echo (w .outputs) (w .armTime) (w .exchange .latch) DirectOperateNoResponse q time o refl
+
+-- ---- the answered request
+
+module _ (o s : Outstation) (q time : ℕ) (f : List ℕ) (r : Deed) (b a₁ : List ℕ) (d : S.Deed) (worked : Worked r b a₁ d) (m : Memory)
+    (leaves : world s ≡ left (world o) time m (queue (r .buffer)) (r .wait) (latchOf (r .latch)) (r .restarted)) where
+  pub silent-given : (function : ℕ) → eqb function 6 ≡ true → d .objects ≡ [] → m ≡ kept f []
+      → Given (record { answer = Fs.Silent; operated = r .operated; state = s }) b a₁ (requestStep (world o) q function time f d)
+  unfolding requestStep
+  silent-given function e none keeps =
+      rw e
+      (record {
+        state = left-done (world o) (world s) r b a₁ d worked time m f [] leaves keeps;
+        answer = ap silent (worked .operated);
+        operated = worked .operated;
+        lent = worked .lent ∙ ap (splice b 4) none ∙ splice-nil b 4;
+      })
+
+  module _ (a₂ : List ℕ)
+      (put : a₂ ≡ splice a₁ 0 (responseOf q (r .con) (indicationsOf (queue (r .buffer)) (r .restarted)) (r .fault))) (room : r .size ≤ length b) where
+    pub request-given : (function : ℕ) → eqb function 6 ≡ false → m ≡ kept f (take (r .size) a₂)
+        → Given (record { answer = Fs.Answer (r .size); operated = r .operated; state = s }) b a₂ (requestStep (world o) q function time f d)
+    unfolding requestStep
+    request-given function e keeps =
+        let bytes : take (r .size) a₂ ≡ responseBytes q d = answer-is q r b a₁ a₂ d worked put room in
+        rw e
+        (record {
+          state = left-done (world o) (world s) r b a₁ d worked time m f (responseBytes q d) leaves (keeps ∙ ap (kept f) bytes);
+          answer = ap₂ answers bytes (worked .operated);
+          operated = worked .operated;
+          lent = answer-lent q r b a₁ a₂ d worked put;
+        })
+
+    pub read-given : (none : Crobs) → listOf none ≡ [] → m ≡ kept f []
+        → Given (record { answer = Fs.Answer (r .size); operated = none; state = s }) b a₂ (readStep (world o) q time f d)
+    unfolding readStep
+    read-given none e keeps =
+        record {
+          state = left-done (world o) (world s) r b a₁ d worked time m f [] leaves keeps;
+          answer = ap₂ answers (answer-is q r b a₁ a₂ d worked put room) e;
+          operated = e;
+          lent = answer-lent q r b a₁ a₂ d worked put;
+        }
+
+-- ---- a repeat
+
+-- the kept answer is at most its array
+pub kept-short : (m : Last) → length (m .answer) ≡ 113 → length (answerOf (lastOf m)) ≤ 113
+unfolding lastOf
+kept-short m e = go (m .held)
+  where
+    go : (h : Bool) → length (answerOf (cond h (kept (take (m .«request_len») (m .request)) (take (m .«answer_len») (m .answer))) nothing)) ≤ 113
+    go true = simp length-take (omega arith)
+    go false = omega arith
+
+module _ (o s : Outstation) (function time : ℕ) (none : Crobs) (b : List ℕ) (same : world s ≡ atTime time (world o)) (no : listOf none ≡ []) where
+  pub repeat-silent : eqb function 6 ≡ true → Given (record { answer = Fs.Silent; operated = none; state = s }) b b (repeatStep (world o) function time)
+  unfolding repeatStep
+  repeat-silent e = rw e (record { state = same; answer = ap silent no; operated = no; lent = refl })
+
+  pub repeat-given : (a : List ℕ) (n : ℕ) → eqb function 6 ≡ false → a ≡ splice b 0 (answerOf (world o .exchange .last))
+      → n ≡ length (answerOf (world o .exchange .last)) → n ≤ length b
+      → Given (record { answer = Fs.Answer n; operated = none; state = s }) b a (repeatStep (world o) function time)
+  unfolding repeatStep
+  repeat-given a n e put size room =
+      rw e
+      (record {
+        state = same;
+        answer = ap₂ answers (answer-taken b a (answerOf (world o .exchange .last)) n put size room) no;
+        operated = no;
+        lent = put;
+      })

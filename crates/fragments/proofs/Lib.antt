@@ -1,0 +1,4 @@
+pub mod GivenLaws
+pub mod DeedLaws
+pub mod AskLaws
+pub mod DidLaws

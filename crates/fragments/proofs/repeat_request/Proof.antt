@@ -1,0 +1,43 @@
+-- `fragments::repeat_request` meets its contract. Assumes nothing.
+use Rattle.fragments.proofs.GivenLaws.{repeat-silent, repeat-given}
+use Rattle.outstation.specs.World.{exchangeOf}
+use borrow.Author.Tests.{eq-eqb, ne-eqb}
+use mathlib.Core.Path.{_≡_, refl, sym, ap, ap₂, _∙_}
+use borrow.Author.Needs.{needs}
+use Rattle.fragments.proofs.repeat_request.Statement.{statement}
+use Rattle.fragments.proofs.repeat_request.Tie as tie
+use Rattle.fragments.proofs.repeat_request.Reads as reads
+use Rattle.fragments.proofs.repeat_request.Lts as lts
+use Rattle.control.proofs.none.Reads as none-reads
+use Rattle.fragments.proofs.again.Reads as again-reads
+
+-- src/lib.rt:434:9
+none-requires : tie.Need-none-requires
+none-requires c κs = search needs
+
+-- src/lib.rt:437:9
+returns : tie.Need-returns
+returns c =
+    let a = c .before .before .before .args in
+    repeat-silent (a .o) _ (a .function) (a .time) (c .before .none .result) (a .out .now) refl (c .before .none .ensures .0) (eq-eqb _ _ (c .if1 .taken))
+
+-- src/lib.rt:445:9
+again-requires : tie.Need-again-requires
+again-requires c κs = search needs
+
+-- src/lib.rt:428:1
+same-length : tie.Need-same-length
+same-length c = search needs
+
+-- src/lib.rt:428:1
+returns-2 : tie.Need-returns-2
+unfolding exchangeOf
+returns-2 c =
+    let a = c .before .before .before .before .before .before .before .before .before .args in
+    let an = c .before .before .again in
+    let no = c .before .before .before .before .before .before .before .none in
+    repeat-given (a .o) _ (a .function) (a .time) (no .result) (a .out .now) refl (no .ensures .0) _ (an .result) (ne-eqb _ _ (c .before .before .before .before .before .before .if1 .left)) (an .ensures .0) (an .ensures .1) (an .ensures .2)
+
+pub repeat-request-spec : {M : Type 1} → statement M
+repeat-request-spec =
+    tie.close (tie.spec none-requires returns again-requires same-length returns-2)
