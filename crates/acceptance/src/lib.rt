@@ -1,0 +1,1 @@
+// No code: the acceptance table of document 01, proved as one statement about the rules.
