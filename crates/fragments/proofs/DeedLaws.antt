@@ -1,8 +1,8 @@
 -- Laws of a READ's deed, from what the READ is and what was put for it.
 -- Assumes nothing.
 use mathlib.Core.Path.{_≡_, refl, sym, ap, subst, _∙_}
-use mathlib.Core.Bool.{Bool, true, false, cond, _||_}
-use mathlib.Core.List.{List, []}
+use mathlib.Core.Bool.{false, cond, _||_}
+use mathlib.Core.List.{List}
 use Prim.Native.Nat.{ℕ, _+_, _≤_}
 use native.Mathlib.Omega.{arith}
 use lib.ListN.{length}
@@ -15,7 +15,6 @@ use Rattle.request.specs.declared.Header.{Header}
 use Rattle.static_objects.specs.Static.{readOf}
 use Rattle.read.specs.Response.{queueAfter, responseObjects}
 use Rattle.read.proofs.ResponseLaws.{response-fits}
-use Rattle.outstation.specs.declared.Wait.{Wait}
 use Rattle.outstation.specs.declared.Wait.the-variants.{Idle, Awaiting}
 use Rattle.outstation.specs.World.{World}
 use Rattle.outstation.specs.Step.{plainDeed, readFault}

@@ -1,6 +1,5 @@
 -- What a fragment's contract says as the step of its call, the form that the event book takes.
 -- Assumes nothing.
-use mathlib.Core.Path.{_≡_}
 use mathlib.Core.List.{List}
 use Prim.Native.Nat.{ℕ}
 use lib.ListN.{length}

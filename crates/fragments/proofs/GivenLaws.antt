@@ -2,7 +2,7 @@
 -- Assumes nothing.
 use mathlib.Core.Path.{_≡_, refl, sym, ap, ap₂, _∙_}
 use mathlib.Core.Bool.{Bool, true, false, cond, not, _&&_}
-use mathlib.Core.List.{List, [], _∷_, _++_}
+use mathlib.Core.List.{List, []}
 use Prim.Native.Nat.{ℕ, _+_, _≤_}
 use native.Mathlib.Omega.{arith}
 use lib.Dec.{eqb}
@@ -16,7 +16,7 @@ use Rattle.application.proofs.AnswerLaws.{answer-whole}
 use Rattle.control.specs.declared.Crob.{Crob}
 use Rattle.control.specs.declared.Crobs.{Crobs}
 use Rattle.control.specs.Objects.{listOf}
-use Rattle.select.specs.Select.{latchOf, effectOf}
+use Rattle.select.specs.Select.{latchOf}
 use Rattle.select.specs.declared.ControlFunction.{ControlFunction}
 use Rattle.select.specs.declared.ControlFunction.the-variants.{Select, Operate, DirectOperate, DirectOperateNoResponse}
 use Rattle.repeat.specs.declared.Last.{Last}
@@ -30,7 +30,7 @@ use Rattle.outstation.specs.declared.Wait.the-variants.{Idle, Awaiting}
 use Rattle.application.specs.declared.ApplicationSequence.{ApplicationSequence}
 use Rattle.outstation.specs.Requests.{confirmed}
 use Rattle.outstation.specs.World.{World, world}
-use Rattle.outstation.specs.Step.{Answer, answers, silent, refuses, handed, lentAfter, Result, refusal, left, done, atTime, indicationsOf, indications, responseBytes, controlDeed, deedBy, readStep, requestStep, repeatStep, clearing, confirmedStep, confirmStep}
+use Rattle.outstation.specs.Step.{Answer, answers, silent, refuses, refusal, left, done, atTime, indicationsOf, indications, responseBytes, controlDeed, deedBy, readStep, requestStep, repeatStep, clearing, confirmedStep, confirmStep}
 use Rattle.outstation.specs.Step as S
 use Rattle.fragments.specs.declared.FragmentAnswer.{FragmentAnswer}
 use Rattle.fragments.specs.declared.FragmentAnswer.the-variants as Fs
@@ -131,6 +131,7 @@ objects-most w q function time o = go (eqb function 2) (eqb function 3) (eqb fun
   where
     most : (f : ControlFunction) → length (controlDeed w f q time o .objects) ≤ 109
     most f = echo-most (w .outputs) (w .armTime) (w .exchange .latch) f q time o
+
     go : (a b c d e : Bool)
         → length
         (cond a (S.writeDeed w o)

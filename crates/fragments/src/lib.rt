@@ -315,13 +315,7 @@ fn read_done(o: Outstation, q: ApplicationSequence, time: u64, b: Buffer, size: 
 }
 
 // A READ, of the bytes after control and function.
-fn read_deed(
-    o: Outstation,
-    q: ApplicationSequence,
-    time: u64,
-    s: &[u8],
-    out: &mut [u8],
-) -> Deed
+fn read_deed(o: Outstation, q: ApplicationSequence, time: u64, s: &[u8], out: &mut [u8]) -> Deed
     requires { ⌜ 2048 ≤ length (now out) ⌝ }
     ensures { λ r. ⌜ Worked r (now (out .entry)) (now (out .exit)) (readDeedBy (world o) (q .0) time (readOf (world o .inputs) (now (s .entry)))) ⌝ }
 {

@@ -1,35 +1,25 @@
--- `fragments::accept_confirm` meets its contract. Assumes nothing.
-use Rattle.fragments.proofs.GivenLaws.{overflow-stored}
-use Rattle.outstation.specs.Step.{confirmedStep}
-use Rattle.points.specs.Inputs.{inputs}
-use mathlib.Core.Path.{_≡_, refl, sym, ap, ap₂, _∙_}
+-- `fragments::accept_confirm` meets its contract.
+-- Assumes nothing.
+use mathlib.Core.Path.{refl}
 use borrow.Author.Needs.{needs}
+use Rattle.points.specs.Inputs.{inputs}
+use Rattle.outstation.specs.Step.{confirmedStep}
+use Rattle.fragments.proofs.GivenLaws.{overflow-stored}
 use Rattle.fragments.proofs.accept_confirm.Statement.{statement}
 use Rattle.fragments.proofs.accept_confirm.Tie as tie
-use Rattle.fragments.proofs.accept_confirm.Reads as reads
-use Rattle.fragments.proofs.accept_confirm.Lts as lts
-use Rattle.control.proofs.none.Reads as none-reads
-use Rattle.events.proofs.release.Reads as release-reads
-use Rattle.fragments.proofs.idle_session.Reads as idle-session-reads
-use Rattle.fragments.proofs.still_dropped.Reads as still-dropped-reads
 
--- src/lib.rt:157:9
 release-requires : tie.Need-release-requires
 release-requires c κs = search needs
 
--- src/lib.rt:158:5
 still-dropped-requires : tie.Need-still-dropped-requires
 still-dropped-requires c κs = search needs
 
--- src/lib.rt:162:5
 idle-session-requires : tie.Need-idle-session-requires
 idle-session-requires c κs = search needs
 
--- src/lib.rt:164:9
 none-requires : tie.Need-none-requires
 none-requires c κs = search needs
 
--- src/lib.rt:152:1
 returns : tie.Need-returns
 unfolding confirmedStep
 returns c =

@@ -1,4 +1,5 @@
--- `fragments::again` meets its contract. Assumes nothing.
+-- `fragments::again` meets its contract.
+-- Assumes nothing.
 use mathlib.Core.Path.{_≡_}
 use Prim.Native.Nat.{_≤_}
 use native.Mathlib.Omega.{arith}

@@ -1,68 +1,51 @@
--- `fragments::answer_read` meets its contract. Assumes nothing.
-use Rattle.fragments.proofs.GivenLaws.{read-given}
-use Rattle.fragments.proofs.DeedLaws.{read-most}
-use Rattle.fragments.specs.Given.{Worked, readDeedBy}
-use Rattle.outstation.specs.World.{world}
-use Rattle.static_objects.specs.Static.{readOf}
-use Rattle.application.specs.Fragment.{objectsOf}
-use Rattle.laws.proofs.Filling.{to-end}
-use lib.ListN.{length}
-use native.Mathlib.Omega.{arith}
-use Prim.Native.Nat.{ℕ, _+_, _-_, _≤_}
+-- `fragments::answer_read` meets its contract.
+-- Assumes nothing.
 use mathlib.Core.List.{List}
-use mathlib.Core.Path.{_≡_, subst}
+use mathlib.Core.Path.{subst}
+use Prim.Native.Nat.{ℕ, _≤_}
+use native.Mathlib.Omega.{arith}
 use borrow.Author.Needs.{needs}
+use lib.ListN.{length}
+use Rattle.laws.proofs.Filling.{to-end}
+use Rattle.application.specs.Fragment.{objectsOf}
+use Rattle.static_objects.specs.Static.{readOf}
+use Rattle.outstation.specs.World.{world}
+use Rattle.fragments.proofs.DeedLaws.{read-most}
+use Rattle.fragments.proofs.GivenLaws.{read-given}
+use Rattle.fragments.specs.Given.{Worked, readDeedBy}
 use Rattle.fragments.proofs.answer_read.Statement.{statement}
 use Rattle.fragments.proofs.answer_read.Tie as tie
-use Rattle.fragments.proofs.answer_read.Reads as reads
-use Rattle.fragments.proofs.answer_read.Lts as lts
-use Rattle.control.proofs.none.Reads as none-reads
-use Rattle.fragments.proofs.leave.Reads as leave-reads
-use Rattle.fragments.proofs.put_header.Reads as put-header-reads
-use Rattle.fragments.proofs.read_deed.Reads as read-deed-reads
-use Rattle.repeat.proofs.remember.Reads as remember-reads
 
--- src/lib.rt:402:35
 sub-read-deed : tie.Need-sub-read-deed
 sub-read-deed c = search needs
 
--- src/lib.rt:402:35
 part-read-deed-start : tie.Need-part-read-deed-start
 part-read-deed-start c = search needs
 
--- src/lib.rt:402:35
 part-read-deed-end : tie.Need-part-read-deed-end
 part-read-deed-end c = search needs
 
--- src/lib.rt:402:9
 read-deed-requires : tie.Need-read-deed-requires
 read-deed-requires c κs = search needs
 
--- src/lib.rt:403:5
 put-header-requires : tie.Need-put-header-requires
 put-header-requires c κs = search needs
 
--- src/lib.rt:404:36
 slice-aggregate-remember : tie.Need-slice-aggregate-remember
 slice-aggregate-remember c = search needs
 
--- src/lib.rt:404:9
 remember-requires : tie.Need-remember-requires
 remember-requires c κs = search needs
 
--- src/lib.rt:407:9
 none-requires : tie.Need-none-requires
 none-requires c κs = search needs
 
--- src/lib.rt:411:16
 leave-requires : tie.Need-leave-requires
 leave-requires c κs = search needs
 
--- src/lib.rt:392:1
 same-length : tie.Need-same-length
 same-length c = search needs
 
--- src/lib.rt:392:1
 returns : tie.Need-returns
 returns c =
     let a = c .before .before .before .before .before .before .before .before .before .before .before .before .before .before .before .args in

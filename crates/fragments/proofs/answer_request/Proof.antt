@@ -1,59 +1,45 @@
--- `fragments::answer_request` meets its contract. Assumes nothing.
-use Rattle.fragments.proofs.GivenLaws.{objects-most, silent-objects, silent-given, request-given}
-use Rattle.fragments.specs.Given.{Worked}
-use Rattle.outstation.specs.Step.{deedBy}
-use Rattle.outstation.specs.World.{world}
-use Rattle.application.specs.Fragment.{objectsOf}
-use Rattle.laws.proofs.Filling.{to-end}
-use lib.ListN.{length, take, drop, length-take}
-use borrow.Author.Tests.{eq-eqb, ne-eqb}
-use native.Mathlib.Omega.{arith}
-use Prim.Native.Nat.{ℕ, _+_, _-_, _≤_}
+-- `fragments::answer_request` meets its contract.
+-- Assumes nothing.
 use mathlib.Core.List.{List}
 use mathlib.Core.Path.{_≡_, subst}
+use Prim.Native.Nat.{ℕ, _-_, _≤_}
+use native.Mathlib.Omega.{arith}
 use borrow.Author.Needs.{needs}
+use borrow.Author.Tests.{eq-eqb, ne-eqb}
+use lib.ListN.{length, take, drop, length-take}
+use Rattle.laws.proofs.Filling.{to-end}
+use Rattle.application.specs.Fragment.{objectsOf}
+use Rattle.outstation.specs.Step.{deedBy}
+use Rattle.outstation.specs.World.{world}
+use Rattle.fragments.proofs.GivenLaws.{objects-most, silent-objects, silent-given, request-given}
+use Rattle.fragments.specs.Given.{Worked}
 use Rattle.fragments.proofs.answer_request.Statement.{statement}
 use Rattle.fragments.proofs.answer_request.Tie as tie
-use Rattle.fragments.proofs.answer_request.Reads as reads
-use Rattle.fragments.proofs.answer_request.Lts as lts
-use Rattle.fragments.proofs.deed_of.Reads as deed-of-reads
-use Rattle.fragments.proofs.leave.Reads as leave-reads
-use Rattle.fragments.proofs.put_header.Reads as put-header-reads
-use Rattle.repeat.proofs.remember.Reads as remember-reads
 
--- src/lib.rt:405:43
 sub-deed-of : tie.Need-sub-deed-of
 sub-deed-of c = search needs
 
--- src/lib.rt:405:43
 part-deed-of-start : tie.Need-part-deed-of-start
 part-deed-of-start c = search needs
 
--- src/lib.rt:405:43
 part-deed-of-end : tie.Need-part-deed-of-end
 part-deed-of-end c = search needs
 
--- src/lib.rt:405:9
 deed-of-requires : tie.Need-deed-of-requires
 deed-of-requires c κs = search needs
 
--- src/lib.rt:408:40
 slice-aggregate-remember : tie.Need-slice-aggregate-remember
 slice-aggregate-remember c = search needs
 
--- src/lib.rt:408:13
 remember-requires : tie.Need-remember-requires
 remember-requires c κs = search needs
 
--- src/lib.rt:413:20
 leave-requires : tie.Need-leave-requires
 leave-requires c κs = search needs
 
--- src/lib.rt:410:9
 same-length : tie.Need-same-length
 same-length c = search needs
 
--- src/lib.rt:410:9
 returns : tie.Need-returns
 returns c =
     let a = c .before .before .before .before .before .before .before .before .before .before .before .before .args in
@@ -66,11 +52,9 @@ returns c =
     silent-given (a .o) (c .leave .result) (a .q .0) (a .time) (a .f .now) (dd .result) (a .out .now) _ _ worked _ (c .leave .ensures) (a .function)
     (eq-eqb _ _ is) (silent-objects w (a .q .0) (a .function) (a .time) (objectsOf (a .f .now)) is) (c .before .remember .ensures)
 
--- src/lib.rt:416:5
 put-header-requires : tie.Need-put-header-requires
 put-header-requires c κs = search needs
 
--- src/lib.rt:418:36
 slice-reshare-prefix-remember : tie.Need-slice-reshare-prefix-remember
 slice-reshare-prefix-remember c =
     let a = c .before .before .before .before .before .before .before .before .before .before .before .before .before .args in
@@ -82,7 +66,6 @@ slice-reshare-prefix-remember c =
     let pre = c .before .before .before .before .before .before .before .before .before .before .before .before .before .pre in
     omega (arith, small, same, pre)
 
--- src/lib.rt:418:36
 slice-aggregate-remember-2 : tie.Need-slice-aggregate-remember-2
 slice-aggregate-remember-2 c =
     let a = c .before .before .before .before .before .before .before .before .before .before .before .before .before .before .args in
@@ -94,7 +77,6 @@ slice-aggregate-remember-2 c =
     let pre = c .before .before .before .before .before .before .before .before .before .before .before .before .before .before .pre in
     simp length-take (omega (arith, small, same, pre))
 
--- src/lib.rt:418:9
 remember-requires-2 : tie.Need-remember-requires-2
 remember-requires-2 c κs =
     let a = c .before .before .before .before .before .before .before .before .before .before .before .before .before .before .args in
@@ -106,15 +88,12 @@ remember-requires-2 c κs =
     let pre = c .before .before .before .before .before .before .before .before .before .before .before .before .before .before .pre in
     (pre .1, simp length-take (omega (arith, small, same, pre)))
 
--- src/lib.rt:423:16
 leave-requires-2 : tie.Need-leave-requires-2
 leave-requires-2 c κs = search needs
 
--- src/lib.rt:394:1
 same-length-2 : tie.Need-same-length-2
 same-length-2 c = search needs
 
--- src/lib.rt:394:1
 returns-2 : tie.Need-returns-2
 returns-2 c =
     let a = c .before .before .before .before .before .before .before .before .before .before .before .before .before .before .before .before .args in

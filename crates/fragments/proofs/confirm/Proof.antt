@@ -1,38 +1,28 @@
--- `fragments::confirm` meets its contract. Assumes nothing.
+-- `fragments::confirm` meets its contract.
+-- Assumes nothing.
+use mathlib.Core.Path.{refl, sym, _∙_}
+use borrow.Author.Needs.{needs}
+use Rattle.outstation.specs.World.{exchangeOf}
 use Rattle.fragments.proofs.GivenLaws.{refused-given, confirm-idle, confirm-late, confirm-good}
 use Rattle.fragments.specs.declared.FragmentAnswer.the-variants as Fs
-use Rattle.outstation.specs.World.{exchangeOf}
-use mathlib.Core.Path.{_≡_, refl, sym, ap, ap₂, _∙_}
-use borrow.Author.Needs.{needs}
 use Rattle.fragments.proofs.confirm.Statement.{statement}
 use Rattle.fragments.proofs.confirm.Tie as tie
-use Rattle.fragments.proofs.confirm.Reads as reads
-use Rattle.fragments.proofs.confirm.Lts as lts
-use Rattle.fragments.proofs.accept_confirm.Reads as accept-confirm-reads
-use Rattle.fragments.proofs.in_time.Reads as in-time-reads
-use Rattle.fragments.proofs.refuse.Reads as refuse-reads
 
--- src/lib.rt:178:33
 enum-told : tie.Need-enum-told
 enum-told c = search needs
 
--- src/lib.rt:178:23
 refuse-requires : tie.Need-refuse-requires
 refuse-requires c κs = search needs
 
--- src/lib.rt:180:13
 enum-known-w : tie.Need-enum-known-w
 enum-known-w c = search needs
 
--- src/lib.rt:185:16
 in-time-requires : tie.Need-in-time-requires
 in-time-requires c κs = search needs
 
--- src/lib.rt:186:17
 accept-confirm-requires : tie.Need-accept-confirm-requires
 accept-confirm-requires c κs = search needs
 
--- src/lib.rt:186:17
 returns : tie.Need-returns
 unfolding exchangeOf
 returns c =
@@ -41,11 +31,9 @@ returns c =
     confirm-good (a .o) (a .o .session .wait) (a .q .0) (a .uns) (a .time) (c .accept-confirm .result) (g .0 .0) (g .0 .1 .0) (g .0 .1 .1 .0) (g .0 .1 .1 .1 .0) (g .1)
     (sym (c .before .before .in-time .ensures) ∙ c .before .if1 .taken) (c .accept-confirm .ensures)
 
--- src/lib.rt:188:13
 refuse-requires-2 : tie.Need-refuse-requires-2
 refuse-requires-2 c κs = search needs
 
--- src/lib.rt:172:1
 returns-2 : tie.Need-returns-2
 unfolding exchangeOf
 returns-2 c =
@@ -54,7 +42,6 @@ returns-2 c =
     confirm-idle (a .o) (a .o .session .wait) (a .q .0) (a .uns) (a .time) (c .refuse .result) (c .before .enum-told .given .1)
     (refused-given (c .refuse .result) (a .o) Fs.NotConfirmed 32 (e .0) (e .1) (e .2) (λ d x. refl))
 
--- src/lib.rt:172:1
 returns-3 : tie.Need-returns-3
 unfolding exchangeOf
 returns-3 c =

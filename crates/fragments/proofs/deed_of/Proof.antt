@@ -1,84 +1,64 @@
--- `fragments::deed_of` meets its contract. Assumes nothing.
-use Rattle.outstation.specs.World.{exchangeOf}
-use borrow.Author.Tests.{eq-eqb, ne-eqb}
+-- `fragments::deed_of` meets its contract.
+-- Assumes nothing.
 use borrow.Author.Needs.{needs}
+use borrow.Author.Tests.{eq-eqb, ne-eqb}
+use Rattle.outstation.specs.World.{exchangeOf}
 use Rattle.fragments.proofs.deed_of.Statement.{statement}
 use Rattle.fragments.proofs.deed_of.Tie as tie
-use Rattle.fragments.proofs.deed_of.Reads as reads
-use Rattle.fragments.proofs.deed_of.Lts as lts
-use Rattle.fragments.proofs.control_deed.Reads as control-deed-reads
-use Rattle.fragments.proofs.plain_deed.Reads as plain-deed-reads
-use Rattle.fragments.proofs.write_deed.Reads as write-deed-reads
 
--- src/lib.rt:375:9
 write-deed-requires : tie.Need-write-deed-requires
 write-deed-requires c κs = search needs
 
--- src/lib.rt:375:9
 returns : tie.Need-returns
 returns c = rw (eq-eqb _ _ (c .before .if1 .taken)) (c .write-deed .ensures (c .before .before .before .before .args .out .now))
 
--- src/lib.rt:378:9
 control-deed-requires : tie.Need-control-deed-requires
 control-deed-requires c κs = search needs
 
--- src/lib.rt:378:9
 same-length : tie.Need-same-length
 same-length c = search needs
 
--- src/lib.rt:378:9
 returns-2 : tie.Need-returns-2
 returns-2 c =
     rw (ne-eqb _ _ (c .before .before .before .before .before .if1 .left), eq-eqb _ _ (c .before .before .before .before .if2 .taken))
     (c .before .before .control-deed .ensures)
 
--- src/lib.rt:381:9
 control-deed-requires-2 : tie.Need-control-deed-requires-2
 control-deed-requires-2 c κs = search needs
 
--- src/lib.rt:381:9
 same-length-2 : tie.Need-same-length-2
 same-length-2 c = search needs
 
--- src/lib.rt:381:9
 returns-3 : tie.Need-returns-3
 returns-3 c =
     rw (ne-eqb _ _ (c .before .before .before .before .before .before .if1 .left), ne-eqb _ _ (c .before .before .before .before .before .if2 .left), eq-eqb _ _ (c .before .before .before .before .if3 .taken))
     (c .before .before .control-deed2 .ensures)
 
--- src/lib.rt:384:9
 control-deed-requires-3 : tie.Need-control-deed-requires-3
 control-deed-requires-3 c κs = search needs
 
--- src/lib.rt:384:9
 same-length-3 : tie.Need-same-length-3
 same-length-3 c = search needs
 
--- src/lib.rt:384:9
 returns-4 : tie.Need-returns-4
 returns-4 c =
     rw (ne-eqb _ _ (c .before .before .before .before .before .before .before .if1 .left), ne-eqb _ _ (c .before .before .before .before .before .before .if2 .left), ne-eqb _ _ (c .before .before .before .before .before .if3 .left), eq-eqb _ _ (c .before .before .before .before .if4 .taken))
     (c .before .before .control-deed3 .ensures)
 
--- src/lib.rt:387:9
 control-deed-requires-4 : tie.Need-control-deed-requires-4
 control-deed-requires-4 c κs = search needs
 
--- src/lib.rt:387:9
 same-length-4 : tie.Need-same-length-4
 same-length-4 c = search needs
 
--- src/lib.rt:387:9
 returns-5 : tie.Need-returns-5
 returns-5 c =
     rw (ne-eqb _ _ (c .before .before .before .before .before .before .before .before .if1 .left), ne-eqb _ _ (c .before .before .before .before .before .before .before .if2 .left), ne-eqb _ _ (c .before .before .before .before .before .before .if3 .left), ne-eqb _ _ (c .before .before .before .before .before .if4 .left), eq-eqb _ _ (c .before .before .before .before .if5 .taken))
     (c .before .before .control-deed4 .ensures)
 
--- src/lib.rt:390:5
 plain-deed-requires : tie.Need-plain-deed-requires
 plain-deed-requires c κs = search needs
 
--- src/lib.rt:363:1
 returns-6 : tie.Need-returns-6
 unfolding exchangeOf
 returns-6 c =

@@ -1,32 +1,21 @@
--- `fragments::fragment` meets its contract. Assumes nothing.
+-- `fragments::fragment` meets its contract.
+-- Assumes nothing.
+use mathlib.Core.Path.{refl, sym, _∙_}
+use borrow.Author.Needs.{needs}
+use borrow.Author.Tests.{lt-ltb, le-ltb}
+use lib.ListN.{length}
 use Rattle.fragments.proofs.AskLaws.{request-sized, fragment-late, fragment-small, fragment-malformed, fragment-confirm, fragment-request}
 use Rattle.fragments.proofs.GivenLaws.{refused-given}
 use Rattle.fragments.specs.declared.FragmentAnswer.the-variants as Fs
-use Rattle.outstation.specs.World.{exchangeOf}
-use lib.ListN.{length}
-use borrow.Author.Tests.{lt-ltb, le-ltb}
-use native.Mathlib.Omega.{arith}
-use mathlib.Core.Path.{_≡_, refl, sym, ap, ap₂, _∙_}
-use borrow.Author.Needs.{needs}
 use Rattle.fragments.proofs.fragment.Statement.{statement}
 use Rattle.fragments.proofs.fragment.Tie as tie
-use Rattle.fragments.proofs.fragment.Reads as reads
-use Rattle.fragments.proofs.fragment.Lts as lts
-use Rattle.application.proofs.classify.Reads as classify-reads
-use Rattle.fragments.proofs.confirm.Reads as confirm-reads
-use Rattle.fragments.proofs.refuse.Reads as refuse-reads
-use Rattle.fragments.proofs.request.Reads as request-reads
-use Rattle.outstation.proofs.bad_time.Reads as bad-time-reads
 
--- src/lib.rt:534:8
 bad-time-requires : tie.Need-bad-time-requires
 bad-time-requires c κs = search needs
 
--- src/lib.rt:535:9
 refuse-requires : tie.Need-refuse-requires
 refuse-requires c κs = search needs
 
--- src/lib.rt:535:9
 returns : tie.Need-returns
 returns c =
     let a = c .before .before .before .before .before .args in
@@ -34,11 +23,9 @@ returns c =
     (sym (c .before .before .bad-time .ensures) ∙ c .before .if1 .taken)
     (refused-given (c .refuse .result) (a .o) Fs.Time 1 (c .refuse .ensures .0) (c .refuse .ensures .1) (c .refuse .ensures .2) (λ d x. refl) (a .out .now))
 
--- src/lib.rt:538:9
 refuse-requires-2 : tie.Need-refuse-requires-2
 refuse-requires-2 c κs = search needs
 
--- src/lib.rt:538:9
 returns-2 : tie.Need-returns-2
 returns-2 c =
     let a = c .before .before .before .before .before .before .args in
@@ -46,31 +33,24 @@ returns-2 c =
     (sym (c .before .before .before .bad-time .ensures) ∙ c .before .before .if1 .left) (lt-ltb _ _ (c .before .if2 .taken))
     (refused-given (c .refuse2 .result) (a .o) Fs.AnswerLent 33 (c .refuse2 .ensures .0) (c .refuse2 .ensures .1) (c .refuse2 .ensures .2) (λ d x. refl) (a .out .now))
 
--- src/lib.rt:540:9
 classify-requires : tie.Need-classify-requires
 classify-requires c κs = search needs
 
--- src/lib.rt:542:42
 enum-told : tie.Need-enum-told
 enum-told c = search needs
 
--- src/lib.rt:542:32
 refuse-requires-3 : tie.Need-refuse-requires-3
 refuse-requires-3 c κs = search needs
 
--- src/lib.rt:544:13
 enum-known-k : tie.Need-enum-known-k
 enum-known-k c = search needs
 
--- src/lib.rt:546:14
 confirm-requires : tie.Need-confirm-requires
 confirm-requires c κs = search needs
 
--- src/lib.rt:547:29
 enum-known-k-2 : tie.Need-enum-known-k-2
 enum-known-k-2 c = search needs
 
--- src/lib.rt:547:53
 request-requires : tie.Need-request-requires
 request-requires c κs =
     let a = c .before .before .before .before .before .before .before .before .before .before .args in
@@ -79,7 +59,6 @@ request-requires c κs =
     let z = request-sized (a .f .now) (cl .result) (g .0 .0) (g .0 .1 .0) (cl .ensures) (g .1) in
     (z .0, z .1, c .before .before .before .before .before .if2 .left)
 
--- src/lib.rt:531:1
 returns-3 : tie.Need-returns-3
 returns-3 c =
     let a = c .before .before .before .before .before .before .before .before .before .args in
@@ -88,7 +67,6 @@ returns-3 c =
     (sym (c .before .before .before .before .before .before .bad-time .ensures) ∙ c .before .before .before .before .before .if1 .left) (le-ltb _ _ (c .before .before .before .before .if2 .left)) (cl .result) (cl .ensures) (c .before .enum-told .given .1)
     (refused-given (c .refuse3 .result) (a .o) Fs.Malformed 31 (c .refuse3 .ensures .0) (c .refuse3 .ensures .1) (c .refuse3 .ensures .2) (λ d x. refl) (a .out .now))
 
--- src/lib.rt:531:1
 returns-4 : tie.Need-returns-4
 returns-4 c =
     let a = c .before .before .before .before .before .before .before .before .before .before .args in
@@ -98,11 +76,9 @@ returns-4 c =
     (sym (c .before .before .before .before .before .before .before .bad-time .ensures) ∙ c .before .before .before .before .before .before .if1 .left) (le-ltb _ _ (c .before .before .before .before .before .if2 .left)) (cl .result) (cl .ensures) (g .0 .0) (g .0 .1 .0) (g .1)
     (c .confirm .ensures (a .out .now))
 
--- src/lib.rt:531:1
 same-length : tie.Need-same-length
 same-length c = search needs
 
--- src/lib.rt:531:1
 returns-5 : tie.Need-returns-5
 returns-5 c =
     let a = c .before .before .before .before .before .before .before .before .before .before .before .before .before .args in

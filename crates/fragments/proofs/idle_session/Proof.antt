@@ -1,12 +1,10 @@
--- `fragments::idle_session` meets its contract. Assumes nothing.
-use mathlib.Core.Path.{_≡_, refl, sym, ap, ap₂, _∙_}
+-- `fragments::idle_session` meets its contract.
+-- Assumes nothing.
+use mathlib.Core.Path.{refl}
 use Rattle.outstation.specs.World.{exchangeOf}
 use Rattle.fragments.proofs.idle_session.Statement.{statement}
 use Rattle.fragments.proofs.idle_session.Tie as tie
-use Rattle.fragments.proofs.idle_session.Reads as reads
-use Rattle.fragments.proofs.idle_session.Lts as lts
 
--- src/lib.rt:138:1
 returns : tie.Need-returns
 unfolding exchangeOf
 returns c = refl

@@ -1,21 +1,16 @@
--- `fragments::indications_of` meets its contract. Assumes nothing.
-use mathlib.Core.Path.{_≡_, refl, sym, ap, ap₂, _∙_}
-use Rattle.events.specs.Queue.{queue}
+-- `fragments::indications_of` meets its contract.
+-- Assumes nothing.
 use borrow.Author.Needs.{needs}
+use Rattle.events.specs.Queue.{queue}
 use Rattle.fragments.proofs.indications_of.Statement.{statement}
 use Rattle.fragments.proofs.indications_of.Tie as tie
-use Rattle.fragments.proofs.indications_of.Reads as reads
-use Rattle.fragments.proofs.indications_of.Lts as lts
-use Rattle.events.proofs.left_behind.Reads as left-behind-reads
 
--- src/lib.rt:321:9
 left-behind-requires : tie.Need-left-behind-requires
 left-behind-requires c κs = search needs
 
--- src/lib.rt:318:1
 returns : tie.Need-returns
 unfolding queue
-returns c = 
+returns c =
     λ k.
     record {
       «class_1» = c .left-behind .ensures k .one;

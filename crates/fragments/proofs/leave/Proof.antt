@@ -1,12 +1,10 @@
--- `fragments::leave` meets its contract. Assumes nothing.
-use mathlib.Core.Path.{_≡_, refl, sym, ap, ap₂, _∙_}
+-- `fragments::leave` meets its contract.
+-- Assumes nothing.
+use mathlib.Core.Path.{refl}
 use Rattle.outstation.specs.World.{exchangeOf}
 use Rattle.fragments.proofs.leave.Statement.{statement}
 use Rattle.fragments.proofs.leave.Tie as tie
-use Rattle.fragments.proofs.leave.Reads as reads
-use Rattle.fragments.proofs.leave.Lts as lts
 
--- src/lib.rt:332:1
 returns : tie.Need-returns
 unfolding exchangeOf
 returns c = refl

@@ -1,29 +1,22 @@
--- `fragments::put_header` meets its contract. Assumes nothing.
+-- `fragments::put_header` meets its contract.
+-- Assumes nothing.
+use mathlib.Core.Path.{ap, _∙_}
+use borrow.Author.Needs.{needs}
+use Rattle.octets.specs.Bytes.{splice}
 use Rattle.application.specs.Response.{responseOf}
 use Rattle.application.specs.declared.Indications.{Indications}
-use Rattle.octets.specs.Bytes.{splice}
-use mathlib.Core.Path.{_≡_, refl, sym, ap, ap₂, _∙_}
-use borrow.Author.Needs.{needs}
 use Rattle.fragments.proofs.put_header.Statement.{statement}
 use Rattle.fragments.proofs.put_header.Tie as tie
-use Rattle.fragments.proofs.put_header.Reads as reads
-use Rattle.fragments.proofs.put_header.Lts as lts
-use Rattle.application.proofs.put_response.Reads as put-response-reads
-use Rattle.fragments.proofs.indications_of.Reads as indications-of-reads
 
--- src/lib.rt:357:9
 indications-of-requires : tie.Need-indications-of-requires
 indications-of-requires c κs = search needs
 
--- src/lib.rt:359:5
 put-response-requires : tie.Need-put-response-requires
 put-response-requires c κs = search needs
 
--- src/lib.rt:352:1
 same-length : tie.Need-same-length
 same-length c = search needs
 
--- src/lib.rt:352:1
 returns : tie.Need-returns
 returns c =
     let a = c .before .before .before .before .before .before .before .args in

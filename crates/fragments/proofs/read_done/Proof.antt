@@ -1,42 +1,29 @@
--- `fragments::read_done` meets its contract. Assumes nothing.
-use Rattle.outstation.specs.declared.Wait.the-variants.{Idle, Awaiting}
-use Rattle.outstation.specs.declared.Wait.{Wait}
-use Rattle.outstation.specs.World.{exchangeOf}
-use Rattle.events.specs.Queue.{queue}
+-- `fragments::read_done` meets its contract.
+-- Assumes nothing.
 use mathlib.Core.Bool.{Bool, false, cond, _||_}
-use mathlib.Core.Path.{_≡_, refl, sym, ap, ap₂, _∙_}
+use mathlib.Core.Path.{refl, ap, _∙_}
 use borrow.Author.Needs.{needs}
+use Rattle.events.specs.Queue.{queue}
+use Rattle.outstation.specs.World.{exchangeOf}
+use Rattle.outstation.specs.declared.Wait.the-variants.{Idle, Awaiting}
 use Rattle.fragments.proofs.read_done.Statement.{statement}
 use Rattle.fragments.proofs.read_done.Tie as tie
-use Rattle.fragments.proofs.read_done.Reads as reads
-use Rattle.fragments.proofs.read_done.Lts as lts
-use Rattle.control.proofs.none.Reads as none-reads
-use Rattle.events.proofs.any_carried.Reads as any-carried-reads
-use Rattle.fragments.proofs.either.Reads as either-reads
-use Rattle.fragments.proofs.wait_for.Reads as wait-for-reads
-use Rattle.select.proofs.empty.Reads as empty-reads
 
--- src/lib.rt:297:22
 any-carried-requires : tie.Need-any-carried-requires
 any-carried-requires c κs = search needs
 
--- src/lib.rt:297:9
 either-requires : tie.Need-either-requires
 either-requires c κs = search needs
 
--- src/lib.rt:298:9
 wait-for-requires : tie.Need-wait-for-requires
 wait-for-requires c κs = search needs
 
--- src/lib.rt:300:9
 none-requires : tie.Need-none-requires
 none-requires c κs = search needs
 
--- src/lib.rt:301:9
 empty-requires : tie.Need-empty-requires
 empty-requires c κs = search needs
 
--- src/lib.rt:294:1
 returns : tie.Need-returns
 unfolding queue exchangeOf
 returns c =

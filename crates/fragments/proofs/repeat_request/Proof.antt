@@ -1,35 +1,27 @@
--- `fragments::repeat_request` meets its contract. Assumes nothing.
-use Rattle.fragments.proofs.GivenLaws.{repeat-silent, repeat-given}
-use Rattle.outstation.specs.World.{exchangeOf}
-use borrow.Author.Tests.{eq-eqb, ne-eqb}
-use mathlib.Core.Path.{_≡_, refl, sym, ap, ap₂, _∙_}
+-- `fragments::repeat_request` meets its contract.
+-- Assumes nothing.
+use mathlib.Core.Path.{refl}
 use borrow.Author.Needs.{needs}
+use borrow.Author.Tests.{eq-eqb, ne-eqb}
+use Rattle.outstation.specs.World.{exchangeOf}
+use Rattle.fragments.proofs.GivenLaws.{repeat-silent, repeat-given}
 use Rattle.fragments.proofs.repeat_request.Statement.{statement}
 use Rattle.fragments.proofs.repeat_request.Tie as tie
-use Rattle.fragments.proofs.repeat_request.Reads as reads
-use Rattle.fragments.proofs.repeat_request.Lts as lts
-use Rattle.control.proofs.none.Reads as none-reads
-use Rattle.fragments.proofs.again.Reads as again-reads
 
--- src/lib.rt:434:9
 none-requires : tie.Need-none-requires
 none-requires c κs = search needs
 
--- src/lib.rt:437:9
 returns : tie.Need-returns
 returns c =
     let a = c .before .before .before .args in
     repeat-silent (a .o) _ (a .function) (a .time) (c .before .none .result) (a .out .now) refl (c .before .none .ensures .0) (eq-eqb _ _ (c .if1 .taken))
 
--- src/lib.rt:445:9
 again-requires : tie.Need-again-requires
 again-requires c κs = search needs
 
--- src/lib.rt:428:1
 same-length : tie.Need-same-length
 same-length c = search needs
 
--- src/lib.rt:428:1
 returns-2 : tie.Need-returns-2
 unfolding exchangeOf
 returns-2 c =

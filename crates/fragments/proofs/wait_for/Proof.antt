@@ -1,16 +1,12 @@
--- `fragments::wait_for` meets its contract. Assumes nothing.
-use mathlib.Core.Path.{_≡_, refl, sym, ap, ap₂, _∙_}
+-- `fragments::wait_for` meets its contract.
+-- Assumes nothing.
 use borrow.Author.Needs.{needs}
 use Rattle.fragments.proofs.wait_for.Statement.{statement}
 use Rattle.fragments.proofs.wait_for.Tie as tie
-use Rattle.fragments.proofs.wait_for.Reads as reads
-use Rattle.fragments.proofs.wait_for.Lts as lts
 
--- src/lib.rt:272:1
 returns : tie.Need-returns
 returns c = rw (c .if1 .taken)
 
--- src/lib.rt:272:1
 returns-2 : tie.Need-returns-2
 returns-2 c = search needs
 
