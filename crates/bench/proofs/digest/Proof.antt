@@ -1,0 +1,60 @@
+-- `bench::digest` is safe and ends. The measure is the number of slots that are left.
+-- Assumes nothing.
+use Prim.Native.Nat.{_-_}
+use borrow.Author.Needs.{needs}
+use native.Mathlib.Omega.{arith}
+use Rattle.bench.proofs.digest.Statement.{statement}
+use Rattle.bench.proofs.digest.Tie as tie
+
+abbrev Inv-loop : tie.InvT-loop
+Inv-loop sum b all₀ i₀ all i = Unit {0}
+
+abbrev μ-loop : tie.MeasureT-loop
+μ-loop sum b all₀ i₀ all i = 256 - i
+
+loop-holds : tie.Need-loop-holds Inv-loop μ-loop
+loop-holds c = tt
+
+mul-h : tie.Need-mul-h Inv-loop μ-loop
+mul-h c = search needs
+
+element-copy-out-h : tie.Need-element-copy-out-h Inv-loop μ-loop
+element-copy-out-h c = search needs
+
+fold-requires : tie.Need-fold-requires Inv-loop μ-loop
+fold-requires c κs = tt
+
+cast-fold : tie.Need-cast-fold Inv-loop μ-loop
+cast-fold c = search needs
+
+fold-requires-2 : tie.Need-fold-requires-2 Inv-loop μ-loop
+fold-requires-2 c κs = tt
+
+add-i : tie.Need-add-i Inv-loop μ-loop
+add-i c = omega arith
+
+loop-less : tie.Need-loop-less Inv-loop μ-loop
+loop-less c = omega arith
+
+loop-again : tie.Need-loop-again Inv-loop μ-loop
+loop-again c = tt
+
+returns : tie.Need-returns Inv-loop μ-loop
+returns c = tt
+
+pub digest-spec : {M : Type 1} → statement M
+digest-spec =
+    tie.close
+    (tie.spec
+    Inv-loop
+    μ-loop
+    loop-holds
+    mul-h
+    element-copy-out-h
+    fold-requires
+    cast-fold
+    fold-requires-2
+    add-i
+    loop-less
+    loop-again
+    returns)
