@@ -393,19 +393,14 @@ static bool call_frame_write(const struct word *w, size_t n) {
     size_t len, size, one;
     if (n != 6 || !length(w[1], &len) || w[2].size != 2 || !hex(w[2], &control, &one) || !number(w[3], 65535, &destination) || !number(w[4], 65535, &source) || !hex(w[5], given, &size)) return false;
     lend(len);
-    const struct pomarisco_wrote r = pomarisco_frame_write(lent, len, control, (uint16_t)destination, (uint16_t)source, given, size);
+    /* Control 44 is data to a master, which has its own call. */
+    const struct pomarisco_wrote r = control == 0x44 ? pomarisco_link_data(lent, len, (uint16_t)source, (uint16_t)destination, given, size)
+                                                     : pomarisco_frame_write(lent, len, control, (uint16_t)destination, (uint16_t)source, given, size);
     if (!refused(r.refusal)) {
         fputs("frame ", stdout);
         put_hex(lent, r.size);
     }
     spoilt(r.refusal == 0 ? r.size : 0, len);
-    /* Data to the station's master is written the same by its own call. */
-    if (there && control == 0x44 && destination == setup.master && source == setup.own) {
-        memcpy(before, lent, len);
-        lend(len);
-        const struct pomarisco_wrote d = pomarisco_link_data(lent, len, setup.own, setup.master, given, size);
-        if (d.refusal != r.refusal || d.size != r.size || memcmp(before, lent, len) != 0) fputs(" data differs", stdout);
-    }
     return true;
 }
 

@@ -93,8 +93,10 @@ static void fill(void) {
     for (uint64_t i = 0; i < 400; i++)
         pomarisco_reading_at(&outstation, (struct pomarisco_reading){.time = 20000 + i, .point = (uint16_t)(i % 64), .flags = 1, .state = (uint8_t)(i / 64 % 2)});
     expect(outstation.buffer.count == 256 && outstation.buffer.overflow == 1, "full");
+    /* A response with events is out, so that a CONFIRM is taken. */
+    answer = pomarisco_fragment_at(&outstation, 20500, events, sizeof events, out, sizeof out, &operated);
     full = outstation;
-    for (size_t i = 0; i < POMARISCO_TABLE; i++) table.readings[i] = (struct pomarisco_reading){.time = 30000, .point = (uint16_t)(i % 64), .flags = 1, .state = (uint8_t)(i / 64)};
+    for (size_t i = 0; i < POMARISCO_TABLE; i++) table.readings[i] = (struct pomarisco_reading){.time = 20600, .point = (uint16_t)(i % 64), .flags = 1, .state = (uint8_t)(i / 64)};
     table.count = POMARISCO_TABLE;
     frame_size = pomarisco_frame_write(frame, sizeof frame, 0xC4, 1, 2, user, sizeof user).size;
     expect(frame_size == 292, "frame");
@@ -102,19 +104,19 @@ static void fill(void) {
 
 static void nothing(void) {}
 static void restart(void) { refusal = pomarisco_restart_at(&outstation, &setup); }
-static void reading(void) { refusal = pomarisco_reading_at(&outstation, (struct pomarisco_reading){.time = 30000, .point = 3, .flags = 1}); }
+static void reading(void) { refusal = pomarisco_reading_at(&outstation, (struct pomarisco_reading){.time = 20600, .point = 3, .flags = 1}); }
 static void tables(void) { refusal = pomarisco_table_at(&outstation, &table, &taken); }
-static void read_events(void) { answer = pomarisco_fragment_at(&outstation, 40000, events, sizeof events, out, sizeof out, &operated); }
-static void read_class_0(void) { answer = pomarisco_fragment_at(&outstation, 40000, class_0, sizeof class_0, out, sizeof out, &operated); }
-static void control(void) { answer = pomarisco_fragment_at(&outstation, 40000, operate, sizeof operate, out, sizeof out, &operated); }
-static void confirm(void) { answer = pomarisco_fragment_at(&outstation, 40000, (const uint8_t[]){0xC3, 0}, 2, out, sizeof out, &operated); }
+static void read_events(void) { answer = pomarisco_fragment_at(&outstation, 20700, events, sizeof events, out, sizeof out, &operated); }
+static void read_class_0(void) { answer = pomarisco_fragment_at(&outstation, 20700, class_0, sizeof class_0, out, sizeof out, &operated); }
+static void control(void) { answer = pomarisco_fragment_at(&outstation, 20700, operate, sizeof operate, out, sizeof out, &operated); }
+static void confirm(void) { answer = pomarisco_fragment_at(&outstation, 20700, (const uint8_t[]){0xC3, 0}, 2, out, sizeof out, &operated); }
 static void frame_write(void) { refusal = pomarisco_frame_write(frame, sizeof frame, 0xC4, 1, 2, user, sizeof user).refusal; }
 static void frame_read(void) { refusal = pomarisco_frame_read(frame, frame_size, out, sizeof out).refusal; }
 static void link_receive(void) { refusal = pomarisco_link_receive_at(&line_record, 1, 2, frame, frame_size, out, sizeof out).refusal; }
 static void link_reply(void) { refusal = pomarisco_link_reply(frame, sizeof frame, 1, 2, 0).refusal; }
 static void link_data(void) { refusal = pomarisco_link_data(frame, sizeof frame, 1, 2, user, sizeof user).refusal; }
 static void segment_receive(void) { assembly.begun = 0; user[0] = 0xC0; refusal = pomarisco_segment_receive_at(&assembly, user, sizeof user, out, sizeof out).refusal; }
-static void segment_send(void) { refusal = pomarisco_segment_send_at(&sender, user, sizeof user, out, sizeof out).refusal; }
+static void segment_send(void) { sender.at = 0; refusal = pomarisco_segment_send_at(&sender, user, sizeof user, out, sizeof out).refusal; }
 
 static void *run(void *call) {
     (*(void (**)(void))call)();
@@ -165,7 +167,9 @@ int main(void) {
     const size_t base = stack_of(nothing);
     for (size_t i = 0; i < sizeof calls / sizeof calls[0]; i++) {
         outstation = full;
+        refusal = answer.refusal = 0;
         const size_t stack = stack_of(calls[i].call) - base;
+        expect(refusal == 0 && answer.refusal == 0, calls[i].name);
         printf("%-26s %8zu bytes of stack %8.2f us\n", calls[i].name, stack, time_of(calls[i].call));
     }
     return wrong;
