@@ -2,13 +2,13 @@
 -- Assumes nothing.
 use mathlib.Core.Path.{_≡_, refl, sym, ap, _∙_}
 use Prim.Native.Nat.{ℕ, zero, suc, _+_, _-_, _*_, _≤_, _<_, min}
-use native.Mathlib.Nat.{zero-min, min-zero, suc-min-suc}
 use native.Mathlib.Omega.{arith}
 use mathlib.Core.List.{List, [], _∷_, _++_}
 use lib.ListN.{length, take, drop, length-append, length-take, length-drop}
 use borrow.Author.Tests.{lt-ltb, le-ltb}
 use lib.Seq.{length-take-le, drop-drop, take-take}
 use mathlib.Core.Bool.{true, false, cond}
+use Rattle.laws.proofs.Parts.{part-is, part-length}
 use Rattle.octets.specs.Bytes.{splice, le}
 use Rattle.octets.proofs.Splice.{splice-append, stored-splice}
 use Rattle.octets.proofs.Le.{length-le}
@@ -21,20 +21,6 @@ use Rattle.frame.specs.declared.Read.the-variants.{Frame, Short, Start, 
 use Rattle.frame.proofs.Read as R
 use Rattle.laws.specs.Outcome.{accepted, refused}
 use Rattle.frame.specs.Frame.{readOf, checkedOf, lentAfterRead, bodyOf, decode, opened, sealOk, blocksOk, users, Parts, sealed, blocks, blockCount, frameSize, headerOf, encode, encodeInto}
-
--- what `&s[from..e]` is where e is the lesser of from + n and the length
-pub take-min : (n : ℕ) (l : List ℕ) → take (min n (length l)) l ≡ take n l
-take-min zero l = rw zero-min refl
-take-min (suc n) [] = rw min-zero refl
-take-min (suc n) (x ∷ l) = rw suc-min-suc (ap (λ (r : List ℕ). x ∷ r) (take-min n l))
-
-pub part-is : (n from e : ℕ) (s : List ℕ) → from ≤ length s → e ≡ min (from + n) (length s) → take (e - from) (drop from s) ≡ take n (drop from s)
-part-is n from e s h k =
-    let q : e - from ≡ min n (length (drop from s)) = simp length-drop (omega arith) in
-    rw q (take-min n (drop from s))
-
-pub part-length : (from e : ℕ) (s : List ℕ) → e ≤ length s → length (take (e - from) (drop from s)) ≡ e - from
-part-length from e s h = length-take-le (e - from) (drop from s) (simp length-drop (omega arith))
 
 pub length-sealed : (s : List ℕ) → length (sealed s) ≡ length s + 2
 unfolding sealed

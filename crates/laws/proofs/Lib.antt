@@ -3,6 +3,7 @@ pub mod Counted
 pub mod Filling
 pub mod Lists
 pub mod Loops
+pub mod Parts
 pub mod SameLaws
 pub mod Search
 pub mod Tests

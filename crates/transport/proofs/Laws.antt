@@ -9,6 +9,7 @@ use lib.ListN.{length, getD, take, drop, set, length-drop, length-take}
 use lib.Seq.{take-all, length-take-le}
 use lib.Dec.{ltb, leb, eqb}
 use borrow.Author.Tests.{lt-ltb, le-ltb, ltb-true, ltb-false, leb-true, leb-false, eq-eqb, ne-eqb, le-leb, lt-leb}
+use Rattle.laws.proofs.Parts.{part-is}
 use Rattle.laws.proofs.Tests.{passed-no, passed-yes}
 use Rattle.octets.specs.Bytes.{splice}
 use Rattle.octets.proofs.Splice.{splice-cons}
@@ -136,22 +137,11 @@ module _ (first last : Bool) (q : ℕ) where
 
 -- the part of the fragment from here, at most 249 bytes
 module _ (f : List ℕ) (at e : ℕ) (h : at < length f) (k : e ≡ min (at + 249) (length f)) where
-  pub part-is : take (e - at) (drop at f) ≡ take 249 (drop at f)
-  part-is = go (leb (at + 249) (length f)) refl
-    where
-      go : (b : Bool) → leb (at + 249) (length f) ≡ b → take (e - at) (drop at f) ≡ take 249 (drop at f)
-      go true t =
-          let l : at + 249 ≤ length f = leb-true _ _ t in
-          let n : e - at ≡ 249 = omega arith in
-          ap (λ (m : ℕ). take m (drop at f)) n
-      go false t =
-          let l : length f < at + 249 = leb-false _ _ t in
-          let n : length (drop at f) ≤ e - at = simp length-drop (omega arith) in
-          let m : length (drop at f) ≤ 249 = simp length-drop (omega arith) in
-          take-all (e - at) (drop at f) n ∙ sym (take-all 249 (drop at f) m)
+  segment-is : take (e - at) (drop at f) ≡ take 249 (drop at f)
+  segment-is = part-is 249 at e f (omega arith) k
 
-  pub part-length : length (take 249 (drop at f)) ≡ e - at
-  part-length = length-take 249 (drop at f) ∙ simp length-drop (omega arith)
+  segment-length : length (take 249 (drop at f)) ≡ e - at
+  segment-length = length-take 249 (drop at f) ∙ simp length-drop (omega arith)
 
 -- what is written, and what is kept
 module _ (p : Sender) (f : List ℕ) (at : ℕ) where
@@ -167,12 +157,12 @@ module _ (p : Sender) (f : List ℕ) (at : ℕ) where
 
     pub written-is : writtenOf (nextSegment p f) ≡ accepted (record { size = e - at + 1; last = lastAt at (length f) })
     written-is =
-        let n : suc (length (take 249 (drop at f))) ≡ e - at + 1 = omega (arith, part-length f at e h k) in
+        let n : suc (length (take 249 (drop at f))) ≡ e - at + 1 = omega (arith, segment-length f at e h k) in
         ap writtenOf next-is ∙ ap₂ (λ (m : ℕ) (b : Bool). accepted (record { size = m; last = b })) n (fin-header (eqb at 0) (lastAt at (length f)) (p .next .0))
 
     pub splice-is : (d : List ℕ) (x : ℕ) → x ≡ headerOf (eqb at 0) (lastAt at (length f)) (p .next .0)
         → splice (set d 0 x) 1 (take (e - at) (drop at f)) ≡ splice d 0 (nextSegment p f)
     splice-is d x ex =
-        ap₂ (λ (y : ℕ) (l : List ℕ). splice (set d 0 y) 1 l) ex (part-is f at e h k)
+        ap₂ (λ (y : ℕ) (l : List ℕ). splice (set d 0 y) 1 l) ex (segment-is f at e h k)
         ∙ sym (splice-cons d 0 (headerOf (eqb at 0) (lastAt at (length f)) (p .next .0)) (take 249 (drop at f)))
         ∙ ap (splice d 0) (sym next-is)
