@@ -107,6 +107,24 @@ fn reading(count: u64) -> u64 {
     sum
 }
 
+// The point's record in and out by value, in a call of its own as in the proved program.
+#[inline(never)]
+fn read_by_value(mut p: AnalogPoint, z: i32, flags: u8) -> (AnalogPoint, bool) {
+    let raised = p.read_whole(z, flags).unwrap_or(false);
+    (p, raised)
+}
+
+fn reading_by_value(count: u64) -> u64 {
+    let mut p = one_point(count);
+    let mut sum = 1u64;
+    for left in (1..=count).rev() {
+        let (next, raised) = read_by_value(p, (left % 4096) as i32, 1);
+        p = next;
+        sum = fold(sum, value_of(p.value) + raised as u64);
+    }
+    sum
+}
+
 fn event_of(n: u64) -> Event {
     Event {
         point: (n % 64) as u16,
@@ -250,6 +268,7 @@ fn run(name: &str, count: u64) -> Option<u64> {
         "frame-write-table" => frame_write(count, frame::check_table),
         "frame-read-table" => frame_read(count, frame::check_table),
         "reading" => reading(count),
+        "reading-by-value" => reading_by_value(count),
         "push" => push(count),
         "push-by-value" => push_by_value(count),
         "class-0" => class_0(count),
