@@ -1,4 +1,3 @@
-pub mod RowLists
 pub mod Rows
 pub mod Walk
 pub mod Past

@@ -17,7 +17,7 @@ use Rattle.outstation.specs.Step.{Call}
 use Rattle.book.specs.Book as B
 use Rattle.book.specs.Book.{Book, Row, Happening, drop!, built!, confirmed!, dropSince, picks, release, idle, awaiting, Wait}
 use Rattle.book.specs.Demand3.{Has, Pending}
-use Rattle.book.proofs.RowLists.{by}
+use Rattle.laws.proofs.Choices.{by}
 use Rattle.book.proofs.Walk.{Steps, enter-on}
 use Rattle.book.proofs.Rows.{since-held, since-dropped, heldRow, droppedRow}
 

@@ -21,7 +21,7 @@ use Rattle.book.specs.Book as B
 use Rattle.book.specs.Book.{Book, Row, Mark, held, released, dropped, isHeld, rowHeld, Wait, idle, awaiting, picks, release}
 use Rattle.book.specs.Book.{drop!, built!, confirmed!, Happening}
 use Rattle.book.specs.Demand3.{Has, noRow, markAt, ReleasedBy, Placed}
-use Rattle.book.proofs.RowLists.{by}
+use Rattle.laws.proofs.Choices.{by}
 use Rattle.book.proofs.Rows.{heldRow, droppedRow, picks-below}
 use Rattle.book.proofs.Walk.{Steps, enter-on}
 

@@ -25,7 +25,7 @@ use Rattle.outstation.specs.World.{World}
 use Rattle.outstation.specs.Requests.{malformed, asks, ask, readAsk}
 use Rattle.outstation.specs.Step.{Deed, deedBy}
 use Rattle.book.specs.Demand3.{overflowBit}
-use Rattle.book.proofs.RowLists.{by, split}
+use Rattle.laws.proofs.Choices.{by, split}
 
 -- ---- a repeat
 

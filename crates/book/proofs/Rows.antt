@@ -20,7 +20,7 @@ use Rattle.events.specs.Queue.{marked, carry, isCarried, waits}
 use Rattle.event_objects.specs.Events.{eventsBytes, carriedBytes, carriedObjects, carriedEvents}
 use Rattle.book.specs.Book.{Row, held, dropped, rowHeld, rowDropped, rowEvent, picks, release, dropSince}
 use Rattle.book.specs.Demand3.{eventAt, noRow}
-use Rattle.book.proofs.RowLists.{by, both, split, cond-eq, isNil-map, some-filter, some-drop-snoc}
+use Rattle.laws.proofs.Choices.{by, both, split, cond-eq, isNil-map, some-filter, some-drop-snoc}
 
 -- the rows marked held, from row i on, each with the mark that its number is among ws
 abbrev pub collect : List ℕ → ℕ → List Row → List Held

@@ -36,7 +36,7 @@ use Rattle.outstation.specs.Step.{Call, reading, table, fragment, answers, Resu
 use Rattle.book.specs.Book as B
 use Rattle.book.specs.Book.{Book, Row, Entry, Happening, rowHeld, dropSince, picked, release}
 use Rattle.book.specs.Demand3.{Pending, eventAt, Response, Carrying, Told}
-use Rattle.book.proofs.RowLists.{by, both, split, isNil-nil, nor-left}
+use Rattle.laws.proofs.Choices.{by, both, split, isNil-nil, nor-left}
 use Rattle.book.proofs.Rows.{collect, length-collect, collect-snoc, collect-none, heldRow, droppedRow, since-held, since-dropped}
 use Rattle.book.proofs.Rows.{picks-below, carry-collect, carried-bytes, carried-events, some-carried, keep-collect}
 use Rattle.book.proofs.Requests.{lastBytes, repeat-same, asks-inverse, Ends, deed-ends, response-long, response-objects, response-bit}

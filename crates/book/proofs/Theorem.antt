@@ -16,7 +16,7 @@ use Rattle.outstation.specs.Contracts.{Did}
 use Rattle.book.specs.Book.{Book, Row, Happening, held, released, dropped, isHeld, isReleased, isDropped}
 use Rattle.book.specs.Book.{rowHeld, rowReleased, rowDropped, enter, opened}
 use Rattle.book.specs.Demand3.{Pending, AllTold, bookAfter, historyAfter, Demand3, Demand3Holds, Ran, none, more}
-use Rattle.book.proofs.RowLists.{by}
+use Rattle.laws.proofs.Choices.{by}
 use Rattle.book.proofs.Rows.{collect, length-collect, events-collect}
 use Rattle.book.proofs.Step.{Sim, Match, step-ok, start-ok, waitRows}
 use Rattle.book.proofs.Past.{KeptBy, enter-kept, opened-kept}

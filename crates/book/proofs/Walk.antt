@@ -22,7 +22,7 @@ use Rattle.outstation.specs.Step.{Call, reading, table, fragment, onHeard}
 use Rattle.book.specs.Book as B
 use Rattle.book.specs.Book.{Book, Row, Entry, Wait, idle, awaiting, rowHeld, dropSince, picks, picked, release}
 use Rattle.book.specs.Book.{drop!, built!, confirmed!, Happening}
-use Rattle.book.proofs.RowLists.{by, split}
+use Rattle.laws.proofs.Choices.{by, split}
 use Rattle.book.proofs.Rows.{heldRow, droppedRow}
 
 -- what an invariant K of wait, rows, warning, number of responses built and history has to bear

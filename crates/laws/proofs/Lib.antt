@@ -1,4 +1,6 @@
 pub mod AllLaws
+pub mod AllLoop
+pub mod Choices
 pub mod Counted
 pub mod Filling
 pub mod Lists

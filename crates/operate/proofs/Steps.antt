@@ -31,7 +31,7 @@ use Rattle.outstation.specs.Readings.{badTime, Heard, hear}
 use Rattle.outstation.specs.Requests.{Ask, malformed, confirms, asks, ask, readAsk, confirmed}
 use Rattle.outstation.specs.Step as S
 use Rattle.outstation.specs.Step.{Call, reading, table, fragment, Answer, Result, Deed, onHeard, handed}
-use Rattle.book.proofs.RowLists.{by, both, split}
+use Rattle.laws.proofs.Choices.{by, both, split}
 use Rattle.operate.specs.Operated.{one, requestBy, requestOf, isReply, Hands, Handing}
 
 -- ---- a deed hands over what the list of requests says, and leaves the latch that it says

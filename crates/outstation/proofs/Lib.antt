@@ -1,4 +1,3 @@
 pub mod ReadLaws
-pub mod AllLoop
 pub mod SetupLaws
 pub mod StepLaws

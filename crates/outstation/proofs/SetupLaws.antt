@@ -20,7 +20,7 @@ use Rattle.outstation.specs.declared.Setup.{Setup}
 use Rattle.outstation.specs.declared.Session.{Session}
 use Rattle.outstation.specs.Setup.{binaryClasses, analogSetups, setupOk}
 use Rattle.outstation.specs.World.{exchangeOf, freshExchange, world, restarted}
-use Rattle.outstation.proofs.AllLoop.{map-take}
+use Rattle.laws.proofs.AllLoop.{map-take}
 
 -- the limits that are tests of numbers
 pub record Bounds (u : Setup) : Type 0 where

@@ -418,25 +418,6 @@ pub fn signed32(negative: bool, size: u64) -> i32
     0
 }
 
-// The same of a long number.
-pub fn signed64(negative: bool, size: u64) -> i64
-    ensures { λ r. ⌜ r ≡ fitted 9223372036854775808 negative size ⌝ }
-{
-    if negative {
-        if size <= 9223372036854775808 {
-            if size == 0 {
-                return 0;
-            }
-            return -((size - 1) as i64) - 1;
-        }
-        return 0;
-    }
-    if size <= 9223372036854775807 {
-        return size as i64;
-    }
-    0
-}
-
 // A whole reading.
 pub fn take_reading(s: &[u8], c: Cursor, mark: u8) -> Whole32 {
     let w = word(s, c, mark);
@@ -450,24 +431,6 @@ pub fn take_reading(s: &[u8], c: Cursor, mark: u8) -> Whole32 {
 }
 
 // A whole limit, and the cursor past it.
-pub struct Whole64 {
-    pub value: i64,
-    pub next: Cursor,
-}
-
-// A whole limit.
-pub fn take_limit(s: &[u8], c: Cursor, mark: u8) -> Whole64 {
-    let w = word(s, c, mark);
-    let from = w.from;
-    let to = w.to;
-    let n = signed_of(&s[from..to], 9223372036854775808, 9223372036854775807);
-    Whole64 {
-        value: signed64(n.negative, n.size),
-        next: judge(w.next, n.ok),
-    }
-}
-
-// How many bytes a word has, and the cursor past it.
 pub struct Run {
     pub len: usize,
     pub next: Cursor,

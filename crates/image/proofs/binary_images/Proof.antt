@@ -4,7 +4,7 @@ use mathlib.Core.Path.{_≡_}
 use Prim.Native.Nat.{_-_}
 use lib.ListN.{length}
 use Rattle.laws.proofs.Loops.{long}
-use Rattle.outstation.proofs.AllLoop.{Mapping, mapping-start, mapping-more, mapping-end}
+use Rattle.laws.proofs.AllLoop.{Mapping, mapping-start, mapping-more, mapping-end}
 use Rattle.image.specs.Image.{binaryImage}
 use borrow.Author.Needs.{needs}
 use Rattle.image.proofs.binary_images.Statement.{statement}

@@ -6,7 +6,7 @@ use native.Mathlib.Omega.{arith}
 use lib.ListN.{length}
 use Rattle.laws.proofs.Loops.{long}
 use Rattle.points.specs.Setup.{analogOk}
-use Rattle.outstation.proofs.AllLoop.{Passing, passing-start, passing-more, passing-fails, passing-end}
+use Rattle.laws.proofs.AllLoop.{Passing, passing-start, passing-more, passing-fails, passing-end}
 use borrow.Author.Needs.{needs}
 use Rattle.outstation.proofs.analogs_ok.Statement.{statement}
 use Rattle.outstation.proofs.analogs_ok.Tie as tie

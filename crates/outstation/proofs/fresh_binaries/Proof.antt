@@ -5,7 +5,7 @@ use Prim.Native.Nat.{_-_}
 use lib.ListN.{length}
 use Rattle.laws.proofs.Loops.{long}
 use Rattle.points.specs.Setup.{freshBinary}
-use Rattle.outstation.proofs.AllLoop.{Mapping, mapping-start, mapping-more, mapping-end}
+use Rattle.laws.proofs.AllLoop.{Mapping, mapping-start, mapping-more, mapping-end}
 use borrow.Author.Needs.{needs}
 use Rattle.outstation.proofs.fresh_binaries.Statement.{statement}
 use Rattle.outstation.proofs.fresh_binaries.Tie as tie
