@@ -217,10 +217,10 @@ fn event_of(n: u64) -> Event {
     let z = (n % 4096) as i32;
     let s = events::Shown::Analog(Value::Long(z));
     Event {
-        point: (n % 64) as u16,
-        shown: s,
-        flags: 1,
         time: n,
+        shown: s,
+        point: (n % 64) as u16,
+        flags: 1,
         class: 1,
     }
 }

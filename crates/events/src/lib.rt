@@ -17,12 +17,13 @@ pub enum Shown {
     Analog(Value),
 }
 
-// An event: its point, what it shows, the shown flags without the state, its reading's time, its point's class.
+// An event: its reading's time, what it shows, its point, the shown flags without the state, its point's class. The fields stand from
+// wide to narrow, so that a held event has 32 bytes and not 48.
 pub struct Event {
-    pub point: u16,
-    pub shown: Shown,
-    pub flags: u8,
     pub time: u64,
+    pub shown: Shown,
+    pub point: u16,
+    pub flags: u8,
     pub class: u8,
 }
 
@@ -55,10 +56,10 @@ pub struct Pack {
 fn blank() -> Held {
     Held {
         event: Event {
-            point: 0,
-            shown: Shown::State(false),
-            flags: 0,
             time: 0,
+            shown: Shown::State(false),
+            point: 0,
+            flags: 0,
             class: 0,
         },
         carried: false,

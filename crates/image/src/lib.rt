@@ -365,10 +365,10 @@ fn event_of(i: EventImage) -> Event
 {
     let s = i.shown;
     Event {
-        point: i.point,
-        shown: shown_of(s),
-        flags: i.flags,
         time: i.time,
+        shown: shown_of(s),
+        point: i.point,
+        flags: i.flags,
         class: i.class,
     }
 }
