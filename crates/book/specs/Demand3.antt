@@ -1,9 +1,9 @@
 -- Demand 3 as one statement over every list of calls. A history is what happened, newest first.
 -- Assumes nothing.
-use Prim.Native.Nat.{ℕ, zero, suc, _+_, _<_, _/_, _%_}
+use Prim.Native.Nat.{ℕ, _+_, _<_, _/_, _%_}
 use mathlib.Core.Path.{_≡_}
 use mathlib.Core.Logic.{_↔_}
-use mathlib.Core.Bool.{Bool, true, false, cond}
+use mathlib.Core.Bool.{Bool, true}
 use lib.Dec.{eqb}
 use mathlib.Core.List.{List, [], _∷_, _++_, map, List·Memᴰ}
 use lib.ListN.{length, getD, drop}
@@ -20,12 +20,12 @@ use Rattle.outstation.specs.World.{World, world, restarted}
 use Rattle.outstation.specs.Step.{Call, Answer, took, answers, silent, accepts, refuses}
 use Rattle.outstation.specs.Contracts.{Did}
 use Rattle.book.specs.Book as B
-use Rattle.book.specs.Book.{Book, Row, Mark, Entry, Said, Happening, drop!, built!, confirmed!, rowHeld, rowReleased, rowDropped, rowEvent, enter, opened}
+use Rattle.book.specs.Book.{Book, Row, Mark, Said, Happening, drop!, built!, confirmed!, rowHeld, rowReleased, rowDropped, rowEvent, enter, opened}
 
 abbrev pub Has : Happening → List Happening → Type 0
 Has x h = List·Memᴰ x h
 
--- "events had been dropped by then and no response built after the latest of those drops had been confirmed"
+-- when IIN2.3 is to stand: events were dropped, and no response built after the latest drop has been confirmed
 pub record Pending (h : List Happening) : Type 0 where
   pub later : List Happening
   pub row : ℕ

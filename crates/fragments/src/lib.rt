@@ -1,12 +1,12 @@
 // A fragment: refused, a CONFIRM, a repeat, or a request that is answered (document 01, "What the control room is told").
 ghost use mathlib.Core.Path.{_≡_};
 ghost use mathlib.Core.Bool.{cond, false, _||_, _&&_, not};
-ghost use mathlib.Core.List.{List, []};
-ghost use Prim.Native.Nat.{ℕ, _+_, _-_, _≤_};
-ghost use lib.ListN.{length, take};
+ghost use mathlib.Core.List.{[]};
+ghost use Prim.Native.Nat.{_+_, _-_, _≤_};
+ghost use lib.ListN.{length};
 ghost use Rattle.octets.specs.Bytes.{splice};
 ghost use Rattle.application.specs.Fragment.{objectsOf};
-ghost use Rattle.repeat.specs.Repeat.{lastOf, kept, answerOf};
+ghost use Rattle.repeat.specs.Repeat.{lastOf, answerOf};
 ghost use Rattle.control.specs.Objects.{listOf};
 ghost use Rattle.static_objects.specs.Static.{readOf};
 ghost use Rattle.outstation.specs.World.{world, exchangeOf};
@@ -14,13 +14,11 @@ ghost use Rattle.outstation.specs.Requests.{confirmed};
 ghost use Rattle.outstation.specs.Step.{
   fragment,
   step,
-  refusal,
   withWait,
   plainDeed,
   writeDeed,
   controlDeed,
   deedBy,
-  responseBytes,
   readStep,
   requestStep,
   repeatStep,

@@ -1,7 +1,7 @@
 -- Reading gives back what was written, and writing what was read gives back the bytes.
 -- Assumes nothing.
 use mathlib.Core.Path.{_≡_, refl, sym, ap, _∙_, subst}
-use mathlib.Core.Bool.{Bool, true, false}
+use mathlib.Core.Bool.{true}
 use Prim.Native.Nat.{ℕ, zero, suc, _+_, _-_, _*_, _≤_, _<_}
 use native.Mathlib.Omega.{arith}
 use mathlib.Core.List.{List, [], _∷_, _++_, append-assoc, append-nil}
@@ -13,7 +13,7 @@ use Rattle.laws.proofs.Tests.{passed-no, passed-yes, both-true}
 use Rattle.octets.specs.Bytes.{le, value, valueAt, AreBytes}
 use Rattle.octets.proofs.Le.{length-le, value-le, le-value, take-bytes, drop-bytes}
 use Rattle.crc.specs.Check.{checkOf}
-use Rattle.laws.specs.Outcome.{Outcome, accepted, refused}
+use Rattle.laws.specs.Outcome.{accepted}
 use Rattle.frame.specs.Frame.{Parts, parts, sealed, blocks, blockCount, frameSize, headerOf, encode, opened, sealOk, blocksOk, users, bodyOf, decodeBody, decode}
 use Rattle.frame.proofs.Laws.{length-sealed, length-blocks, length-header, length-encode, length-body, length-user}
 

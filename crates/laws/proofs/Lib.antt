@@ -3,7 +3,6 @@ pub mod AllLoop
 pub mod Choices
 pub mod Counted
 pub mod Filling
-pub mod Lists
 pub mod Loops
 pub mod Parts
 pub mod SameLaws

@@ -1,14 +1,14 @@
 -- Laws of a loop that goes once over the first n slots of an array and rewrites it in place.
 -- The invariant is one equation: what is finished, followed by what the specification G makes of the slots still to come,
 -- is what G makes of all of them: `take j ys ++ G (slice i n ys) ≡ G (take n xs)`.
-use mathlib.Core.Path.{_≡_, refl, sym, ap, _∙_, subst}
+use mathlib.Core.Path.{_≡_, refl, sym, ap, _∙_}
 use mathlib.Core.Bool.{Bool, true, false}
-use mathlib.Core.List.{List, [], _∷_, _++_, map, append-assoc, append-nil}
-use Prim.Native.Nat.{ℕ, zero, suc, _+_, _≤_, _<_, min, suc-le-suc}
+use mathlib.Core.List.{List, [], _∷_, _++_, map, append-nil}
+use Prim.Native.Nat.{ℕ, zero, suc, _+_, _≤_, _<_, min}
 use native.Mathlib.Nat.{le-of-suc-le-suc, not-suc-le-zero, suc-min-suc, zero-min, min-zero}
 use native.Mathlib.Numerals.{add-one}
 use native.Mathlib.Omega.{arith}
-use lib.ListN.{length, take, drop, getD, set, length-map, take-append-drop}
+use lib.ListN.{length, take, getD, set, length-map, take-append-drop}
 use Rattle.laws.specs.Lists.{filter}
 use lib.Seq.{slice, slice-cons, slice-empty, take-suc, take-suc-set, take-take, getD-take, append-snoc}
 

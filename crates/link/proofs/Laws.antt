@@ -10,14 +10,14 @@ use denote.Enum.Declared.{tagOf}
 use types.Run.{OneOf}
 use Rattle.octets.specs.Bytes.{splice}
 use Rattle.laws.specs.Outcome.{Outcome, accepted, refused}
-use Rattle.frame.specs.Frame.{Parts, parts, decode, checkedOf, Whole, userOf, frameSize}
+use Rattle.frame.specs.Frame.{decode, checkedOf, Whole, userOf, frameSize}
 use Rattle.frame.proofs.Laws.{decode-lent, decode-room, length-user, user-front}
 use Rattle.frame.specs.declared.Read.{Read}
 use Rattle.frame.specs.declared.Read.the-variants.{Frame, Short, Start, HeaderCheck, Length, BlockCheck, ReadLent}
 use Rattle.link.specs.declared.Station.{Station}
 use Rattle.link.specs.declared.Taken.{Taken}
 use Rattle.link.specs.declared.Taken.the-variants.{UserData, Reply}
-use Rattle.link.specs.Station.{Verdict, hands, replies, notTaken, judge, Action, userData, reply, actionOf, takes, station, answerFor, takenOf, takenBy, settledOf, lentAfter}
+use Rattle.link.specs.Station.{Verdict, hands, replies, notTaken, judge, Action, userData, actionOf, takes, station, answerFor, takenOf, takenBy, settledOf, lentAfter}
 use Rattle.laws.specs.Outcome.{numberOf}
 use Rattle.link.proofs.Taken as T
 use Rattle.link.specs.declared.Taken.the-variants as Case

@@ -1,7 +1,6 @@
 // The station on its link: which frames it takes, what it replies, and the line record.
 ghost use mathlib.Core.Path.{_≡_};
 ghost use mathlib.Core.Bool.{cond};
-ghost use Prim.Native.Nat.{_≤_};
 ghost use lib.ListN.{length};
 ghost use mathlib.Core.List.{[]};
 ghost use lib.Dec.{eqb};

@@ -16,12 +16,6 @@ unfolding le
 length-le zero v = refl
 length-le (suc n) v = ap suc (length-le n (v / 256))
 
-pub le-bytes : (n v : ℕ) → AreBytes (le n v)
-unfolding le
-le-bytes zero v i = omega arith
-le-bytes (suc n) v zero = omega arith
-le-bytes (suc n) v (suc i) = le-bytes n (v / 256) i
-
 -- one byte fewer: what a turn of a loop over the width does
 pub le-more : (n v : ℕ) → 0 < n → le n v ≡ v % 256 ∷ le (n - 1) (v / 256)
 unfolding le

@@ -1,14 +1,14 @@
 -- What the public functions' contracts cite: the step of their own call, and the answer that a result stands for.
 -- Assumes nothing.
-use Prim.Native.Nat.{ℕ}
 use mathlib.Core.Path.{_≡_}
-use mathlib.Core.Bool.{Bool, cond}
+use Prim.Native.Nat.{ℕ}
+use mathlib.Core.Bool.{cond}
 use lib.Dec.{eqb}
 use Rattle.outstation.specs.declared.Outstation.{Outstation}
 use Rattle.outstation.specs.declared.ReadingAnswer.{ReadingAnswer}
 use Rattle.outstation.specs.declared.ReadingAnswer.the-variants as Rs
 use Rattle.outstation.specs.declared.Took.{Took}
-use Rattle.outstation.specs.World.{World, world}
+use Rattle.outstation.specs.World.{world}
 use Rattle.outstation.specs.declared.Reading.{Reading}
 use Rattle.outstation.specs.declared.SetupAnswer.{SetupAnswer}
 use Rattle.outstation.specs.declared.SetupAnswer.the-variants as Us

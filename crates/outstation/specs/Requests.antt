@@ -1,8 +1,8 @@
 -- What a fragment asks, as the outstation and the event book both read it (document 01, "What the control room is told").
 -- Assumes nothing.
 use Prim.Native.Nat.{ℕ, _-_}
-use mathlib.Core.Bool.{Bool, true, false, not, cond, _&&_}
-use mathlib.Core.List.{List, []}
+use mathlib.Core.Bool.{Bool, not, cond, _&&_}
+use mathlib.Core.List.{List}
 use lib.Dec.{eqb, leb}
 use Rattle.laws.specs.Outcome.{Outcome, accepted, refused}
 use Rattle.application.specs.Fragment.{Kind, confirm, request, classified, objectsOf}

@@ -2,7 +2,7 @@
 -- Assumes nothing.
 use Prim.Native.Nat.{ℕ}
 use mathlib.Core.Bool.{Bool, true, false}
-use mathlib.Core.List.{List, [], map}
+use mathlib.Core.List.{[], map}
 use Rattle.points.specs.Inputs.{Inputs, inputs}
 use lib.ListN.{replicate}
 use Rattle.points.specs.Setup.{freshBinary, freshAnalog}
@@ -12,7 +12,7 @@ use Rattle.events.specs.Queue.{Queue, queue}
 use Rattle.select.specs.Select.{Selection, noSelect, latchOf}
 use Rattle.repeat.specs.Repeat.{Memory, nothing, lastOf}
 use Rattle.outstation.specs.declared.Wait.{Wait}
-use Rattle.outstation.specs.declared.Wait.the-variants.{Idle, Awaiting}
+use Rattle.outstation.specs.declared.Wait.the-variants.{Idle}
 use Rattle.outstation.specs.declared.Session.{Session}
 use Rattle.outstation.specs.declared.Outstation.{Outstation}
 use Rattle.outstation.specs.declared.Setup.{Setup}

@@ -9,21 +9,16 @@ use native.Mathlib.Nat.{
   le-trans,
   mul-le-mul,
   mul-le-mul-right,
-  mul-pos,
   lt-of-mul-lt-mul-right,
   zero-mul,
-  eq-or-lt-of-le,
 }
 use native.Mathlib.Omega.{arith}
-use mathlib.Core.Logic.{⊎-elim}
-use mathlib.Core.Bool.{Bool, true, false, not, _&&_, _||_, true≢false, false≢true}
+use mathlib.Core.Bool.{Bool, true, false, not, true≢false, false≢true}
 use lib.IntN.{ℤ, pos, negsuc}
-use lib.Dec.{T, ltb, leb, eqb, leb→le, nleb→lt, lit≤, lit<}
+use lib.Dec.{T, leb, leb→le, nleb→lt, lit≤}
 use lib.Pow.{pow-add, pow-pos, pow-mono}
 use lib.Ieee.{Float, nan, inf, fin, binary32, up, down, lt, le, fits}
-use lib.Ieee.Fits.{down-pos}
-use lib.Ieee.Scale.{finite}
-use borrow.Author.Tests.{le-ltb, lt-ltb, eq-eqb}
+use borrow.Author.Tests.{le-ltb}
 use Rattle.points.specs.Scaling.{largest, limitedTo}
 use Rattle.points.proofs.Identity.{fits-says}
 
@@ -86,41 +81,3 @@ within nan h k = refl
 within (inf true) h k = absurd (true≢false k)
 within (inf false) h k = absurd (true≢false h)
 within (fin s m e) h k = refl
-
--- ---- a finite value, told by two comparisons
-or-true : (b : Bool) → (b || true) ≡ true
-or-true true = refl
-or-true false = refl
-
--- a ≤ b, as `le` tests it of two numbers that are not negative, and of two that are not positive
-le-tests : (a b : ℕ) → a ≤ b → ((ltb a b || (eqb a b && true)) ≡ true) × ((ltb a b || (eqb b a && true)) ≡ true)
-le-tests a b h =
-    ⊎-elim
-    (λ e. (rw (eq-eqb a b e) (or-true (ltb a b)), rw (eq-eqb b a (sym e)) (or-true (ltb a b))))
-    (λ l. (rw (lt-ltb a b l) refl, rw (lt-ltb a b l) refl))
-    (eq-or-lt-of-le h)
-
-some : (a b : ℕ) → 0 < b → (0 < a + b) × (0 < b + a)
-some a b h = (omega arith, omega arith)
-
-le-largest : (s : Bool) (m : ℕ) (e : ℤ) → T (fits binary32 (fin s m e)) →
-    (le (largest true) (fin s m e) ≡ true) × (le (fin s m e) (largest false) ≡ true)
-unfolding le
-le-largest true m e t =
-    let a = m * up e * 1 in
-    let b = 16777215 * 2 ^ 104 * down e in (
-      le-tests a b (magnitude true m e t) .1,
-      rw (lt-ltb 0 (a + b) (some a b (mul-pos (lit< tt) (down-pos e)) .0)) refl,
-    )
-le-largest false m e t =
-    let a = m * up e * 1 in
-    let b = 16777215 * 2 ^ 104 * down e in (
-      rw (lt-ltb 0 (b + a) (some a b (mul-pos (lit< tt) (down-pos e)) .1)) refl,
-      le-tests a b (magnitude false m e t) .0,
-    )
-
-pub finite-tests : (x : Float) → T (fits binary32 x) → (le (largest true) x && le x (largest false)) ≡ finite x
-finite-tests nan t = unfold le in refl
-finite-tests (inf true) t = unfold le in refl
-finite-tests (inf false) t = unfold le in refl
-finite-tests (fin s m e) t = rw (le-largest s m e t .0, le-largest s m e t .1) refl

@@ -23,7 +23,6 @@ use Rattle.points.specs.declared.Value.{Value}
 use Rattle.points.specs.declared.Value.the-variants as Vs
 use Rattle.points.specs.declared.WholeTrack.{WholeTrack}
 use Rattle.points.specs.declared.FloatTrack.{FloatTrack}
-use Rattle.points.specs.declared.BinaryPoint.{BinaryPoint}
 use Rattle.points.specs.declared.AnalogPoint.{AnalogPoint}
 use Rattle.points.specs.Scaling.{shownOf, clampedTo}
 use Rattle.points.specs.Reading.{
@@ -31,9 +30,6 @@ use Rattle.points.specs.Reading.{
   overRange,
   reports,
   raises,
-  changed,
-  binaryAfter,
-  binaryReading,
   wholeGate,
   floatGate,
   wholeTrackAfter,
@@ -53,7 +49,6 @@ use Rattle.points.specs.Kept.{
   shownOk,
   PointOk,
   AnalogAfterOk,
-  BinaryAfterOk,
   Reached,
   fresh,
   whole,
@@ -84,16 +79,6 @@ first-silent reported class = refl
 pub first-reported : (flags last : ℕ) (passes : Bool) → reports false flags last passes ≡ true
 unfolding reports
 first-reported flags last b = refl
-
--- ---- a binary point
-pub binary-reading-ok : (p : BinaryPoint) (state : Bool) (flags : ℕ) → BinaryAfterOk (binaryReading p state flags)
-unfolding binaryReading
-binary-reading-ok p state flags = go (flagsAbove flags)
-  where
-    go : (b : Bool) →
-        BinaryAfterOk (cond b (refused 4) (accepted (binaryAfter p state flags (reports (p .seen) flags (p .reported) (changed state (p .state))))))
-    go true = tt
-    go false = last-shown (p .seen) flags (p .reported) (changed state (p .state))
 
 -- ---- whole points
 whole-zero : (g : WholeGate) → T (wholeSumOk g 0)

@@ -78,10 +78,6 @@ add-no-nan f (fin s m e) (fin t n d) p q = sum-no-nan f s (m * up e * down d) t 
 pub scaled-no-nan : (x g o : Float) → T (finite x) → T (finite g) → T (finite o) → isNan (scaled x g o) ≡ false
 scaled-no-nan x g o p q r = add-no-nan binary32 (mul binary32 x g) o (mul-no-nan binary32 x g p q) r
 
--- an infinite product stays infinite under every finite offset
-pub product-infinite : (x g o : Float) (s : Bool) → T (finite o) → mul binary32 x g ≡ inf s → scaled x g o ≡ inf s
-product-infinite x g (fin t n d) s h e = rw e (unfold add in refl)
-
 -- ---- what a point shows is finite
 limited-finite : (v : Float) → isNan v ≡ false → T (finite (limitedTo v .value))
 unfolding isNan limitedTo

@@ -35,7 +35,7 @@ use lib.Ieee.{
 use lib.Ieee.Fits.{round-is, and-l, and-r}
 use denote.Floats.{passes}
 use lib.Ieee.Scale.{finite}
-use borrow.Author.Tests.{ltb-false, eq-eqb, le-ltb}
+use borrow.Author.Tests.{ltb-false, eq-eqb}
 use Rattle.points.specs.declared.FloatGated.{FloatGated}
 use Rattle.points.specs.declared.WholeGated.{WholeGated}
 use Rattle.points.specs.declared.FloatGate.{FloatGate}
@@ -69,13 +69,6 @@ drop-plus (fin s m e) h = tt
 -- the distance of two finite values has the sign plus, and may be an infinity
 pub distance-plus : (a b : Float) → T (finite a) → T (finite b) → T (plus (distanceOf a b))
 distance-plus a b p q = drop-plus (sub binary32 a b) (sub-no-nan a b p q)
-
--- an infinite distance is above every finite limit
-pub beyond-overflow : (l a b : Float) (s : Bool) → T (finite l) → sub binary32 a b ≡ inf s → lt l (distanceOf a b) ≡ true
-beyond-overflow l a b s p e = rw e (go l p)
-  where
-    go : (l : Float) → T (finite l) → lt l (dropSign (inf s)) ≡ true
-    go (fin t m d) h = unfold lt dropSign in refl
 
 -- ---- a sum of two such values
 round-plus : (f : Format) (a c : ℕ) → T (plus (round f false a c))
@@ -124,12 +117,6 @@ ordered false true a b h = either (ltb 0 (b + a)) _ (λ k. let z = no-size b a (
 pub not-above : (l t : Float) → T (finite l) → T (finite t) → lt l t ≡ false → le t l ≡ true
 unfolding lt le eq
 not-above (fin s m e) (fin t n d) p q h = ordered s t (m * up e * down d) (n * up d * down e) h
-
--- a value whose sign is plus is not below 0
-pub plus-not-below : (x : Float) → T (plus x) → lt x plusZero ≡ false
-unfolding lt
-plus-not-below (inf false) h = refl
-plus-not-below (fin false m e) h = le-ltb (m * up e * 1) (0 * down e) (omega arith)
 
 -- ---- a float gate's sum
 pub record SumOk (g : FloatGate) (sum : Float) : Type 0 where

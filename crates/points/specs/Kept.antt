@@ -19,7 +19,7 @@ use Rattle.points.specs.declared.Measure.{Measure}
 use Rattle.points.specs.declared.Measure.the-variants as Ms
 use Rattle.points.specs.declared.AnalogPoint.{AnalogPoint}
 use Rattle.points.specs.declared.AnalogSetup.{AnalogSetup}
-use Rattle.points.specs.Reading.{BinaryAfter, AnalogAfter, wholeReading, floatReading}
+use Rattle.points.specs.Reading.{AnalogAfter, wholeReading, floatReading}
 use Rattle.points.specs.Setup.{scaleOk, floatGateOk, freshAnalog}
 
 -- a number or an infinity whose sign is plus
@@ -77,10 +77,6 @@ pub record PointOk (p : AnalogPoint) : Type 0 where
 abbrev pub AnalogAfterOk : Outcome AnalogAfter → Type 0
 AnalogAfterOk (accepted a) = PointOk (a .point)
 AnalogAfterOk (refused k) = Unit
-
-abbrev pub BinaryAfterOk : Outcome BinaryAfter → Type 0
-BinaryAfterOk (accepted a) = a .point .reported ≡ a .point .flags
-BinaryAfterOk (refused k) = Unit
 
 -- the records that a setup and any readings lead to; a refused reading leads nowhere
 pub data Reached (a : AnalogSetup) : AnalogPoint → Type 0 where

@@ -1,5 +1,4 @@
 pub mod RepeatLaws
 pub mod ReplyLaws
-pub mod StepLaws
 pub mod Controls
 pub mod Examples

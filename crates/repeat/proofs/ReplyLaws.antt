@@ -1,21 +1,17 @@
--- Laws of an answer: the longest echo, the function that is never answered, and header and echo together.
+-- Laws of an answer: the longest echo, the function that is never answered, the answer as the first lent bytes.
 -- Assumes nothing.
-use mathlib.Core.Path.{_≡_, refl, sym, ap, _∙_}
+use mathlib.Core.Path.{_≡_, refl, ap, _∙_}
 use mathlib.Core.Bool.{Bool, true, false, cond}
-use mathlib.Core.List.{List, [], _∷_, _++_}
+use mathlib.Core.List.{List, [], _∷_}
 use Prim.Native.Nat.{ℕ, zero, suc, _+_, _≤_}
 use native.Mathlib.Omega.{arith}
-use lib.ListN.{length, take, drop, replicate, length-append, length-replicate}
+use lib.ListN.{length, take, drop, replicate, length-replicate}
 use Rattle.octets.specs.Bytes.{splice}
-use Rattle.octets.proofs.Splice.{splice-nil, stored-splice}
-use Rattle.application.specs.Response.{responseOf}
-use Rattle.application.specs.declared.Fault.{Fault}
-use Rattle.application.specs.declared.Indications.{Indications}
-use Rattle.application.proofs.AnswerLaws.{answer-whole}
+use Rattle.octets.proofs.Splice.{stored-splice}
 use Rattle.control.specs.declared.Crob.{Crob}
 use Rattle.control.specs.declared.Form.{Form}
 use Rattle.control.specs.declared.Form.the-variants.{Wrong, Objects}
-use Rattle.control.specs.Objects.{echoMax, answerMax, formed, crobs}
+use Rattle.control.specs.Objects.{echoMax, formed, crobs}
 use Rattle.control.specs.Status.{statuses, echoOf}
 use Rattle.select.specs.declared.ControlFunction.{ControlFunction}
 use Rattle.select.specs.Select.{Selection, isUnanswered, isOperate, statusesBy, operateStatus, byForm, effectOf}
@@ -60,30 +56,6 @@ module _ (outputs arm : ℕ) (l : Selection) (f : ControlFunction) (sequence tim
     by : (x : Form) → byForm x outputs arm l f sequence time o .echo ≡ []
     by (Wrong y) = refl
     by (Objects w n) = rw u
-
-length-response : (sequence : ℕ) (i : Indications) (x : Fault) → length (responseOf sequence false i x) ≡ 4
-unfolding responseOf
-length-response sequence i x = refl
-
-pub answer-most : (u : Bool) (n m : ℕ) → m ≡ cond u 0 (4 + n) → n ≤ echoMax → m ≤ answerMax
-answer-most true n m e h = omega arith
-answer-most false n m e h = omega arith
-
-module _ (u : Bool) (sequence : ℕ) (i : Indications) (x : Fault) (echo : List ℕ) (none : u ≡ true → echo ≡ []) where
-  pub answer-length : (n m : ℕ) → n ≡ length echo → m ≡ cond u 0 (4 + n) → m ≡ length (cond u [] (responseOf sequence false i x ++ echo))
-  answer-length n m e k = k ∙ go u where
-    go : (b : Bool) → cond b 0 (4 + n) ≡ length (cond b [] (responseOf sequence false i x ++ echo))
-    go true = refl
-    go false =
-        let h : length (responseOf sequence false i x) ≡ 4 = length-response sequence i x in
-        simp length-append (omega arith)
-
-  pub answer-bytes : (d d₁ d₂ : List ℕ) → d₁ ≡ splice d 4 echo → d₂ ≡ cond u d₁ (splice d₁ 0 (responseOf sequence false i x))
-      → d₂ ≡ splice d 0 (cond u [] (responseOf sequence false i x ++ echo))
-  answer-bytes d d₁ d₂ e k = k ∙ go u none where
-    go : (b : Bool) → (b ≡ true → echo ≡ []) → cond b d₁ (splice d₁ 0 (responseOf sequence false i x)) ≡ splice d 0 (cond b [] (responseOf sequence false i x ++ echo))
-    go true z = e ∙ ap (splice d 4) (z refl) ∙ splice-nil d 4 ∙ sym (splice-nil d 0)
-    go false z = ap (λ (y : List ℕ). splice y 0 (responseOf sequence false i x)) e ∙ answer-whole d (responseOf sequence false i x) echo (length-response sequence i x)
 
 -- the answer is the first bytes
 pub answer-taken : (d d₂ a : List ℕ) (m : ℕ) → d₂ ≡ splice d 0 a → m ≡ length a → m ≤ length d → take m d₂ ≡ a

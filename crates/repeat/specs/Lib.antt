@@ -1,4 +1,3 @@
 pub mod Repeat
-pub mod Reply
 pub mod Requests
 pub mod Operates

@@ -1,6 +1,6 @@
 -- Laws of bytes in hex.
 -- Assumes nothing.
-use mathlib.Core.Path.{_≡_, refl, sym, ap, _∙_}
+use mathlib.Core.Path.{_≡_, sym, ap, _∙_}
 use mathlib.Core.Bool.{true, false}
 use Prim.Native.Nat.{ℕ, suc, _+_, _*_, _/_, _%_, _≤_, _<_}
 use native.Mathlib.Numerals.{add-one}
@@ -11,7 +11,7 @@ use lib.Seq.{drop-cons, take-suc-set}
 use borrow.Author.Tests.{lt-ltb, le-ltb, eq-eqb, ne-eqb}
 use Rattle.octets.specs.Bytes.{splice}
 use Rattle.octets.proofs.Splice.{splice-nil}
-use Rattle.text.specs.Words.{after, digitOf, hexOf, nibbleOf, allHex, unhex, Bytes, bytes, noBytes, hexRead}
+use Rattle.text.specs.Words.{after, digitOf, hexOf, nibbleOf, allHex, unhex, bytes, noBytes, hexRead}
 use Rattle.text.proofs.Writing.{splice-after}
 
 pub hex-turn : (d : List ℕ) (to i : ℕ) (s : List ℕ) → i < length s

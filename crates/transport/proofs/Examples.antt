@@ -1,11 +1,11 @@
 -- The rules of segments at both sides of their limits, by computation.
 -- Assumes nothing.
 use mathlib.Core.Path.{_≡_, refl}
-use mathlib.Core.Bool.{true, false}
+use mathlib.Core.Bool.{true}
 use Prim.Native.Nat.{ℕ, zero, suc}
 use mathlib.Core.List.{List, [], _∷_}
 use Rattle.transport.specs.declared.Assembly.{Assembly}
-use Rattle.laws.specs.Outcome.{Outcome, accepted, refused}
+use Rattle.laws.specs.Outcome.{accepted, refused}
 use Rattle.transport.specs.Segment.{headOf, headerOf, segmentCount, cut, segmentsOf}
 use Rattle.transport.specs.Receive.{idle, places, receiving, assemblyAfter}
 

@@ -2,21 +2,21 @@
 -- Assumes nothing.
 use mathlib.Core.Path.{_≡_, refl, sym, ap, ap₂, _∙_}
 use mathlib.Core.Bool.{Bool, true, false}
-use Prim.Native.Nat.{ℕ, zero, suc, _+_, _-_, _*_, _/_, _%_, _≤_, _<_, min}
+use Prim.Native.Nat.{ℕ, suc, _+_, _-_, _*_, _/_, _%_, _≤_, _<_, min}
 use native.Mathlib.Omega.{arith}
-use mathlib.Core.List.{List, [], _∷_}
-use lib.ListN.{length, getD, take, drop, set, length-drop, length-take}
-use lib.Seq.{take-all, length-take-le}
-use lib.Dec.{ltb, leb, eqb}
-use borrow.Author.Tests.{lt-ltb, le-ltb, ltb-true, ltb-false, leb-true, leb-false, eq-eqb, ne-eqb, le-leb, lt-leb}
+use mathlib.Core.List.{List}
+use lib.ListN.{length, take, drop, set, length-drop, length-take}
+use lib.Seq.{take-all}
+use lib.Dec.{ltb, eqb}
+use borrow.Author.Tests.{lt-ltb, le-ltb, ltb-false, eq-eqb, ne-eqb}
 use Rattle.laws.proofs.Parts.{part-is}
 use Rattle.laws.proofs.Tests.{passed-no, passed-yes}
 use Rattle.octets.specs.Bytes.{splice}
 use Rattle.octets.proofs.Splice.{splice-cons}
-use Rattle.laws.specs.Outcome.{Outcome, accepted, refused}
+use Rattle.laws.specs.Outcome.{accepted, refused}
 use Rattle.transport.specs.Segment.{headOf, fin, fir, sequence, dataOf, nextOf, bitOf, headerOf, segment}
 use Rattle.transport.specs.Receive.{places, receiving}
-use Rattle.transport.specs.Send.{fromOf, lastAt, endOf, nextSegment, nextSender, sending, Written, writtenOf}
+use Rattle.transport.specs.Send.{fromOf, lastAt, endOf, nextSegment, nextSender, sending, writtenOf}
 use Rattle.transport.specs.declared.Assembly.{Assembly}
 use Rattle.transport.specs.declared.Sender.{Sender}
 use Rattle.transport.specs.declared.TransportSequence.{TransportSequence}

@@ -2,20 +2,20 @@
 -- Assumes nothing.
 use mathlib.Core.Path.{_≡_, refl, sym, ap, ap₂, _∙_}
 use mathlib.Core.Bool.{Bool, true, false, cond}
-use Prim.Native.Nat.{ℕ, zero, suc, _+_, _-_, _*_, _/_, _%_, _≤_, _<_}
+use Prim.Native.Nat.{ℕ, zero, suc, _+_, _-_, _*_, _%_, _≤_, _<_}
 use native.Mathlib.Nat.{zero-add}
 use native.Mathlib.Omega.{arith}
 use mathlib.Core.List.{List, [], _∷_, _++_}
 use lib.ListN.{length, getD, take, drop, length-take, length-drop, take-append-drop}
 use lib.Seq.{take-all, drop-drop}
-use lib.Dec.{ltb, leb, eqb, eqb·suc-zero, eqb·suc-suc}
+use lib.Dec.{eqb, eqb·suc-zero, eqb·suc-suc}
 use borrow.Author.Tests.{lt-ltb, le-leb, lt-leb, ne-eqb, eqb-false, eqb-true}
 use Rattle.laws.proofs.Tests.{cond-same}
 use Rattle.octets.specs.Bytes.{splice}
 use Rattle.octets.proofs.Splice.{splice-append, length-splice}
-use Rattle.laws.specs.Outcome.{Outcome, accepted}
-use Rattle.transport.specs.Segment.{headOf, fin, fir, sequence, dataOf, nextOf, bitOf, headerOf, segment, segmentCount, cut, segmentsOf}
-use Rattle.transport.specs.Receive.{idle, places, receiving, Taken, more, complete, answerOf, assemblyAfter, lentAfter, Run, answered, receiveAll, goes}
+use Rattle.laws.specs.Outcome.{accepted}
+use Rattle.transport.specs.Segment.{headOf, sequence, dataOf, bitOf, headerOf, segment, segmentCount, cut, segmentsOf}
+use Rattle.transport.specs.Receive.{idle, receiving, more, Run, answered, receiveAll, goes}
 use Rattle.transport.specs.Send.{fromOf, lastAt, endOf, nextSegment, nextSender, Calls, wrote, calls}
 use Rattle.transport.specs.declared.Assembly.{Assembly}
 use Rattle.transport.specs.declared.Sender.{Sender}

@@ -1,15 +1,14 @@
 -- Receiving: what a segment comes to, in document 01's order of refusals.
 -- Assumes nothing.
-use Prim.Native.Nat.{ℕ, zero, suc, _+_, _*_, _/_, _%_}
+use Prim.Native.Nat.{ℕ, zero, suc, _+_}
 use mathlib.Core.Bool.{Bool, true, false, cond}
 use mathlib.Core.List.{List, [], _∷_}
-use lib.ListN.{length, getD, take, drop}
+use lib.ListN.{length}
 use lib.Dec.{ltb, eqb}
 use Rattle.octets.specs.Bytes.{splice}
 use Rattle.laws.specs.Limits.{fragmentMax, segmentDataMax}
 use Rattle.laws.specs.Outcome.{Outcome, accepted, refused}
 use Rattle.transport.specs.Segment.{headOf, fin, fir, sequence, dataOf, nextOf}
-use Rattle.transport.specs.declared.TransportSequence.{TransportSequence}
 use Rattle.transport.specs.declared.Assembly.{Assembly}
 use Rattle.transport.specs.declared.Received.{Received}
 use Rattle.transport.specs.declared.Received.the-variants.{More, Fragment, SegmentLength, OutOfSequence, FragmentTooLong, AssemblyLent}

@@ -1,7 +1,7 @@
 -- `link::receive_by_value` meets its contract: a walk of its MIR, by hand. The record stands in a local, which is lent to `receive` for a lifetime that is made for the call, and taken back at the last value that `receive` says. The two slices go on to `receive`, `out` for good.
 -- All that the proof knows of `receive` is that it meets its contract.
 -- Assumes nothing.
-use mathlib.Core.Path.{_≡_, refl, ap}
+use mathlib.Core.Path.{_≡_, refl}
 use Prim.Native.Nat.{ℕ}
 use mathlib.Core.List.{[], _∷_, List}
 use lib.ListN.{length}

@@ -1,7 +1,6 @@
 -- `text::decimal_of` meets its contract. A word with no digit or with a zero in front is malformed; else its digits decide.
 -- Assumes nothing.
 use borrow.Author.Tests.{lt-ltb, le-ltb, eq-eqb, ne-eqb}
-use mathlib.Core.Path.{sym, _∙_}
 use Rattle.text.specs.Words.{wholeOf, padded}
 use mathlib.Core.Path.{refl}
 use native.Mathlib.Omega.{arith}

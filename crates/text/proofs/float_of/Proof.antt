@@ -1,7 +1,6 @@
 -- `text::float_of` meets its contract. Up to the pattern of infinity no pattern is a NaN's; beyond it each is.
 -- Assumes nothing.
 use Rattle.text.proofs.IntLaws.{no-nan, all-nan}
-use native.Mathlib.Omega.{arith}
 use borrow.Author.Needs.{needs}
 use Rattle.text.proofs.float_of.Statement.{statement}
 use Rattle.text.proofs.float_of.Tie as tie

@@ -1,7 +1,7 @@
 -- `text::put_decimal` meets its contract. The digits stand at the end of the scratch bytes, and are put as bytes.
 -- Assumes nothing.
 use mathlib.Core.Path.{_≡_, _∙_}
-use lib.ListN.{length, take, drop, length-drop}
+use lib.ListN.{take, drop, length-drop}
 use lib.Seq.{take-all}
 use Prim.Native.Nat.{_-_}
 use Rattle.text.specs.Words.{decimalOf}

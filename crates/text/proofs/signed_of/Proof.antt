@@ -1,8 +1,8 @@
 -- `text::signed_of` meets its contract. With a minus the word behind it decides, else the word.
 -- Assumes nothing.
-use borrow.Author.Tests.{lt-ltb, le-ltb, eq-eqb, ne-eqb}
-use mathlib.Core.Path.{refl, sym, ap, _∙_}
-use Rattle.text.specs.Words.{signedOf, plus, minus}
+use borrow.Author.Tests.{lt-ltb}
+use mathlib.Core.Path.{refl}
+use Rattle.text.specs.Words.{signedOf}
 use Rattle.text.proofs.SignedLaws.{minus-yes, minus-no, plus-of}
 use native.Mathlib.Omega.{arith}
 use borrow.Author.Needs.{needs}

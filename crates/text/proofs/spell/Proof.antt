@@ -2,7 +2,7 @@
 -- Assumes nothing.
 use Rattle.text.specs.Words.{shownBy}
 use Rattle.text.proofs.DecimalLaws.{spell-turn, spell-end, wider, tenth}
-use mathlib.Core.Path.{_≡_, refl, ap, _∙_}
+use mathlib.Core.Path.{_≡_, ap, _∙_}
 use mathlib.Core.List.{List, _++_, append-nil}
 use lib.ListN.{length, drop, length-set, drop-of-length-le}
 use Prim.Native.Nat.{ℕ, _-_, _^_, _≤_, _<_}

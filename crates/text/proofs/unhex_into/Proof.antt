@@ -5,7 +5,7 @@ use mathlib.Core.Path.{_≡_, sym, ap, _∙_}
 use mathlib.Core.List.{_++_}
 use Prim.Native.Nat.{_*_, _-_, _≤_}
 use lib.ListN.{length, take, drop, length-set}
-use Rattle.text.specs.Words.{unhex, allHex, hexRead}
+use Rattle.text.specs.Words.{unhex, allHex}
 use Rattle.text.proofs.HexLaws.{first-none, second-none, both-digits, unhex-turn, hex-whole, hex-all, read-room, read-odd, read-not, read-all}
 use Prim.Native.Nat.{_+_}
 use Rattle.text.specs.Words.{bytes}

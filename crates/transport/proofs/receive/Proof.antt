@@ -1,11 +1,10 @@
 -- `transport::receive` meets its contract: the refusals by their tests, and else the data behind the bytes so far.
 -- Assumes nothing.
 use mathlib.Core.Path.{_≡_, refl, sym, ap, _∙_}
-use Prim.Native.Nat.{ℕ, _+_, _-_, _%_, _≤_}
+use Prim.Native.Nat.{ℕ, _-_, _%_}
 use native.Mathlib.Omega.{arith}
-use lib.ListN.{length, getD, drop}
-use Rattle.laws.specs.Outcome.{Outcome, accepted}
-use Rattle.transport.specs.Segment.{dataOf}
+use lib.ListN.{length, getD}
+use Rattle.laws.specs.Outcome.{accepted}
 use Rattle.transport.specs.Receive.{receiving, places, placeOf}
 use Rattle.transport.proofs.Laws.{got-lent, got-short, got-long, got-first, got-next, place-fits, rest-is, rest-length, rest-length-0}
 use Rattle.transport.proofs.receive.Statement.{statement}
