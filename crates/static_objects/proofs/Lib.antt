@@ -1,3 +1,4 @@
 pub mod StaticLaws
+pub mod RunWriting
 pub mod HeaderLaws
 pub mod Examples

@@ -1,14 +1,17 @@
 -- Laws of static objects: their number of bytes, and how they are put.
 -- Assumes nothing.
 use mathlib.Core.Path.{_≡_, refl, sym, ap, _∙_}
-use mathlib.Core.Bool.{Bool, true, false}
-use mathlib.Core.List.{List, [], _∷_, _++_}
+use mathlib.Core.Bool.{Bool, true, false, cond}
+use mathlib.Core.List.{List, [], _∷_, _++_, append-nil}
 use Prim.Native.Nat.{ℕ, zero, suc, _+_, _-_, _≤_, _<_, min}
 use native.Mathlib.Omega.{arith}
-use lib.ListN.{length, getD, set, length-append}
+use borrow.Author.Tests.{ltb-true, ltb-false}
+use lib.Dec.{ltb}
+use lib.ListN.{length, take, getD, set, length-append}
+use Rattle.laws.proofs.Choices.{split}
 use Rattle.laws.proofs.Counted.{counted, read-in, read-out}
 use Rattle.octets.specs.Bytes.{splice, le}
-use Rattle.octets.proofs.Splice.{splice-append, splice-cons, splice-one}
+use Rattle.octets.proofs.Splice.{splice-append, splice-cons, splice-one, splice-nil, length-splice}
 use Rattle.octets.proofs.Le.{length-le}
 use Rattle.points.specs.Inputs.{Inputs, inputs, noBinary, noAnalog}
 use Rattle.points.specs.declared.Value.{Value}
@@ -18,12 +21,12 @@ use Rattle.points.specs.declared.AnalogPoint.{AnalogPoint}
 use Rattle.points.specs.declared.Points.{Points}
 use Rattle.objects.specs.Values.{valueBytes, valueSize, stateByte}
 use Rattle.objects.proofs.ValueLaws.{length-value}
-use Rattle.objects.specs.Runs.{lead}
+use Rattle.objects.specs.Runs.{Object, runs, objectBytes, allBytes, encoded, lead}
 use Rattle.objects.proofs.RunLaws.{lead-nil, lead-other}
 use Rattle.objects.proofs.WriterLaws.{three-put}
 use Rattle.static_objects.specs.declared.Shown.{Shown}
 use Rattle.static_objects.specs.declared.Shown.the-variants.{Binary, Analog}
-use Rattle.static_objects.specs.Static.{shownAt, variationOf, pointBytes, staticHeading, pointObject, pointObjects}
+use Rattle.static_objects.specs.Static.{shownAt, variationOf, pointBytes, staticHeading, pointObject, pointObjects, rangeBytes}
 
 -- ---- what a point shows, installed or not
 
@@ -35,25 +38,31 @@ pub analogs-count : (p : Points) (n : ℕ) → length (p .analogs) ≡ 64 → n 
 unfolding inputs
 analogs-count p n slots e = e ∙ sym (counted (p .analogs) 64 (p .«analog_count») slots)
 
-module _ (p : Points) (i : ℕ) where
-  module _ (slots : length (p .binaries) ≡ 64) where
-    pub binary-in : (f : ℕ) → i < min (p .«binary_count») 64 → f ≡ stateByte (getD (p .binaries) i noBinary .state) (getD (p .binaries) i noBinary .flags)
-        → Binary f ≡ shownAt (inputs p) false i
-    unfolding inputs
-    binary-in f h e = ap Binary e ∙ ap (λ (b : BinaryPoint). Binary (stateByte (b .state) (b .flags))) (read-in (p .binaries) 64 (p .«binary_count») slots i noBinary h)
+-- a point read at its slot, or at the last one where there is none: only an installed point is shown
+slot-read : {A B : Type 0} (show : A → B) (l : List A) (d : A) (c n i j : ℕ) → length l ≡ 64 → n ≡ min c 64 → j ≡ min i 63
+    → cond (ltb i n) (show (getD l j d)) (show d) ≡ show (getD (take c l) i d)
+slot-read show l d c n i j slots hn hj =
+    split (λ z. z ≡ show (getD (take c l) i d)) (ltb i n)
+    (λ t.
+    let below : i < n = ltb-true i n t in
+    let q : j ≡ i = omega arith in
+    ap (λ k. show (getD l k d)) q ∙ ap show (read-in l 64 c slots i d (omega arith)))
+    (λ t.
+    let past : n ≤ i = ltb-false i n t in
+    ap show (read-out l 64 c slots i d (omega arith)))
 
-    pub binary-out : min (p .«binary_count») 64 ≤ i → Binary 0 ≡ shownAt (inputs p) false i
-    unfolding inputs
-    binary-out h = ap (λ (b : BinaryPoint). Binary (stateByte (b .state) (b .flags))) (read-out (p .binaries) 64 (p .«binary_count») slots i noBinary h)
+module _ (p : Points) (i n j : ℕ) (hj : j ≡ min i 63) (s : Shown) where
+  pub binary-read : length (p .binaries) ≡ 64 → n ≡ min (p .«binary_count») 64
+      → s ≡ cond (ltb i n) (Binary (stateByte (getD (p .binaries) j noBinary .state) (getD (p .binaries) j noBinary .flags))) (Binary 0)
+      → s ≡ shownAt (inputs p) false i
+  unfolding inputs
+  binary-read slots hn e = e ∙ slot-read (λ (b : BinaryPoint). Binary (stateByte (b .state) (b .flags))) (p .binaries) noBinary (p .«binary_count») n i j slots hn hj
 
-  module _ (slots : length (p .analogs) ≡ 64) where
-    pub analog-in : i < min (p .«analog_count») 64 → Analog (getD (p .analogs) i noAnalog .flags) (getD (p .analogs) i noAnalog .value) ≡ shownAt (inputs p) true i
-    unfolding inputs
-    analog-in h = ap (λ (a : AnalogPoint). Analog (a .flags) (a .value)) (read-in (p .analogs) 64 (p .«analog_count») slots i noAnalog h)
-
-    pub analog-out : min (p .«analog_count») 64 ≤ i → Analog (noAnalog .flags) (noAnalog .value) ≡ shownAt (inputs p) true i
-    unfolding inputs
-    analog-out h = ap (λ (a : AnalogPoint). Analog (a .flags) (a .value)) (read-out (p .analogs) 64 (p .«analog_count») slots i noAnalog h)
+  pub analog-read : length (p .analogs) ≡ 64 → n ≡ min (p .«analog_count») 64
+      → s ≡ cond (ltb i n) (Analog (getD (p .analogs) j noAnalog .flags) (getD (p .analogs) j noAnalog .value)) (Analog (noAnalog .flags) (noAnalog .value))
+      → s ≡ shownAt (inputs p) true i
+  unfolding inputs
+  analog-read slots hn e = e ∙ slot-read (λ (a : AnalogPoint). Analog (a .flags) (a .value)) (p .analogs) noAnalog (p .«analog_count») n i j slots hn hj
 
 -- ---- putting
 
@@ -94,7 +103,7 @@ module _ (s : Shown) where
   unfolding pointBytes
   length-analog f v h = ap (λ (x : Shown). length (pointBytes x)) h ∙ ap suc (length-value v) ∙ omega arith
 
-kind-some : (s : Shown) → variationOf s ≡ 0 → ⊥
+pub kind-some : (s : Shown) → variationOf s ≡ 0 → ⊥
 kind-some (Binary f) h = omega arith
 kind-some (Analog f (Long z)) h = omega arith
 kind-some (Analog f (Short z)) h = omega arith
@@ -120,3 +129,91 @@ module _ (i : Inputs) (a : Bool) where
   unfolding pointObjects
   none-first n zero = lead-nil 0
   none-first n (suc k) = lead-other (pointObject i a n) (pointObjects i a (n + 1) k) 0 (kind-some (shownAt i a n))
+
+-- ---- binaries are one run
+
+module _ (i : Inputs) where
+  points-length : (a : Bool) (n k : ℕ) → length (pointObjects i a n k) ≡ k
+  unfolding pointObjects
+  points-length a n zero = refl
+  points-length a n (suc k) = ap suc (points-length a (n + 1) k)
+
+  one-run : (n k : ℕ) → runs (pointObjects i false n (suc k)) ≡ pointObjects i false n (suc k) ∷ []
+  unfolding runs pointObjects
+  one-run n zero = refl
+  one-run n (suc k) = rw (one-run (n + 1) k)
+
+  states-length : (n k : ℕ) → length (objectBytes (pointObjects i false n k)) ≡ k
+  unfolding objectBytes pointObjects pointBytes
+  states-length n zero = refl
+  states-length n (suc k) = ap suc (states-length (n + 1) k)
+
+  states-nil : (n k : ℕ) → k ≤ 0 → objectBytes (pointObjects i false n k) ≡ []
+  unfolding objectBytes
+  states-nil n k h = ap objectBytes (points-nil i false n k h)
+
+  states-cons : (n k : ℕ) → 0 < k → objectBytes (pointObjects i false n k) ≡ pointBytes (shownAt i false n) ++ objectBytes (pointObjects i false (n + 1) (k - 1))
+  unfolding objectBytes
+  states-cons n k h = ap objectBytes (points-cons i false n k h)
+
+  -- a header, and what the points show
+  pub binaries-some : (n k : ℕ) → 0 < k → rangeBytes i false n k ≡ staticHeading false 2 n (k - 1 + 1) ++ objectBytes (pointObjects i false n k)
+  unfolding rangeBytes encoded allBytes pointObjects
+  binaries-some n zero h = absurd (omega arith)
+  binaries-some n (suc k) h =
+      let xs : List Object = pointObjects i false n (suc k) in
+      let c : suc (length (pointObjects i false (n + 1) k)) ≡ suc k - 1 + 1 = omega (arith, points-length false (n + 1) k) in
+      ap (allBytes (staticHeading false)) (one-run n k)
+      ∙ append-nil _
+      ∙ ap (λ (q : ℕ). staticHeading false 2 n q ++ objectBytes xs) c
+
+  pub binaries-none : (n k : ℕ) → k ≤ 0 → rangeBytes i false n k ≡ []
+  unfolding rangeBytes encoded allBytes runs
+  binaries-none n k h = ap (encoded (staticHeading false)) (points-nil i false n k h)
+
+  pub binaries-length : (n k : ℕ) → 0 < k → length (rangeBytes i false n k) ≡ 7 + k
+  binaries-length n k h =
+      ap length (binaries-some n k h) ∙ length-append (staticHeading false 2 n (k - 1 + 1)) (objectBytes (pointObjects i false n k))
+      ∙ omega (arith, heading-length false 2 n (k - 1 + 1), states-length n k)
+
+  -- writing: the points to come from where the loop stands, as all from its start
+  pub record Showing (out₀ : List ℕ) (at from n : ℕ) (out : List ℕ) (to j left : ℕ) : Type 0 where
+    pub ahead : splice out to (objectBytes (pointObjects i false j left)) ≡ splice out₀ at (objectBytes (pointObjects i false from n))
+    pub long : length out ≡ length out₀
+    pub room : to + left ≡ at + n
+    pub places : j + left ≡ from + n
+
+  module _ {out₀ : List ℕ} {at from n : ℕ} {out : List ℕ} {to j left : ℕ} (g : Showing out₀ at from n out to j left) where
+    pub shown : 0 < left → (s : Shown) → s ≡ shownAt i false j → (out′ : List ℕ) (to′ : ℕ) → to′ ≡ to + length (pointBytes s) → out′ ≡ splice out to (pointBytes s)
+        → Showing out₀ at from n out′ to′ (j + 1) (left - 1)
+    shown more s hs out′ to′ ht ho =
+        let tl : List ℕ = objectBytes (pointObjects i false (j + 1) (left - 1)) in
+        let one : length (pointBytes s) ≡ 1 = length-binary s _ hs in
+        record {
+          ahead =
+              ap (λ (d : List ℕ). splice d to′ tl) ho
+              ∙ ap (λ (q : ℕ). splice (splice out to (pointBytes s)) q tl) ht
+              ∙ sym (splice-append out to (pointBytes s) tl)
+              ∙ ap (λ (x : Shown). splice out to (pointBytes x ++ tl)) hs
+              ∙ ap (splice out to) (sym (states-cons j left more))
+              ∙ g .ahead;
+          long = ap length ho ∙ length-splice out to (pointBytes s) ∙ g .long;
+          room = omega (arith, g .room);
+          places = omega (arith, g .places);
+        }
+
+    pub all-shown : left ≤ 0 → out ≡ splice out₀ at (objectBytes (pointObjects i false from n))
+    all-shown h = sym (ap (splice out to) (states-nil j left h) ∙ splice-nil out to) ∙ g .ahead
+
+  -- a header, then what the points show
+  pub binaries-put : (d d1 d2 : List ℕ) (at to from n : ℕ) → 0 < n → to ≡ at + 7 → d1 ≡ splice d at (staticHeading false 2 from (n - 1 + 1))
+      → d2 ≡ splice d1 to (objectBytes (pointObjects i false from n)) → d2 ≡ splice d at (rangeBytes i false from n)
+  binaries-put d d1 d2 at to from n h ht h1 h2 =
+      let hd : List ℕ = staticHeading false 2 from (n - 1 + 1) in
+      let tl : List ℕ = objectBytes (pointObjects i false from n) in
+      let t : to ≡ at + length hd = ht ∙ ap (λ (q : ℕ). at + q) (sym (heading-length false 2 from (n - 1 + 1))) in
+      h2
+      ∙ ap (λ (x : List ℕ). splice x to tl) h1
+      ∙ ap (λ (q : ℕ). splice (splice d at hd) q tl) t
+      ∙ sym (splice-append d at hd tl)
+      ∙ ap (splice d at) (sym (binaries-some from n h))

@@ -1,14 +1,17 @@
 // The static part of a response, written into lent bytes.
 ghost use mathlib.Core.Path.{_≡_};
-ghost use mathlib.Core.Bool.{true, false};
-ghost use Prim.Native.Nat.{_+_, _*_, _≤_, _<_, min};
+ghost use mathlib.Core.Bool.{true, false, cond};
+ghost use mathlib.Core.List.{[]};
+ghost use Prim.Native.Nat.{ℕ, _+_, _*_, _≤_, _<_, min};
+ghost use lib.Dec.{eqb, ltb};
 ghost use lib.ListN.{length, take};
 ghost use Rattle.octets.specs.Bytes.{splice};
-ghost use Rattle.points.specs.Inputs.{inputs};
-ghost use Rattle.objects.specs.Runs.{lead};
+ghost use Rattle.points.specs.Inputs.{Inputs, inputs, noAnalog};
+ghost use Rattle.objects.specs.Values.{stateByte};
+ghost use Rattle.objects.specs.Runs.{objectBytes};
 ghost use Rattle.request.specs.Plans.{plannedOf};
+ghost use Rattle.static_objects.specs.declared.Shown.the-variants.{Binary, Analog};
 ghost use Rattle.static_objects.specs.Static.{
-  shownAt,
   groupOf,
   variationOf,
   pointBytes,
@@ -19,6 +22,8 @@ ghost use Rattle.static_objects.specs.Static.{
   staticBytes,
   readOf,
 };
+use points::AnalogPoint;
+use points::BinaryPoint;
 use points::Points;
 use points::Value;
 use request::Header;
@@ -42,36 +47,33 @@ fn installed(count: usize) -> usize
     }
 }
 
-fn binary_at(p: Points, i: usize) -> Shown
-    ensures { λ r. ⌜ r ≡ shownAt (inputs p) false i ⌝ }
+// A point's place in its array; for an index past it the last place, whose point is then not shown.
+fn slot(i: usize) -> usize
+    ensures { λ r. ⌜ r ≡ min i 63 ⌝ }
 {
-    if i < installed(p.binary_count) {
-        let b = p.binaries[i];
+    if i < 63 { i } else { 63 }
+}
+
+// What the i-th binary shows, of so many installed.
+fn binary_shown(b: BinaryPoint, i: usize, count: usize) -> Shown
+    ensures { λ r. ⌜ r ≡ cond (ltb i count) (Binary (stateByte (b .state) (b .flags))) (Binary 0) ⌝ }
+{
+    if i < count {
         Shown::Binary(objects::state_byte(b.state, b.flags))
     } else {
         Shown::Binary(0)
     }
 }
 
-fn analog_at(p: Points, i: usize) -> Shown
-    ensures { λ r. ⌜ r ≡ shownAt (inputs p) true i ⌝ }
+// What the i-th analog shows, of so many installed.
+fn analog_shown(a: AnalogPoint, i: usize, count: usize) -> Shown
+    ensures { λ r. ⌜ r ≡ cond (ltb i count) (Analog (a .flags) (a .value)) (Analog (noAnalog .flags) (noAnalog .value)) ⌝ }
 {
-    if i < installed(p.analog_count) {
-        let a = p.analogs[i];
+    if i < count {
         let v = a.value;
         Shown::Analog(a.flags, v)
     } else {
         Shown::Analog(0, Value::Long(0))
-    }
-}
-
-fn shown_at(p: Points, analog: bool, i: usize) -> Shown
-    ensures { λ r. ⌜ r ≡ shownAt (inputs p) analog i ⌝ }
-{
-    if analog {
-        analog_at(p, i)
-    } else {
-        binary_at(p, i)
     }
 }
 
@@ -149,37 +151,66 @@ fn put_point(out: &mut [u8], at: usize, s: Shown) -> usize
     }
 }
 
-// How many of n points from `from` on follow one another with the variation.
-fn run_length(p: Points, analog: bool, from: usize, n: usize, wanted: u8) -> usize
-    requires { ⌜ from + n < 200000 ⌝ }
-    ensures { λ r. ⌜ (r ≡ lead wanted (pointObjects (inputs p) analog from n)) × (r ≤ n) ⌝ }
+// ---- binaries: all of one variation, so one header
+
+// The bytes that n binaries take.
+fn binaries_size(n: usize) -> usize
+    requires { ⌜ n < 200000 ⌝ }
+    ensures { λ r. ⌜ ((i : Inputs) (from : ℕ) → r ≡ length (rangeBytes i false from n)) × (r ≤ 7 + n) ⌝ }
 {
-    let mut m: usize = 0;
+    if n == 0 { 0 } else { 7 + n }
+}
+
+// Puts what n binaries from `from` on show at the offset. The loop reads the array itself: a function that takes the points copies them.
+fn put_states(out: &mut [u8], at: usize, p: Points, from: usize, n: usize)
+    requires { ⌜ (at + n ≤ length (now out)) × (from + n < 200000) ⌝ }
+    ensures { λ _. ⌜ now (out .exit) ≡ splice (now (out .entry)) at (objectBytes (pointObjects (inputs p) false from n)) ⌝ }
+{
+    let count = installed(p.binary_count);
+    let mut to = at;
     let mut i = from;
     let mut left = n;
     while 0 < left {
-        let s = shown_at(p, analog, i);
-        if variation(s) != wanted {
-            return m;
-        }
-        m += 1;
+        let j = slot(i);
+        let b = p.binaries[j];
+        let s = binary_shown(b, i, count);
+        to = put_point(out, to, s);
         i += 1;
         left -= 1;
     }
-    m
 }
 
-// The bytes that n points from `from` on take.
-fn range_size(p: Points, analog: bool, from: usize, n: usize) -> usize
-    requires { ⌜ from + n < 200000 ⌝ }
-    ensures { λ r. ⌜ (r ≡ length (rangeBytes (inputs p) analog from n)) × (r ≤ 12 * n) ⌝ }
+// Puts n binaries from `from` on at the offset, and answers the offset after them.
+fn put_binaries(out: &mut [u8], at: usize, p: Points, from: usize, n: usize) -> usize
+    requires { ⌜ (at + length (rangeBytes (inputs p) false from n) ≤ length (now out)) × (from + n < 200000) ⌝ }
+    ensures { λ r. ⌜
+        (r ≡ at + length (rangeBytes (inputs p) false from n))
+        × (now (out .exit) ≡ splice (now (out .entry)) at (rangeBytes (inputs p) false from n)) ⌝ }
 {
+    if n == 0 {
+        return at;
+    }
+    let to = put_heading(out, at, false, 2, from, n - 1);
+    put_states(out, to, p, from, n);
+    to + n
+}
+
+// ---- analogs: a header where the variation changes
+
+// The bytes that n analogs from `from` on take.
+fn analogs_size(p: Points, from: usize, n: usize) -> usize
+    requires { ⌜ from + n < 200000 ⌝ }
+    ensures { λ r. ⌜ (r ≡ length (rangeBytes (inputs p) true from n)) × (r ≤ 12 * n) ⌝ }
+{
+    let count = installed(p.analog_count);
     let mut total: usize = 0;
     let mut last: u8 = 0;
     let mut i = from;
     let mut left = n;
     while 0 < left {
-        let s = shown_at(p, analog, i);
+        let j = slot(i);
+        let a = p.analogs[j];
+        let s = analog_shown(a, i, count);
         let k = variation(s);
         let bytes = size(s);
         i += 1;
@@ -194,40 +225,64 @@ fn range_size(p: Points, analog: bool, from: usize, n: usize) -> usize
     total
 }
 
-// Puts n points from `from` on at the offset, and answers the offset after them.
-fn put_range(out: &mut [u8], at: usize, p: Points, analog: bool, from: usize, n: usize) -> usize
-    requires { ⌜ (at + length (rangeBytes (inputs p) analog from n) ≤ length (now out)) × (from + n < 200000) ⌝ }
-    ensures { λ r. ⌜
-        (r ≡ at + length (rangeBytes (inputs p) analog from n))
-        × (now (out .exit) ≡ splice (now (out .entry)) at (rangeBytes (inputs p) analog from n)) ⌝ }
+// Puts the header of a run that ends, of the point `first` and m more. The variation 0 stands for no run.
+fn end_run(out: &mut [u8], at: usize, variation: u8, first: usize, m: usize)
+    requires { ⌜
+        (at + length (cond (eqb variation 0) [] (staticHeading true variation first (m + 1))) ≤ length (now out))
+        × (first + m < 200000) ⌝ }
+    ensures { λ _. ⌜ now (out .exit) ≡
+        splice (now (out .entry)) at (cond (eqb variation 0) [] (staticHeading true variation first (m + 1))) ⌝ }
 {
+    if variation != 0 {
+        put_heading(out, at, true, variation, first, m);
+    }
+}
+
+// Puts n analogs from `from` on at the offset, and answers the offset after them. A run's header has its last index, so its place
+// is left free until the run ends.
+fn put_analogs(out: &mut [u8], at: usize, p: Points, from: usize, n: usize) -> usize
+    requires { ⌜ (at + length (rangeBytes (inputs p) true from n) ≤ length (now out)) × (from + n < 200000) ⌝ }
+    ensures { λ r. ⌜
+        (r ≡ at + length (rangeBytes (inputs p) true from n))
+        × (now (out .exit) ≡ splice (now (out .entry)) at (rangeBytes (inputs p) true from n)) ⌝ }
+{
+    let count = installed(p.analog_count);
     let mut to = at;
+    let mut run = at;
     let mut last: u8 = 0;
+    let mut first = from;
+    let mut m: usize = 0;
     let mut i = from;
     let mut left = n;
     while 0 < left {
-        let s = shown_at(p, analog, i);
+        let j = slot(i);
+        let a = p.analogs[j];
+        let s = analog_shown(a, i, count);
         let k = variation(s);
         let here = i;
         i += 1;
         left -= 1;
         if k == last {
             to = put_point(out, to, s);
+            m += 1;
         } else {
-            let m = run_length(p, analog, i, left, k);
-            let after = put_heading(out, to, analog, k, here, m);
-            to = put_point(out, after, s);
+            end_run(out, run, last, first, m);
+            run = to;
+            to = put_point(out, to + 7, s);
             last = k;
+            first = here;
+            m = 0;
         }
     }
+    end_run(out, run, last, first, m);
     to
 }
 
 fn header_size(h: Header, p: Points) -> usize
     ensures { λ r. ⌜ (r ≡ length (headerBytes (inputs p) h)) × (r ≤ 1600000) ⌝ }
 {
-    let binaries = range_size(p, false, h.binary as usize, h.binaries as usize);
-    let analogs = range_size(p, true, h.analog as usize, h.analogs as usize);
+    let binaries = binaries_size(h.binaries as usize);
+    let analogs = analogs_size(p, h.analog as usize, h.analogs as usize);
     binaries + analogs
 }
 
@@ -237,8 +292,8 @@ fn put_header(out: &mut [u8], at: usize, h: Header, p: Points) -> usize
         (r ≡ at + length (headerBytes (inputs p) h))
         × (now (out .exit) ≡ splice (now (out .entry)) at (headerBytes (inputs p) h)) ⌝ }
 {
-    let to = put_range(out, at, p, false, h.binary as usize, h.binaries as usize);
-    put_range(out, to, p, true, h.analog as usize, h.analogs as usize)
+    let to = put_binaries(out, at, p, h.binary as usize, h.binaries as usize);
+    put_analogs(out, to, p, h.analog as usize, h.analogs as usize)
 }
 
 // How many of a plan's headers there are.

@@ -7,41 +7,37 @@ use borrow.Author.Needs.{needs}
 use Rattle.static_objects.proofs.header_size.Statement.{statement}
 use Rattle.static_objects.proofs.header_size.Tie as tie
 
-cast-range-size : tie.Need-cast-range-size
-cast-range-size c = search needs
+cast-binaries-size : tie.Need-cast-binaries-size
+cast-binaries-size c = search needs
 
-cast-range-size-2 : tie.Need-cast-range-size-2
-cast-range-size-2 c = search needs
+binaries-size-requires : tie.Need-binaries-size-requires
+binaries-size-requires c κs = search needs
 
-range-size-requires : tie.Need-range-size-requires
-range-size-requires c κs = search needs
+cast-analogs-size : tie.Need-cast-analogs-size
+cast-analogs-size c = search needs
 
-cast-range-size-3 : tie.Need-cast-range-size-3
-cast-range-size-3 c = search needs
+cast-analogs-size-2 : tie.Need-cast-analogs-size-2
+cast-analogs-size-2 c = search needs
 
-cast-range-size-4 : tie.Need-cast-range-size-4
-cast-range-size-4 c = search needs
-
-range-size-requires-2 : tie.Need-range-size-requires-2
-range-size-requires-2 c κs = search needs
+analogs-size-requires : tie.Need-analogs-size-requires
+analogs-size-requires c κs = search needs
 
 add-result : tie.Need-add-result
 add-result c = search needs
 
 returns : tie.Need-returns
 returns c =
-    let a = c .before .before .before .before .before .before .args in
-    (omega (arith, header-length (inputs (a .p)) (a .h), c .range-size2 .ensures .0, c .before .before .before .range-size .ensures .0), search needs)
+    let a = c .before .before .before .before .before .args in
+    (omega (arith, header-length (inputs (a .p)) (a .h), c .analogs-size .ensures .0, c .before .before .before .binaries-size .ensures .0 (inputs (a .p)) (a .h .binary)), search needs)
 
 pub header-size-spec : {M : Type 1} → statement M
 header-size-spec =
     tie.close
     (tie.spec
-    cast-range-size
-    cast-range-size-2
-    range-size-requires
-    cast-range-size-3
-    cast-range-size-4
-    range-size-requires-2
+    cast-binaries-size
+    binaries-size-requires
+    cast-analogs-size
+    cast-analogs-size-2
+    analogs-size-requires
     add-result
     returns)
