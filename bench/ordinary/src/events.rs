@@ -81,12 +81,49 @@ impl Buffer {
         &self.held[..self.count]
     }
 
-    /// Marks the events of the asked classes that fit, oldest first, up to the first that does not.
-    pub fn select(&mut self, classes: [bool; 3], room: usize) {
+    /// No event is carried any more.
+    pub fn clear(&mut self) {
         let count = self.count;
         for h in &mut self.held[..count] {
             h.carried = false;
         }
+    }
+
+    /// The carried events go.
+    pub fn release(&mut self) {
+        let mut kept = 0;
+        for i in 0..self.count {
+            let h = self.held[i];
+            if !h.carried {
+                self.held[kept] = h;
+                kept += 1;
+            }
+        }
+        self.count = kept;
+    }
+
+    /// Holds what another buffer holds.
+    pub fn refill(&mut self, full: &Buffer) {
+        self.held[..full.count].copy_from_slice(full.events());
+        self.count = full.count;
+        self.overflow = full.overflow;
+    }
+
+    /// The classes of which events are held and not carried.
+    pub fn left_behind(&self) -> [bool; 3] {
+        let mut left = [false; 3];
+        for h in self.events().iter().filter(|h| !h.carried) {
+            if let Some(l) = left.get_mut((h.event.class as usize).wrapping_sub(1)) {
+                *l = true;
+            }
+        }
+        left
+    }
+
+    /// Marks the events of the asked classes that fit, oldest first, up to the first that does not.
+    pub fn select(&mut self, classes: [bool; 3], room: usize) {
+        self.clear();
+        let count = self.count;
         let mut left = room;
         let mut last = 0;
         for h in &mut self.held[..count] {

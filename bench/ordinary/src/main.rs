@@ -7,7 +7,7 @@ mod points;
 mod read;
 
 use events::{Buffer, Event, Shown, CAPACITY};
-use outstation::Outstation;
+use outstation::{Answer, FragmentError, Outstation};
 use points::{
     AnalogPoint, BinaryPoint, FloatTrack, Gate, Measure, Points, ReadingError, Scale, Value,
     WholeTrack,
@@ -141,6 +141,11 @@ fn digest(sum: u64, b: &Buffer) -> u64 {
     })
 }
 
+/// The checksum with every byte.
+fn fold_all(sum: u64, s: &[u8]) -> u64 {
+    s.iter().fold(sum, |sum, &b| fold(sum, b as u64))
+}
+
 fn push(count: u64) -> u64 {
     let mut b = Buffer::new();
     let mut sum = 1u64;
@@ -193,14 +198,15 @@ fn binary_of(state: bool, flags: u8) -> BinaryPoint {
     b
 }
 
-fn class_0(count: u64) -> u64 {
+/// So many points of each kind.
+fn class_0(count: u64, n: usize) -> u64 {
     let mut out = [0u8; 2048];
     let request = [60u8, 1, 6];
     let mut p = Points {
         binaries: [binary_of(true, 1); 64],
-        binary_count: 64,
+        binary_count: n,
         analogs: std::array::from_fn(analog_of),
-        analog_count: 64,
+        analog_count: n,
     };
     let mut b = Buffer::new();
     let mut sum = 1u64;
@@ -209,16 +215,16 @@ fn class_0(count: u64) -> u64 {
         let size = read::respond(&mut out, &request, &p, &mut b).unwrap_or(4);
         sum = fold(sum, size as u64 + out[(sum % 1024) as usize] as u64);
     }
-    digest(sum, &b)
+    digest(fold_all(sum, &out), &b)
 }
 
-fn fresh_outstation() -> Outstation {
+fn fresh_outstation(n: usize) -> Outstation {
     let a = AnalogPoint::new(2, Measure::Long(WholeTrack::new(Gate::Beyond(100))));
     Outstation::new(Points {
         binaries: [BinaryPoint::new(1); 64],
-        binary_count: 64,
+        binary_count: n,
         analogs: [a; 64],
-        analog_count: 64,
+        analog_count: n,
     })
 }
 
@@ -232,35 +238,175 @@ fn accepted(r: Result<(), ReadingError>) -> u64 {
     }
 }
 
-fn outstation_reading(count: u64) -> u64 {
-    let mut o = fresh_outstation();
+/// The next of n points, from the first again after the last.
+fn following(point: u16, n: usize) -> u16 {
+    if (point as usize) + 1 < n {
+        point + 1
+    } else {
+        0
+    }
+}
+
+fn outstation_reading(count: u64, n: usize) -> u64 {
+    let mut o = fresh_outstation(n);
+    let mut point = 0;
+    let mut state = true;
     let mut sum = 1u64;
     for left in (1..=count).rev() {
         if left % 256 == 0 {
             o.buffer.count = 0;
         }
-        let r = o.binary_reading(count - left, (left % 64) as u16, left / 64 % 2 == 0, 1);
+        let r = o.binary_reading(count - left, point, state, 1);
         sum = fold(sum, accepted(r) + o.clock);
+        point = following(point, n);
+        state ^= point == 0;
     }
     digest(sum, &o.buffer)
 }
 
-fn outstation_reading_by_value(count: u64) -> u64 {
-    let mut o = fresh_outstation();
+fn outstation_reading_by_value(count: u64, n: usize) -> u64 {
+    let mut o = fresh_outstation(n);
+    let mut point = 0;
+    let mut state = true;
     let mut sum = 1u64;
     for left in (1..=count).rev() {
         if left % 256 == 0 {
             o.buffer.count = 0;
         }
-        let (next, r) =
-            outstation::binary_reading(o, count - left, (left % 64) as u16, left / 64 % 2 == 0, 1);
+        let (next, r) = outstation::binary_reading(o, count - left, point, state, 1);
         o = next;
         sum = fold(sum, accepted(r) + o.clock);
+        point = following(point, n);
+        state ^= point == 0;
     }
     digest(sum, &o.buffer)
 }
 
-fn run(name: &str, count: u64) -> Option<u64> {
+/// The kinds and the classes take turns.
+fn event_at(i: u64) -> Event {
+    let shown = match i % 4 {
+        0 => Shown::State(i % 8 == 0),
+        1 => Shown::Analog(Value::Long((i % 4096) as i32)),
+        2 => Shown::Analog(Value::Short((i % 4096) as i16)),
+        _ => Shown::Analog(Value::Real(2.25)),
+    };
+    Event {
+        point: (i % 64) as u16,
+        shown,
+        flags: 1,
+        time: i,
+        class: (i % 3 + 1) as u8,
+    }
+}
+
+/// 64 points of each kind, the binaries read once, and n held events.
+fn holding(n: usize) -> Outstation {
+    let mut o = fresh_outstation(64);
+    for point in 0..64 {
+        let _ = o.binary_reading(0, point, false, 1);
+    }
+    for i in 0..n as u64 {
+        o.buffer.push(event_at(i));
+    }
+    o
+}
+
+/// Before each reading what the last one changed is set back: the clock, the point and the count.
+fn held_reading(count: u64, n: usize) -> u64 {
+    let full = holding(n);
+    let mut o = full;
+    let mut sum = 1u64;
+    for left in (1..=count).rev() {
+        let point = (left % 64) as u16;
+        let r = o.binary_reading(left, point, true, 1);
+        sum = fold(sum, accepted(r) + o.clock + o.buffer.count as u64);
+        o.clock = full.clock;
+        o.points.binaries[point as usize] = full.points.binaries[point as usize];
+        o.buffer.count = n;
+    }
+    let _ = o.binary_reading(1, 0, true, 1);
+    digest(sum, &o.buffer)
+}
+
+fn held_reading_by_value(count: u64, n: usize) -> u64 {
+    let full = holding(n);
+    let mut sum = 1u64;
+    for left in (1..=count).rev() {
+        let (o, r) = outstation::binary_reading(full, left, (left % 64) as u16, true, 1);
+        sum = fold(sum, accepted(r) + o.clock + o.buffer.count as u64);
+    }
+    let (o, _) = outstation::binary_reading(full, 1, 0, true, 1);
+    digest(sum, &o.buffer)
+}
+
+fn fold_answer(sum: u64, r: Result<Answer, FragmentError>, out: &[u8]) -> u64 {
+    let x = match r {
+        Ok(Answer::Response(n)) => n as u64 + out[(sum % 2048) as usize] as u64,
+        Ok(Answer::Confirmed) => 1,
+        Err(FragmentError::Time) => 3,
+        Err(FragmentError::Malformed) => 4,
+        Err(FragmentError::NotConfirmed) => 5,
+        Err(FragmentError::AnswerLent) => 6,
+    };
+    fold(sum, x)
+}
+
+const ASK: [u8; 11] = [192, 1, 60, 2, 6, 60, 3, 6, 60, 4, 6];
+const CONFIRM: [u8; 2] = [192, 0];
+
+/// Before each READ the clock and the held events are set back; the request before it plays no part in a READ.
+fn event_read(count: u64, n: usize) -> u64 {
+    let (mut ask, mut confirm, mut out) = (ASK, CONFIRM, [0u8; 2048]);
+    let full = holding(n);
+    let mut o = full;
+    let mut sum = 1u64;
+    for left in (1..=count).rev() {
+        let time = 1000 + left % 1000;
+        ask[0] = 192 + (left % 16) as u8;
+        confirm[0] = ask[0];
+        let r = o.fragment(time, &ask, &mut out);
+        sum = fold_answer(sum, r, &out);
+        let r = o.fragment(time, &confirm, &mut out);
+        sum = fold(fold_answer(sum, r, &out), o.buffer.count as u64);
+        o.clock = full.clock;
+        o.buffer.refill(&full.buffer);
+    }
+    let _ = o.fragment(1000, &ask, &mut out);
+    let _ = o.fragment(1000, &confirm, &mut out);
+    digest(fold_all(sum, &out), &o.buffer)
+}
+
+fn event_read_by_value(count: u64, n: usize) -> u64 {
+    let (mut ask, mut confirm, mut out) = (ASK, CONFIRM, [0u8; 2048]);
+    let full = holding(n);
+    let mut sum = 1u64;
+    for left in (1..=count).rev() {
+        let time = 1000 + left % 1000;
+        ask[0] = 192 + (left % 16) as u8;
+        confirm[0] = ask[0];
+        let (o, r) = outstation::fragment(full, time, &ask, &mut out);
+        sum = fold_answer(sum, r, &out);
+        let (o, r) = outstation::fragment(o, time, &confirm, &mut out);
+        sum = fold(fold_answer(sum, r, &out), o.buffer.count as u64);
+    }
+    let (o, _) = outstation::fragment(full, 1000, &ask, &mut out);
+    let (o, _) = outstation::fragment(o, 1000, &confirm, &mut out);
+    digest(fold_all(sum, &out), &o.buffer)
+}
+
+/// The largest number of points or held events of a work, 0 where it has no size.
+fn most(name: &str) -> Option<usize> {
+    Some(match name {
+        "nothing" | "frame-write" | "frame-read" | "frame-write-table" | "frame-read-table" => 0,
+        "reading" | "reading-by-value" | "push" | "push-by-value" => 0,
+        "class-0" | "outstation-reading" | "outstation-reading-by-value" => 64,
+        "held-reading" | "held-reading-by-value" => 255,
+        "event-read" | "event-read-by-value" => 256,
+        _ => return None,
+    })
+}
+
+fn run(name: &str, count: u64, size: usize) -> Option<u64> {
     Some(match name {
         "nothing" => nothing(count),
         "frame-write" => frame_write(count, frame::check_bits),
@@ -271,19 +417,36 @@ fn run(name: &str, count: u64) -> Option<u64> {
         "reading-by-value" => reading_by_value(count),
         "push" => push(count),
         "push-by-value" => push_by_value(count),
-        "class-0" => class_0(count),
-        "outstation-reading" => outstation_reading(count),
-        "outstation-reading-by-value" => outstation_reading_by_value(count),
+        "class-0" => class_0(count, size),
+        "outstation-reading" => outstation_reading(count, size),
+        "outstation-reading-by-value" => outstation_reading_by_value(count, size),
+        "held-reading" => held_reading(count, size),
+        "held-reading-by-value" => held_reading_by_value(count, size),
+        "event-read" => event_read(count, size),
+        "event-read-by-value" => event_read_by_value(count, size),
         _ => return None,
     })
 }
 
+/// `NAME COUNT` or `NAME COUNT SIZE`.
+fn answer(line: &str) -> Option<u64> {
+    let mut words = line.split(' ');
+    let name = words.next()?;
+    let most = most(name)?;
+    let count = words.next()?.parse().ok().filter(|&n| n <= COUNT_MAX)?;
+    let size = match words.next() {
+        Some(w) => w.parse().ok().filter(|&n| n <= most)?,
+        None => most,
+    };
+    match words.next() {
+        Some(_) => None,
+        None => run(name, count, size),
+    }
+}
+
 fn main() {
     for line in std::io::stdin().lines().map_while(Result::ok) {
-        let answer = line
-            .split_once(' ')
-            .and_then(|(name, n)| run(name, n.parse().ok().filter(|&n| n <= COUNT_MAX)?));
-        match answer {
+        match answer(&line) {
             Some(sum) => println!("{sum}"),
             None => println!("unknown"),
         }

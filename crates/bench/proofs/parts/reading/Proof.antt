@@ -1,9 +1,9 @@
--- `bench::reading` is safe and ends. The measure is the number of turns that are left.
+-- `bench::parts::reading` is safe and ends. The measure is the number of turns that are left.
 -- Assumes nothing.
 use borrow.Author.Needs.{needs}
 use native.Mathlib.Omega.{arith}
-use Rattle.bench.proofs.reading.Statement.{statement}
-use Rattle.bench.proofs.reading.Tie as tie
+use Rattle.bench.proofs.parts.reading.Statement.{statement}
+use Rattle.bench.proofs.parts.reading.Tie as tie
 
 abbrev Inv-loop : tie.InvT-loop
 Inv-loop count p₀ sum₀ left₀ p sum left = Unit {0}

@@ -1,25 +1,22 @@
--- `bench::outstation_reading` is safe and ends. The measure is the number of turns that are left.
+-- `bench::stations::outstation_reading` is safe and ends. The measure is the number of turns that are left.
 -- Assumes nothing.
 use Prim.Native.Nat.{_≤_}
 use borrow.Author.Needs.{needs}
 use native.Mathlib.Omega.{arith}
-use Rattle.bench.proofs.outstation_reading.Statement.{statement}
-use Rattle.bench.proofs.outstation_reading.Tie as tie
+use Rattle.bench.proofs.stations.outstation_reading.Statement.{statement}
+use Rattle.bench.proofs.stations.outstation_reading.Tie as tie
 
 abbrev Inv-loop : tie.InvT-loop
-Inv-loop count o₀ sum₀ left₀ o sum left = left ≤ count
+Inv-loop count n o₀ point₀ state₀ sum₀ left₀ o point state sum left = left ≤ count
 
 abbrev μ-loop : tie.MeasureT-loop
-μ-loop count o₀ sum₀ left₀ o sum left = left
+μ-loop count n o₀ point₀ state₀ sum₀ left₀ o point state sum left = left
 
 fresh-outstation-requires : tie.Need-fresh-outstation-requires Inv-loop μ-loop
 fresh-outstation-requires c κs = tt
 
 loop-holds : tie.Need-loop-holds Inv-loop μ-loop
 loop-holds c = search needs
-
-cast-point : tie.Need-cast-point Inv-loop μ-loop
-cast-point c = search needs
 
 sub-binary-reading : tie.Need-sub-binary-reading Inv-loop μ-loop
 sub-binary-reading c = omega arith
@@ -35,6 +32,9 @@ plus-requires c κs = tt
 
 fold-requires : tie.Need-fold-requires Inv-loop μ-loop
 fold-requires c κs = tt
+
+following-requires : tie.Need-following-requires Inv-loop μ-loop
+following-requires c κs = tt
 
 sub-left : tie.Need-sub-left Inv-loop μ-loop
 sub-left c = omega arith
@@ -59,12 +59,12 @@ outstation-reading-spec =
     μ-loop
     fresh-outstation-requires
     loop-holds
-    cast-point
     sub-binary-reading
     binary-reading-requires
     accepted-requires
     plus-requires
     fold-requires
+    following-requires
     sub-left
     loop-less
     loop-again

@@ -1,10 +1,10 @@
--- `bench::digest` is safe and ends. The measure is the number of slots that are left.
+-- `bench::sums::digest` is safe and ends. The measure is the number of slots that are left.
 -- Assumes nothing.
 use Prim.Native.Nat.{_-_}
 use borrow.Author.Needs.{needs}
 use native.Mathlib.Omega.{arith}
-use Rattle.bench.proofs.digest.Statement.{statement}
-use Rattle.bench.proofs.digest.Tie as tie
+use Rattle.bench.proofs.sums.digest.Statement.{statement}
+use Rattle.bench.proofs.sums.digest.Tie as tie
 
 abbrev Inv-loop : tie.InvT-loop
 Inv-loop sum b all₀ i₀ all i = Unit {0}

@@ -1,8 +1,8 @@
--- `bench::push` is safe and ends. The measure is the number of turns that are left.
+-- `bench::parts::push` is safe and ends. The measure is the number of turns that are left.
 -- Assumes nothing.
 use native.Mathlib.Omega.{arith}
-use Rattle.bench.proofs.push.Statement.{statement}
-use Rattle.bench.proofs.push.Tie as tie
+use Rattle.bench.proofs.parts.push.Statement.{statement}
+use Rattle.bench.proofs.parts.push.Tie as tie
 
 abbrev Inv-loop : tie.InvT-loop
 Inv-loop count b₀ sum₀ left₀ b sum left = Unit {0}

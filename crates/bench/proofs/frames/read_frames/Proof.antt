@@ -1,30 +1,26 @@
--- `bench::fill` is safe and ends.
+-- `bench::frames::read_frames` is safe and ends. The measure is the number of turns that are left.
 -- Assumes nothing.
 use mathlib.Core.Path.{_≡_}
-use Prim.Native.Nat.{_-_}
 use lib.ListN.{length}
 use borrow.Author.Needs.{needs}
 use native.Mathlib.Omega.{arith}
-use Rattle.bench.proofs.fill.Statement.{statement}
-use Rattle.bench.proofs.fill.Tie as tie
+use Rattle.bench.proofs.frames.read_frames.Statement.{statement}
+use Rattle.bench.proofs.frames.read_frames.Tie as tie
 
 abbrev Inv-loop : tie.InvT-loop
-Inv-loop s₀ first b₀ i₀ s b i = length s ≡ length s₀
+Inv-loop count one other out₀ sum₀ left₀ out sum left = length out ≡ length out₀
 
 abbrev μ-loop : tie.MeasureT-loop
-μ-loop s₀ first b₀ i₀ s b i = length s₀ - i
+μ-loop count one other out₀ sum₀ left₀ out sum left = left
 
 loop-holds : tie.Need-loop-holds Inv-loop μ-loop
 loop-holds c = search needs
 
-slice-write-s : tie.Need-slice-write-s Inv-loop μ-loop
-slice-write-s c = search needs
+read-turn-requires : tie.Need-read-turn-requires Inv-loop μ-loop
+read-turn-requires c κs = tt
 
-wrapping-add-u8-requires : tie.Need-wrapping-add-u8-requires Inv-loop μ-loop
-wrapping-add-u8-requires c κs = tt
-
-add-i : tie.Need-add-i Inv-loop μ-loop
-add-i c = omega arith
+sub-left : tie.Need-sub-left Inv-loop μ-loop
+sub-left c = omega arith
 
 loop-less : tie.Need-loop-less Inv-loop μ-loop
 loop-less c = omega arith
@@ -38,16 +34,15 @@ same-length c = omega arith
 returns : tie.Need-returns Inv-loop μ-loop
 returns c = tt
 
-pub fill-spec : {M : Type 1} → statement M
-fill-spec =
+pub read-frames-spec : {M : Type 1} → statement M
+read-frames-spec =
     tie.close
     (tie.spec
     Inv-loop
     μ-loop
     loop-holds
-    slice-write-s
-    wrapping-add-u8-requires
-    add-i
+    read-turn-requires
+    sub-left
     loop-less
     loop-again
     same-length

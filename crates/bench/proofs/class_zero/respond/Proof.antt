@@ -1,24 +1,24 @@
--- `bench::respond` is safe and ends. The measure is the number of turns that are left.
+-- `bench::class_zero::respond` is safe and ends. The measure is the number of turns that are left.
 -- Assumes nothing.
 use mathlib.Core.Path.{_≡_, refl}
 use Prim.Native.Nat.{_≤_}
 use lib.ListN.{length}
 use borrow.Author.Needs.{needs}
 use native.Mathlib.Omega.{arith}
-use Rattle.bench.proofs.respond.Statement.{statement}
-use Rattle.bench.proofs.respond.Tie as tie
+use Rattle.bench.proofs.class_zero.respond.Statement.{statement}
+use Rattle.bench.proofs.class_zero.respond.Tie as tie
 
 abbrev Inv-loop : tie.InvT-loop
-Inv-loop count out₀ s p₀ b₀ sum₀ left₀ out p b sum left = (length out ≡ length out₀) × (2048 ≤ length out)
+Inv-loop count n out₀ s p₀ b₀ sum₀ left₀ out p b sum left = (length out ≡ length out₀) × (2048 ≤ length out)
 
 abbrev μ-loop : tie.MeasureT-loop
-μ-loop count out₀ s p₀ b₀ sum₀ left₀ out p b sum left = left
+μ-loop count n out₀ s p₀ b₀ sum₀ left₀ out p b sum left = left
 
 returns : tie.Need-returns Inv-loop μ-loop
 returns c = tt
 
-all-points-requires : tie.Need-all-points-requires Inv-loop μ-loop
-all-points-requires c κs = tt
+installed-requires : tie.Need-installed-requires Inv-loop μ-loop
+installed-requires c κs = tt
 
 empty-requires : tie.Need-empty-requires Inv-loop μ-loop
 empty-requires c κs = tt
@@ -29,8 +29,8 @@ loop-holds c = (refl, omega arith)
 binary-of-requires : tie.Need-binary-of-requires Inv-loop μ-loop
 binary-of-requires c κs = tt
 
-mul-t18 : tie.Need-mul-t18 Inv-loop μ-loop
-mul-t18 c = search needs
+mul-t19 : tie.Need-mul-t19 Inv-loop μ-loop
+mul-t19 c = search needs
 
 element-set-from-p : tie.Need-element-set-from-p Inv-loop μ-loop
 element-set-from-p c = search needs
@@ -56,6 +56,9 @@ loop-less c = omega arith
 loop-again : tie.Need-loop-again Inv-loop μ-loop
 loop-again c = (search needs, omega arith)
 
+fold-all-requires : tie.Need-fold-all-requires Inv-loop μ-loop
+fold-all-requires c κs = tt
+
 digest-requires : tie.Need-digest-requires Inv-loop μ-loop
 digest-requires c κs = tt
 
@@ -72,11 +75,11 @@ respond-spec =
     Inv-loop
     μ-loop
     returns
-    all-points-requires
+    installed-requires
     empty-requires
     loop-holds
     binary-of-requires
-    mul-t18
+    mul-t19
     element-set-from-p
     respond-requires
     byte-at-requires
@@ -85,6 +88,7 @@ respond-spec =
     sub-left
     loop-less
     loop-again
+    fold-all-requires
     digest-requires
     same-length
     returns-2)

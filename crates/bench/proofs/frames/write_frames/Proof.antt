@@ -1,11 +1,11 @@
--- `bench::write_frames` is safe and ends. The measure is the number of turns that are left.
+-- `bench::frames::write_frames` is safe and ends. The measure is the number of turns that are left.
 -- Assumes nothing.
 use mathlib.Core.Path.{_≡_, refl}
 use lib.ListN.{length}
 use borrow.Author.Needs.{needs}
 use native.Mathlib.Omega.{arith}
-use Rattle.bench.proofs.write_frames.Statement.{statement}
-use Rattle.bench.proofs.write_frames.Tie as tie
+use Rattle.bench.proofs.frames.write_frames.Statement.{statement}
+use Rattle.bench.proofs.frames.write_frames.Tie as tie
 
 abbrev Inv-loop : tie.InvT-loop
 Inv-loop count out₀ user₀ sum₀ left₀ out user sum left = (length out ≡ length out₀) × (length user ≡ length user₀)

@@ -1,18 +1,18 @@
--- `bench::all_points` is safe and ends. The invariant: the array keeps its length.
+-- `bench::class_zero::installed` is safe and ends. The invariant: the array keeps its length.
 -- Assumes nothing.
 use mathlib.Core.Path.{_≡_}
 use Prim.Native.Nat.{_-_}
 use lib.ListN.{length}
 use borrow.Author.Needs.{needs}
 use native.Mathlib.Omega.{arith}
-use Rattle.bench.proofs.all_points.Statement.{statement}
-use Rattle.bench.proofs.all_points.Tie as tie
+use Rattle.bench.proofs.class_zero.installed.Statement.{statement}
+use Rattle.bench.proofs.class_zero.installed.Tie as tie
 
 abbrev Inv-loop : tie.InvT-loop
-Inv-loop bs ps₀ i₀ ps i = length ps ≡ 64
+Inv-loop n bs ps₀ i₀ ps i = length ps ≡ 64
 
 abbrev μ-loop : tie.MeasureT-loop
-μ-loop bs ps₀ i₀ ps i = 64 - i
+μ-loop n bs ps₀ i₀ ps i = 64 - i
 
 binary-of-requires : tie.Need-binary-of-requires Inv-loop μ-loop
 binary-of-requires c κs = tt
@@ -44,8 +44,8 @@ loop-again c = search needs
 returns : tie.Need-returns Inv-loop μ-loop
 returns c = tt
 
-pub all-points-spec : {M : Type 1} → statement M
-all-points-spec =
+pub installed-spec : {M : Type 1} → statement M
+installed-spec =
     tie.close
     (tie.spec
     Inv-loop

@@ -1,0 +1,86 @@
+// One point, and one event into the buffer.
+use crate::sums::bit;
+use crate::sums::digest;
+use crate::sums::fold;
+use crate::sums::plus;
+use events::Event;
+use events::Shown;
+use points::AnalogKind;
+use points::AnalogPoint;
+use points::AnalogSetup;
+use points::AnalogTaken;
+use points::Value;
+use points::WholeGate;
+
+fn value_of(v: Value) -> u64 {
+    match v {
+        Value::Long(z) => points::whole_distance(z, 0) as u64,
+        Value::Short(_) => 1,
+        Value::Real(_) => 2,
+    }
+}
+
+// A 32-bit point with a limit. Its kind hangs on the count, so that no compiler knows it before the run.
+fn one_point(count: u64) -> AnalogPoint {
+    let g = if count == 999999999999 {
+        WholeGate::Summed(100)
+    } else {
+        WholeGate::Beyond(100)
+    };
+    let k = if count == crate::COUNT_MAX {
+        AnalogKind::Short(g)
+    } else {
+        AnalogKind::Long(g)
+    };
+    points::fresh_analog(AnalogSetup { class: 1, kind: k })
+}
+
+pub fn reading(count: u64) -> u64 {
+    let mut p = one_point(count);
+    let mut sum: u64 = 1;
+    let mut left = count;
+    while 0 < left {
+        let z = (left % 4096) as i32;
+        let t = points::read_whole(p, z, 1);
+        match t {
+            AnalogTaken::Taken(q, raised) => {
+                p = q;
+                let v = q.value;
+                sum = fold(sum, plus(value_of(v), bit(raised)));
+            }
+            AnalogTaken::OtherKind => {}
+            AnalogTaken::NotFinite => {}
+            AnalogTaken::HostFlags => {}
+        }
+        left -= 1;
+    }
+    sum
+}
+
+fn event_of(n: u64) -> Event {
+    let z = (n % 4096) as i32;
+    let s = Shown::Analog(Value::Long(z));
+    Event {
+        time: n,
+        shown: s,
+        point: (n % 64) as u16,
+        flags: 1,
+        class: 1,
+    }
+}
+
+pub fn push(count: u64) -> u64 {
+    let mut b = events::empty();
+    let mut sum: u64 = 1;
+    let mut left = count;
+    while 0 < left {
+        if events::CAPACITY <= b.count {
+            b.count = 0;
+        }
+        let e = event_of(left);
+        b = events::push(b, e);
+        sum = fold(sum, b.count as u64);
+        left -= 1;
+    }
+    digest(sum, b)
+}
