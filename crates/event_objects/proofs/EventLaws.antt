@@ -109,7 +109,7 @@ module _ (h : Held) (hs : List Held) where
   unfolding carriedObjects carriedEvents
   carried-no t = ap (λ (l : List Held). map eventObject (map (λ (x : Held). x .event) l)) (filter-no isCarried h hs t)
 
-kind-some : (s : Shown) → shownKind s ≡ 0 → ⊥
+pub kind-some : (s : Shown) → shownKind s ≡ 0 → ⊥
 kind-some (State on) h = omega arith
 kind-some (Analog (Long z)) h = omega arith
 kind-some (Analog (Short z)) h = omega arith

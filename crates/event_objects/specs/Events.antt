@@ -1,7 +1,7 @@
 -- The events that a response carries, as bytes: "Events are 2 var 2, 32 var 3 (32-bit), 4 (16-bit), 7 (float), qualifier 28,
 -- neighbours of one kind under one header."
 -- Assumes nothing.
-use Prim.Native.Nat.{ℕ}
+use Prim.Native.Nat.{ℕ, suc}
 use mathlib.Core.Bool.{cond}
 use mathlib.Core.List.{List, [], _∷_, _++_, map}
 use lib.Dec.{eqb}
@@ -57,3 +57,14 @@ carriedObjects hs = map eventObject (carriedEvents hs)
 
 unfoldable pub carriedBytes : List Held → List ℕ
 carriedBytes hs = encoded eventHeading (carriedObjects hs)
+
+-- ---- the same by kinds
+
+-- the kind of a held event's object, 0 where the response does not carry it
+abbrev pub carriedKind : Held → ℕ
+carriedKind h = cond (h .carried) (kindOf (h .event)) 0
+
+-- how many of the kind stand in front, those that are not carried passed over
+unfoldable pub leadKind : ℕ → List ℕ → ℕ
+leadKind k [] = 0
+leadKind k (x ∷ xs) = cond (eqb x 0) (leadKind k xs) (cond (eqb x k) (suc (leadKind k xs)) 0)

@@ -1,21 +1,23 @@
 // The events that a response carries, written into lent bytes.
 ghost use mathlib.Core.Path.{_≡_};
+ghost use mathlib.Core.List.{map};
 ghost use Prim.Native.Nat.{_+_, _≤_, min};
-ghost use lib.ListN.{length};
+ghost use lib.ListN.{length, take};
 ghost use lib.Seq.{slice};
 ghost use Rattle.octets.specs.Bytes.{splice};
-ghost use Rattle.objects.specs.Runs.{lead};
 ghost use Rattle.events.specs.Queue.{queue};
 ghost use Rattle.event_objects.specs.Events.{
   groupOf,
   variationOf,
   eventHeading,
   eventBytes,
-  carriedObjects,
+  carriedKind,
+  leadKind,
   carriedBytes,
 };
 use events::Buffer;
 use events::Event;
+use events::Held;
 use events::Shown;
 
 fn group(kind: u8) -> u8
@@ -75,21 +77,45 @@ fn put_event(out: &mut [u8], at: usize, e: Event) -> usize
     }
 }
 
-// How many carried events of the kind follow one another from a place of the buffer on.
-fn run_length(b: Buffer, from: usize, kind: u8) -> u16
-    ensures { λ r. ⌜
-        (r ≡ lead kind (carriedObjects (slice from (min (b .count) 256) (b .held))))
-        × (r ≤ 256) ⌝ }
+// The kind of a held event, 0 where it is not carried.
+fn carried_kind(h: Held) -> u8
+    ensures { λ r. ⌜ r ≡ carriedKind h ⌝ }
+{
+    if h.carried {
+        let e = h.event;
+        events::kind(e)
+    } else {
+        0
+    }
+}
+
+// The kinds of the slots in use: bytes that can be lent, where the buffer would be copied.
+fn carried_kinds(b: Buffer) -> [u8; 256]
+    ensures { λ r. ⌜ take (min (b .count) 256) r ≡ map carriedKind (take (min (b .count) 256) (b .held)) ⌝ }
 {
     let n = events::filled(b.count);
-    let mut i = from;
-    let mut m: u16 = 0;
+    let mut kinds = [0u8; 256];
+    let mut i: usize = 0;
     while i < n {
         let h = b.held[i];
+        kinds[i] = carried_kind(h);
         i += 1;
-        if h.carried {
-            let e = h.event;
-            if events::kind(e) == kind {
+    }
+    kinds
+}
+
+// How many of the kind follow one another from a place on, up to another, 0 being passed over.
+fn run_length(kinds: &[u8], from: usize, to: usize, kind: u8) -> u16
+    requires { ⌜ (to ≤ length (now kinds)) × (to ≤ 256) ⌝ }
+    ensures { λ r. ⌜ (r ≡ leadKind kind (slice from to (now (kinds .entry)))) × (r ≤ 256) ⌝ }
+{
+    let mut i = from;
+    let mut m: u16 = 0;
+    while i < to {
+        let k = kinds[i];
+        i += 1;
+        if k != 0 {
+            if k == kind {
                 m += 1;
             } else {
                 return m;
@@ -106,6 +132,7 @@ pub fn put_events(out: &mut [u8], at: usize, b: Buffer) -> usize
         (r ≡ at + length (carriedBytes (queue b .held)))
         × (now (out .exit) ≡ splice (now (out .entry)) at (carriedBytes (queue b .held))) ⌝ }
 {
+    let kinds = carried_kinds(b);
     let n = events::filled(b.count);
     let mut to = at;
     let mut last: u8 = 0;
@@ -119,7 +146,7 @@ pub fn put_events(out: &mut [u8], at: usize, b: Buffer) -> usize
             if k == last {
                 to = put_event(out, to, e);
             } else {
-                let m = run_length(b, i, k);
+                let m = run_length(&kinds, i, n, k);
                 let after = put_heading(out, to, k, m + 1);
                 to = put_event(out, after, e);
                 last = k;
