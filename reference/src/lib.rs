@@ -3,8 +3,9 @@
 //! One module for each layer of 01: `crc`, `frame` and `link` are "Bytes on the line", with
 //! `transport` for segments; `points` and `events` are "Readings"; `application` and `control`
 //! are "What the control room is told"; `outstation` is the setup and the state; `script` is the
-//! text interface. `faults` makes the program wrong on purpose, in one named way at a time.
-//! Where 01 leaves room, the reading taken is cited as R and its number (R3.9).
+//! text interface; `generate` writes random scripts. `faults` makes the program wrong on purpose,
+//! in one named way at a time. Where 01 leaves room, the reading taken is cited as R and its
+//! number (R3.9).
 
 pub mod application;
 pub mod control;
@@ -12,6 +13,7 @@ pub mod crc;
 pub mod events;
 pub mod faults;
 pub mod frame;
+pub mod generate;
 pub mod link;
 pub mod outstation;
 pub mod points;

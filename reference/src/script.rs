@@ -38,7 +38,9 @@ pub const POINTS: usize = 64;
 /// What lent bytes are filled with.
 const FILL: u8 = 0xA5;
 
-enum Call {
+/// A line of a script, read. Lent lengths come first (after the time of a fragment).
+#[derive(Clone, Debug)]
+pub enum Call {
     Setup(Setup),
     Restart,
     Reading(Reading),
@@ -323,7 +325,7 @@ fn put_event(event: &Event, out: &mut Vec<u8>) {
 
 // Reading the words. None anywhere is a fault of the script.
 
-fn parse(line: &[u8]) -> Option<Call> {
+pub fn parse(line: &[u8]) -> Option<Call> {
     let words: Vec<&[u8]> = line.split(|&byte| byte == b' ').collect();
     let rest = &words[1..];
     match (words[0], rest) {

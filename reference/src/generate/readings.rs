@@ -1,10 +1,10 @@
 //! Setups, readings and tables.
 
-use reference::outstation::Setup;
-use reference::points::{Form, Gate};
+use crate::outstation::Setup;
+use crate::points::{Form, Gate};
 
-use crate::random::Random;
-use crate::{Generator, Kind};
+use super::random::Random;
+use super::{Generator, Kind};
 
 /// Floats worth trying: zeros, subnormals, normal ends, largest, near ties, plain, not finite.
 #[rustfmt::skip]

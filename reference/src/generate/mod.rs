@@ -1,9 +1,9 @@
-//! `generate [--stats] KIND SEED LINES`: a random call script, the same for the same arguments.
+//! Random call scripts, the same for the same kind, seed and number of lines.
 //!
-//! KIND says which calls occur: `line` (crc, frame-write, frame-read, record), `station` (setup
+//! The kind says which calls occur: `line` (crc, frame-write, frame-read, record), `station` (setup
 //! without points, restart, record, station, seg, send), `readings` (setup, restart, bin, ana, flt,
 //! table, held), `fragments` (those and frag) or `all`. Each kind has some malformed lines of its
-//! own calls. With `--stats` the script is not written; instead the answers are counted.
+//! own calls. Counts of the answers are kept with the script.
 //!
 //! The reference runs along, so that the script knows the state. It aims at these deep states:
 //! - frames right but for one flipped bit anywhere, one cut or lengthened, a changed length byte
@@ -24,16 +24,14 @@ mod readings;
 mod stats;
 
 use std::collections::BTreeMap;
-use std::io::Write;
-use std::process::ExitCode;
 
-use reference::outstation::Outstation;
-use reference::script::Host;
+use crate::outstation::Outstation;
+use crate::script::Host;
 
-use random::Random;
+pub use random::Random;
 
-#[derive(Clone, Copy, PartialEq)]
-enum Kind {
+#[derive(Clone, Copy, Debug, PartialEq)]
+pub enum Kind {
     Line,
     Station,
     Readings,
@@ -133,30 +131,8 @@ impl Generator {
     }
 }
 
-fn main() -> ExitCode {
-    let mut arguments: Vec<String> = std::env::args().skip(1).collect();
-    let stats = arguments.first().is_some_and(|word| word == "--stats");
-    if stats {
-        arguments.remove(0);
-    }
-    let parsed = match &arguments[..] {
-        [kind, seed, lines] => {
-            let kind_number = match kind.as_str() {
-                "line" => Some(Kind::Line),
-                "station" => Some(Kind::Station),
-                "readings" => Some(Kind::Readings),
-                "fragments" => Some(Kind::Fragments),
-                "all" => Some(Kind::All),
-                _ => None,
-            };
-            kind_number.zip(seed.parse::<u64>().ok().zip(lines.parse::<usize>().ok()))
-        }
-        _ => None,
-    };
-    let Some((kind, (seed, lines))) = parsed else {
-        eprintln!("usage: generate [--stats] line|station|readings|fragments|all SEED LINES");
-        return ExitCode::from(2);
-    };
+/// A script, and how often each answer was given.
+pub fn script(kind: Kind, seed: u64, lines: usize) -> (Vec<u8>, BTreeMap<String, u64>) {
     let mut generator = Generator {
         random: Random(seed.wrapping_mul(0x0100_0000_01B3) ^ kind as u64),
         host: Host::default(),
@@ -169,14 +145,5 @@ fn main() -> ExitCode {
     while generator.left > 0 {
         generator.step();
     }
-    if stats {
-        for (what, count) in &generator.stats {
-            println!("{count:8} {what}");
-        }
-        return ExitCode::SUCCESS;
-    }
-    match std::io::stdout().write_all(&generator.script) {
-        Ok(()) => ExitCode::SUCCESS,
-        Err(_) => ExitCode::from(1),
-    }
+    (generator.script, generator.stats)
 }

@@ -1,6 +1,6 @@
 //! Counting the answers, for `--stats`.
 
-use crate::Generator;
+use super::Generator;
 
 impl Generator {
     pub fn count(&mut self, what: String) {

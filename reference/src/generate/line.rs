@@ -1,9 +1,9 @@
 //! Frames, checks and the line record; the station and segments.
 
-use reference::frame;
+use crate::frame;
 
-use crate::random::hex;
-use crate::Generator;
+use super::random::hex;
+use super::Generator;
 
 /// User data sizes at both sides of a block's and a frame's end.
 const SIZES: [usize; 16] = [0, 0, 1, 1, 2, 15, 16, 17, 31, 32, 33, 48, 248, 249, 250, 251];
@@ -59,7 +59,7 @@ impl Generator {
                 } else {
                     self.random.byte()
                 };
-                let check = reference::crc::check_bytes(&frame[..8]);
+                let check = crate::crc::check_bytes(&frame[..8]);
                 frame[8..10].copy_from_slice(&check);
                 if self.random.chance(30) {
                     frame.truncate(10);
@@ -74,7 +74,7 @@ impl Generator {
                 // Another byte in the header, under a right check.
                 let place = self.random.between(3, 7);
                 frame[place] ^= 1 << self.random.below(8);
-                let check = reference::crc::check_bytes(&frame[..8]);
+                let check = crate::crc::check_bytes(&frame[..8]);
                 frame[8..10].copy_from_slice(&check);
             }
         }

@@ -1,6 +1,6 @@
 //! A small random source, and random bytes as text.
 
-use reference::script::put_hex;
+use crate::script::put_hex;
 
 /// splitmix64.
 pub struct Random(pub u64);

@@ -1,10 +1,10 @@
 //! Requests, confirmations and controls.
 
-use reference::outstation::Setup;
-use reference::points::Form;
+use crate::outstation::Setup;
+use crate::points::Form;
 
-use crate::random::hex;
-use crate::Generator;
+use super::random::hex;
+use super::Generator;
 
 impl Generator {
     // Fragments.
