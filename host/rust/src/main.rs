@@ -1,0 +1,470 @@
+//! Links `libstation_c.a` and compares every call with the second program.
+//!
+//!     pair                every case; ends with `N passed, M failed`
+//!     pair --short        few seeds and short scripts: for tools that make it slow
+//!     pair --faults       the second program made wrong, one named fault after the other; prints the
+//!                         first case that fails for each, the fixed scripts left out
+//!
+//! A case is: the layout; a fixed script of `tests/`; a random script of one seed; the lent lengths
+//! of one call; garbage of one seed; what has to be reached. In every second random script the
+//! library is given other numbers of the same meaning (`meaning.rs`). `REFERENCE_FAULT` turns a
+//! fault on, after the scripts are made.
+
+mod garbage;
+mod header;
+mod meaning;
+mod pair;
+mod state;
+
+use std::panic::{catch_unwind, AssertUnwindSafe};
+use std::path::PathBuf;
+use std::process::ExitCode;
+use std::sync::atomic::{AtomicUsize, Ordering};
+use std::sync::Mutex;
+use std::thread;
+
+use reference::faults::{turn_on, FAULTS};
+use reference::generate::{script, Kind, Random};
+use reference::script::{parse, Call, LINE};
+use reference::transport::Unfinished;
+
+use pair::{Pair, Seen};
+
+const HEADER: &str = include_str!("../../../include/pomarisco.h");
+
+/// Random scripts: kind, seeds, lines.
+const SCRIPTS: [(Kind, u64, usize); 5] = [
+    (Kind::Line, 8, 4000),
+    (Kind::Station, 16, 4000),
+    (Kind::Readings, 24, 4000),
+    (Kind::Fragments, 50, 4000),
+    (Kind::All, 24, 4000),
+];
+
+const GARBAGE: u64 = 20;
+
+/// Every refusal that a call can give.
+const REFUSALS: [u8; 18] = [1, 2, 3, 4, 5, 11, 12, 13, 14, 15, 16, 17, 21, 22, 23, 31, 32, 33];
+
+enum Case {
+    Layout,
+    Script { name: String, text: Vec<u8>, other: bool },
+    Lengths(&'static str),
+    Past,
+    Garbage(u64),
+}
+
+impl Case {
+    fn name(&self) -> String {
+        match self {
+            Case::Layout => "layout as the header asserts it".into(),
+            Case::Script { name, .. } => name.clone(),
+            Case::Lengths(call) => format!("lent lengths of {call}"),
+            Case::Past => "counts past what a script can say".into(),
+            Case::Garbage(seed) => format!("garbage {seed}"),
+        }
+    }
+
+    fn run(&self) -> (Seen, Result<(), String>) {
+        let mut pair = Pair::new(7, false);
+        let result = match self {
+            Case::Layout => layout(),
+            Case::Script { text, other, .. } => {
+                pair.other = *other;
+                run_script(&mut pair, text)
+            }
+            Case::Lengths(call) => lengths(&mut pair, call),
+            Case::Past => past(&mut pair),
+            Case::Garbage(seed) => garbage(&mut pair, *seed),
+        };
+        (pair.seen, result)
+    }
+
+    /// Also a panic of the second program is a failed case.
+    fn outcome(&self) -> (Seen, Result<(), String>) {
+        catch_unwind(AssertUnwindSafe(|| self.run()))
+            .unwrap_or_else(|_| (Seen::default(), Err("panic".into())))
+    }
+}
+
+fn run_script(pair: &mut Pair, text: &[u8]) -> Result<(), String> {
+    for (number, line) in text.split(|&byte| byte == b'\n').enumerate() {
+        if line.is_empty() || line.len() > LINE || line[0] == b'#' {
+            continue;
+        }
+        let Some(call) = parse(line) else { continue };
+        pair.call(&call).map_err(|found| {
+            let shown = String::from_utf8_lossy(&line[..line.len().min(160)]).into_owned();
+            format!("line {}: {shown}: {found}", number + 1)
+        })?;
+    }
+    Ok(())
+}
+
+fn calls(pair: &mut Pair, calls: impl IntoIterator<Item = Call>) -> Result<(), String> {
+    for call in calls {
+        pair.call(&call).map_err(|found| {
+            let mut shown = format!("{call:?}");
+            shown.truncate(160);
+            format!("{shown}: {found}")
+        })?;
+    }
+    Ok(())
+}
+
+// ---- layout
+
+/// The header's assertions are those of `header.rs`, and it declares the same calls.
+fn layout() -> Result<(), String> {
+    let mut written = String::new();
+    for (name, size, fields) in header::LAYOUT {
+        written.push_str(&format!("POMARISCO_SIZE({name}, {size});"));
+        for (field, at) in *fields {
+            written.push_str(&format!(" POMARISCO_AT({name}, {field}, {at});"));
+        }
+        written.push('\n');
+    }
+    let mut ours: Vec<&str> = written.lines().collect();
+    let mut theirs: Vec<&str> =
+        HEADER.lines().filter(|line| line.starts_with("POMARISCO_SIZE(")).collect();
+    ours.sort_unstable();
+    theirs.sort_unstable();
+    if let Some(line) = theirs.iter().find(|line| !ours.contains(line)) {
+        return Err(format!("the header asserts {line}"));
+    }
+    state::equal("structs", ours.len(), theirs.len())?;
+    let declared: Vec<&str> = HEADER
+        .lines()
+        .filter(|line| line.starts_with("struct pomarisco_") && line.ends_with(");"))
+        .filter_map(|line| line.split('(').next()?.split(' ').nth(2))
+        .collect();
+    state::equal("calls declared", &declared[..], header::CALLS)
+}
+
+// ---- lent lengths
+
+/// Both sides of a lent length's limit, and none.
+fn both_sides(limit: usize) -> [usize; 6] {
+    [0, 1, limit - 1, limit, limit + 1, 2 * limit]
+}
+
+/// 64 points of each kind with some readings, and a held event.
+fn live(pair: &mut Pair) -> Result<(), String> {
+    let binaries = vec!["1"; 64].join(" ");
+    let analogs = [
+        "2,1,-,-,2,10",
+        "3,2,-,-,3,5",
+        "1,5,40000000,3F800000,1,-",
+        "1,5,3F800000,00000000,3,3F000000",
+    ];
+    let analogs = [analogs; 16].concat().join(" ");
+    let script = format!(
+        "setup 1 2 5000 5000 64 64 16 {binaries} {analogs}\nbin 5 3 0 1\nana 6 0 100 1\nana 6 1 40000 1\nflt 7 2 3F800000 1\nflt 7 3 40400000 1\nbin 9 3 1 1\nana 9 0 -7 1\nflt 9 2 BF800000 1\n"
+    );
+    run_script(pair, script.as_bytes())
+}
+
+fn lengths(pair: &mut Pair, call: &str) -> Result<(), String> {
+    live(pair)?;
+    let mut bytes = Random(11);
+    match call {
+        "fragment" => {
+            let mut fragments: Vec<Vec<u8>> = vec![
+                vec![],
+                vec![0xC1],
+                vec![0xC1, 0x17],
+                vec![0xC1, 1, 60, 1, 6],
+                vec![0xC2, 1, 60, 2, 6, 60, 3, 6, 60, 4, 6],
+                vec![0xC2, 0],
+                vec![0xC3, 0],
+            ];
+            for n in [3, 2047, 2048, 2049, 3000] {
+                let mut fragment = bytes.bytes(n);
+                fragment[..2].copy_from_slice(&[0xC4, 2]);
+                fragments.push(fragment);
+            }
+            for fragment in fragments {
+                for len in both_sides(header::FRAGMENT) {
+                    calls(pair, [Call::Frag(10, len, fragment.clone())])?;
+                }
+            }
+        }
+        "frame_write, link_data and link_reply" => {
+            for n in [0, 1, 2, 15, 16, 17, 32, 33, 249, 250, 251, 292, 1000] {
+                for len in both_sides(header::FRAME) {
+                    let user = bytes.bytes(n);
+                    calls(pair, [Call::FrameWrite(len, 0xC4, 1, 2, user)])?;
+                }
+            }
+        }
+        "frame_read and link_receive" => {
+            for n in [0, 1, 16, 17, 249, 250] {
+                let mut frame = vec![0; header::FRAME];
+                let size = reference::frame::write(0xC4, 1, 2, &bytes.bytes(n), &mut frame);
+                let size = size.map_err(|refusal| format!("refusal {refusal}"))?;
+                frame.resize(size, 0);
+                frame.push(0);
+                for cut in [0, 1, 2, 9, 10, 11, size - 1, size, size + 1] {
+                    for len in both_sides(header::USER) {
+                        let bytes = frame[..cut.min(frame.len())].to_vec();
+                        calls(
+                            pair,
+                            [Call::FrameRead(len, bytes.clone()), Call::Station(len, bytes)],
+                        )?;
+                    }
+                }
+            }
+        }
+        "segment_receive" => {
+            let begun = [0, 1, 249, 1798, 1799, 1800, 2046, 2047, 2048, 2049, 1 << 40];
+            let begun = begun.map(|count| Some(Unfinished { last: 62, count }));
+            for unfinished in begun.into_iter().chain([None]) {
+                for n in [0, 1, 2, 249, 250, 251, 2048] {
+                    for first in [0x3F, 0x7F, 0xBF, 0xFF, 0x00] {
+                        for len in both_sides(header::FRAGMENT) {
+                            let mut segment = bytes.bytes(n);
+                            segment.iter_mut().take(1).for_each(|byte| *byte = first);
+                            pair.begin(unfinished);
+                            calls(pair, [Call::Seg(len, segment)])?;
+                        }
+                    }
+                }
+            }
+        }
+        _ => {
+            for n in [0, 1, 248, 249, 250, 498, 499, 1992, 1993, 2047, 2048, 2049, 5000] {
+                for len in both_sides(header::USER) {
+                    calls(pair, [Call::Send(len, bytes.bytes(n))])?;
+                }
+            }
+        }
+    }
+    Ok(())
+}
+
+// ---- counts
+
+/// Counts that a script cannot give: each is refused, or means all there are.
+fn past(pair: &mut Pair) -> Result<(), String> {
+    live(pair)?;
+    let second = pair.second.as_ref().ok_or("no outstation")?;
+    let setup = pair::setup_image(&second.setup).ok_or("no setup")?;
+    for past in [65, 256, 257, 1 << 32, usize::MAX] {
+        for setup in [
+            header::Setup { binary_count: past, ..setup },
+            header::Setup { analog_count: past, ..setup },
+        ] {
+            let restarted = header::restart(&setup);
+            state::equal("refusal", restarted.refusal, 5)?;
+            let points = &restarted.image.points;
+            state::equal("points", (points.binary_count, points.analog_count), (0, 0))?;
+        }
+        let outputs = past.min(65_535) as u16;
+        let restarted = header::restart(&header::Setup { outputs, ..setup });
+        state::equal("refusal", restarted.refusal, 5)?;
+        state::equal("outputs", restarted.image.outputs, 0)?;
+    }
+    // A table of 128 with a count above is that of 128.
+    let mut table = header::Table::zero();
+    for (place, reading) in table.readings.iter_mut().enumerate() {
+        (reading.time, reading.point) = (10, place as u16 % 64);
+        (reading.flags, reading.state) = (1, (place / 64) as u8);
+    }
+    table.count = 128;
+    let expected = header::table(&pair.image, &table);
+    state::equal("taken, refusal", (expected.taken, expected.refusal), (128, 0))?;
+    for past in [129, 256, 1 << 32, usize::MAX] {
+        table.count = past;
+        let took = header::table(&pair.image, &table);
+        state::equal("taken, refusal", (took.taken, took.refusal), (128, 0))?;
+        if let Some(found) = header::Same::differs(&took.image, &expected.image) {
+            return Err(format!("table of {past}{found}"));
+        }
+    }
+    Ok(())
+}
+
+// ---- garbage
+
+fn garbage(pair: &mut Pair, seed: u64) -> Result<(), String> {
+    let mut random = Random(seed ^ 0x6761_7262);
+    let (text, _) = script(Kind::Fragments, 1000 + seed, 300);
+    for (number, line) in text.split(|&byte| byte == b'\n').enumerate() {
+        if let Some(call) = parse(line) {
+            pair.call(&call)?;
+        }
+        let at = |found| format!("after line {}: {found}", number + 1);
+        garbage::outstation(&pair.image, &mut random).map_err(at)?;
+        garbage::setup(&mut random).map_err(at)?;
+        for _ in 0..10 {
+            garbage::line(&mut random).map_err(at)?;
+        }
+    }
+    Ok(())
+}
+
+// ---- all
+
+/// Fixed scripts, in the order of their names.
+fn fixed() -> std::io::Result<Vec<Case>> {
+    let tests = PathBuf::from(concat!(env!("CARGO_MANIFEST_DIR"), "/../../tests"));
+    let mut cases = Vec::new();
+    for group in ["line", "station", "readings", "fragments"] {
+        let mut paths: Vec<PathBuf> = std::fs::read_dir(tests.join(group))?
+            .map(|entry| Ok(entry?.path()))
+            .collect::<std::io::Result<_>>()?;
+        paths.sort();
+        for path in paths.iter().filter(|path| path.extension().is_some_and(|e| e == "script")) {
+            let file = path.file_name().unwrap_or_default().to_string_lossy();
+            let name = format!("tests/{group}/{file}");
+            cases.push(Case::Script { name, text: std::fs::read(path)?, other: false });
+        }
+    }
+    Ok(cases)
+}
+
+/// Every case but the fixed scripts.
+fn own_cases(short: bool) -> Vec<Case> {
+    let mut cases = vec![Case::Layout];
+    for (kind, seeds, lines) in SCRIPTS {
+        let (seeds, lines) = if short { (2, 400) } else { (seeds, lines) };
+        for seed in 1..=seeds {
+            let other = seed % 2 == 0;
+            let name = format!(
+                "random script, {kind:?} {seed}{}",
+                if other { ", other numbers of the same meaning" } else { "" }
+            );
+            // Seeds that tests/compare does not use.
+            let (text, _) = script(kind, 10_000 + seed, lines);
+            cases.push(Case::Script { name, text, other });
+        }
+    }
+    let lent = [
+        "fragment",
+        "frame_write, link_data and link_reply",
+        "frame_read and link_receive",
+        "segment_receive",
+        "segment_send",
+    ];
+    cases.extend(lent.map(Case::Lengths));
+    cases.push(Case::Past);
+    cases.extend((1..=if short { 1 } else { GARBAGE }).map(Case::Garbage));
+    cases
+}
+
+/// Runs the cases on all processors; what each came to, in their order.
+fn run_all(cases: &[Case], until_failure: bool) -> Vec<Option<(Seen, Result<(), String>)>> {
+    let next = AtomicUsize::new(0);
+    let results = Mutex::new((0..cases.len()).map(|_| None).collect::<Vec<_>>());
+    let threads = thread::available_parallelism().map_or(1, |n| n.get().min(4));
+    thread::scope(|scope| {
+        for _ in 0..threads {
+            scope.spawn(|| loop {
+                let place = next.fetch_add(1, Ordering::Relaxed);
+                let Some(case) = cases.get(place) else { break };
+                let outcome = case.outcome();
+                if until_failure && outcome.1.is_err() {
+                    next.store(cases.len(), Ordering::Relaxed);
+                }
+                results.lock().expect("no panic while locked")[place] = Some(outcome);
+            });
+        }
+    });
+    results.into_inner().expect("no panic while locked")
+}
+
+/// Each fault, and the first case that shows it.
+fn faults(cases: &[Case]) -> ExitCode {
+    std::panic::set_hook(Box::new(|_| {}));
+    let mut caught = 0;
+    for (_, name, _) in FAULTS {
+        turn_on(name);
+        let results = run_all(cases, true);
+        let found = cases.iter().zip(&results).find_map(|(case, result)| match result {
+            Some((_, Err(found))) => Some((case.name(), found)),
+            _ => None,
+        });
+        match found {
+            Some((case, found)) => {
+                caught += 1;
+                println!("caught {name} by {case}: {found}");
+            }
+            None => println!("NOT CAUGHT {name}"),
+        }
+    }
+    println!("{caught} of {} caught", FAULTS.len());
+    if caught == FAULTS.len() {
+        ExitCode::SUCCESS
+    } else {
+        ExitCode::FAILURE
+    }
+}
+
+fn main() -> ExitCode {
+    let arguments: Vec<String> = std::env::args().skip(1).collect();
+    let mut cases = match arguments.iter().map(String::as_str).collect::<Vec<_>>()[..] {
+        [] => own_cases(false),
+        ["--short"] => own_cases(true),
+        ["--faults"] => return faults(&own_cases(false)),
+        _ => {
+            eprintln!("usage: pair [--short | --faults]");
+            return ExitCode::from(2);
+        }
+    };
+    match fixed() {
+        Ok(scripts) => cases.extend(scripts),
+        Err(error) => {
+            eprintln!("pair: tests/: {error}");
+            return ExitCode::from(2);
+        }
+    }
+    if let Ok(name) = std::env::var("REFERENCE_FAULT") {
+        if !name.is_empty() && !turn_on(&name) {
+            eprintln!("pair: no fault is called {name}");
+            return ExitCode::from(2);
+        }
+    }
+
+    let mut seen = Seen::default();
+    let (mut passed, mut failed) = (0, 0);
+    for (case, result) in cases.iter().zip(run_all(&cases, false)) {
+        let (reached, result) = result.unwrap_or_else(|| (Seen::default(), Err("not run".into())));
+        seen.add(&reached);
+        match result {
+            Ok(()) => passed += 1,
+            Err(found) => {
+                failed += 1;
+                println!("FAILED {}: {found}", case.name());
+            }
+        }
+    }
+    // Reached means compared: a number that never came was not.
+    let counts: Vec<String> = REFUSALS
+        .iter()
+        .map(|refusal| format!("{refusal}: {}", seen.refusals.get(refusal).unwrap_or(&0)))
+        .collect();
+    println!("refusals reached  {}", counts.join(", "));
+    for (what, count) in &seen.events {
+        println!("reached {count:8}  {what}");
+    }
+    let missing = REFUSALS.iter().any(|refusal| !seen.refusals.contains_key(refusal));
+    let strange = seen.refusals.keys().any(|refusal| !REFUSALS.contains(refusal));
+    let unreached = seen.events.is_empty() || seen.events.values().any(|&count| count == 0);
+    for (what, wrong) in [
+        ("each refusal reached, and no other", missing || strange),
+        ("each of these reached", unreached),
+    ] {
+        if wrong {
+            failed += 1;
+            println!("FAILED {what}");
+        } else {
+            passed += 1;
+        }
+    }
+    println!("{passed} passed, {failed} failed");
+    if failed == 0 {
+        ExitCode::SUCCESS
+    } else {
+        ExitCode::FAILURE
+    }
+}
