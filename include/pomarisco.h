@@ -6,22 +6,28 @@
  * host but the result and the lent bytes named with it. The functions at the end do the same in place on a pointer.
  * Structs may be copied, saved and put back. Calls on different structs may run at the same time without a lock.
  *
- * EVERY value of every struct, and every number, may be passed: no content of an argument makes a call misbehave. A truth is
- * a uint8_t, 0 for false and any other number for true. Of a kind's fields only those named with that kind count. A call may
- * rewrite what means nothing (a truth of 9 becomes 1, fields that do not count become 0), also a refused call.
+ * EVERY value of every struct, and every number, may be passed: no content of an argument makes a call misbehave.
+ *  - A truth is a uint8_t, 0 for false and any other number for true.
+ *  - Of a kind's fields only those named with that kind count; of a latch or a last request that is not armed or held, none.
+ *  - A count above its array's length means all of it (in a setup it is refused, 5). Array elements past the count do not count.
+ * What is given back has the least numbers for kinds and truths (1 for true). What does not count may be given back changed or
+ * as it was, also by a refused call: compare meanings, not bytes.
  *
  * LENT BYTES. `const uint8_t *p, size_t n` is n bytes that the call reads; `uint8_t *p, size_t n` is n bytes that it may
  * write. It writes the output at their front; the bytes after the output keep what they held, and so do all of them when
- * the call is refused.
+ * the call is refused. Any n may be given, the calls say which are refused; the bytes may be at any address.
  *
  * WHAT STAYS WITH THE HOST (nothing checks it):
  *  - p points to n bytes that may be read (or written) for the time of the call, and n is at most PTRDIFF_MAX;
- *  - p is not NULL, also where n is 0 (the functions at the end see to that);
- *  - bytes that a call may write overlap no other bytes lent to it;
+ *  - p is not NULL, also where n is 0. The functions at the end take NULL with 0; frame_write, frame_read, link_reply and
+ *    link_data have none, so give them some address;
+ *  - bytes that a call may write overlap no other bytes lent to it, and no other thread writes bytes lent to a call;
+ *  - structs behind pointers (functions at the end) are aligned as C aligns them, and do not overlap each other or lent bytes;
  *  - the stack is deep enough: give the thread POMARISCO_STACK bytes. Measured for one call through the functions at the end, with
- *    their temporaries: restart 119 KB, fragment 195 KB, reading 217 KB, table 260 KB; every call of frames, link and segments
+ *    their temporaries: restart 107 KB, fragment 167 KB, reading 180 KB, table 214 KB; every call of frames, link and segments
  *    under 1 KB (host/measure.c; gcc -O2 and -O0 agree within 0.2 KB). The proofs know of no stack;
- *  - the structs are laid out as here: the assertions below hold this file to the library's layout.
+ *  - the structs are laid out as here: the assertions below hold this file to the library's layout;
+ *  - it keeps setup, image, line record, assembly and sender of one station together, and carries out the objects it is handed.
  *
  * REFUSALS. 0 is none. Order of the tests: 1, 33, then by number; 11 for the frame's size comes after 14.
  *
@@ -91,16 +97,16 @@ struct pomarisco_held {            /* carried: in the response that awaits its c
     uint8_t carried;
 };
 
-struct pomarisco_buffer {          /* the first `count` are held, oldest first; overflow: IIN2.3 */
+struct pomarisco_buffer {          /* the first `count` are held, oldest first; overflow: IIN2.3, an event was dropped */
     struct pomarisco_held held[POMARISCO_EVENTS];
     size_t count;
     uint8_t overflow;
 };
 
-struct pomarisco_binary {
+struct pomarisco_binary {          /* state and flags as READ shows them, also before the first reading */
     uint8_t class_;
-    uint8_t seen;
-    uint8_t state;
+    uint8_t seen;                  /* a truth: there was a reading */
+    uint8_t state;                 /* a truth */
     uint8_t flags;
     uint8_t reported;              /* flags last reported */
 };
@@ -115,14 +121,14 @@ struct pomarisco_float_gate {      /* kind as above */
     uint8_t kind;
 };
 
-struct pomarisco_whole_track {
+struct pomarisco_whole_track {     /* readings before clamping: last reported, previous; sum of distances since the last report */
     struct pomarisco_whole_gate gate;
     int32_t reported;
     int32_t previous;
     uint32_t sum;
 };
 
-struct pomarisco_float_track {
+struct pomarisco_float_track {     /* values shown: last reported, previous; sum as above */
     float gain;
     float offset;
     struct pomarisco_float_gate gate;
@@ -137,11 +143,11 @@ struct pomarisco_measure {         /* kind 0: a 32-bit point, whole; 1: a 16-bit
     uint8_t kind;
 };
 
-struct pomarisco_analog {
+struct pomarisco_analog {          /* value and flags as READ shows them, also before the first reading */
     struct pomarisco_value value;
     struct pomarisco_measure measure;
     uint8_t class_;
-    uint8_t seen;
+    uint8_t seen;                  /* a truth: there was a reading */
     uint8_t flags;
     uint8_t reported;              /* flags last reported */
 };
@@ -154,26 +160,26 @@ struct pomarisco_points {
 };
 
 struct pomarisco_wait {            /* kind 0: nothing is awaited; any other: a confirmation is */
-    uint64_t time;
+    uint64_t time;                 /* of the READ */
     uint8_t sequence;
-    uint8_t shown;
-    uint8_t since;
+    uint8_t shown;                 /* a truth: the response showed IIN2.3 */
+    uint8_t since;                 /* a truth: an event was dropped since */
     uint8_t kind;
 };
 
-struct pomarisco_last {            /* the last request, not a READ, and its answer, while held */
+struct pomarisco_last {            /* the last accepted request and its answer (none: answer_len 0, for a READ too), while held */
     uint8_t request[2048];
     size_t request_len;
     uint8_t answer[113];
     size_t answer_len;
-    uint8_t held;
+    uint8_t held;                  /* a truth */
 };
 
-struct pomarisco_latch {           /* the select latch */
+struct pomarisco_latch {           /* the select latch: SELECT's time, its objects with their header, its sequence */
     uint64_t time;
     uint8_t objects[109];
     size_t len;
-    uint8_t armed;
+    uint8_t armed;                 /* a truth */
     uint8_t sequence;
 };
 
@@ -184,7 +190,7 @@ struct pomarisco_session {
     uint8_t restarted;             /* IIN1.7 */
 };
 
-struct pomarisco_outstation {
+struct pomarisco_outstation {      /* times in milliseconds */
     uint64_t arm_time;
     uint64_t confirm_time;
     uint64_t clock;                /* time of the last accepted call */
@@ -234,7 +240,7 @@ struct pomarisco_table {           /* the first `count` readings, at most 128 */
     size_t count;
 };
 
-/* ---- what the calls give */
+/* ---- what the calls give. refusal: 0, or the number above. A refused call has 0 for size, length, last, addresses, control and operated */
 
 struct pomarisco_restarted {
     struct pomarisco_outstation image;
@@ -272,7 +278,7 @@ struct pomarisco_fragment_answer { /* kind 0: the answer is the first `length` l
     uint8_t refusal;
 };
 
-struct pomarisco_answer {          /* operated: the host is to carry these out */
+struct pomarisco_answer {          /* operated: the host is to carry these out, once, also where kind is 1 */
     struct pomarisco_outstation image;
     struct pomarisco_crobs operated;
     struct pomarisco_fragment_answer answer;
@@ -409,39 +415,41 @@ extern "C" {
  * points and no outputs. The host also sets its assembly and its sender to all 0; the line record stays. */
 struct pomarisco_restarted pomarisco_restart(struct pomarisco_setup setup);
 
-/* One reading. Changes the point, the held events, the clock. Refusals 1 to 4. */
+/* One reading. Changes the point, the held events with overflow, a wait's `since`, the clock. Refusals 1 to 4. */
 struct pomarisco_took pomarisco_reading(struct pomarisco_outstation image, struct pomarisco_reading reading);
 
-/* A table of readings, each as if it came singly, up to the first refused one; that one and those after it change nothing. Refusals 1 to 4. */
+/* A table of readings, each as if it came singly, up to the first refused one; that one and those after it change nothing. Refusals 1 to 4,
+ * of the reading at `taken`. An empty table changes nothing. */
 struct pomarisco_table_took pomarisco_table(struct pomarisco_outstation image, struct pomarisco_table table);
 
-/* A fragment from the master at a time. Changes the held events, the session, the clock; writes the answer. Refusals 1, 31 to 33.
- * out_length at least 2,048, else 33. */
+/* A fragment from the master at a time. Changes the held events with overflow, the session, the clock; not the points. Writes the answer,
+ * at most 2,048 bytes. Refusals 1, 31 to 33. out_length at least 2,048, else 33, whatever the fragment is. */
 struct pomarisco_answer pomarisco_fragment(struct pomarisco_outstation image, uint64_t time, const uint8_t *fragment, size_t fragment_length, uint8_t *out, size_t out_length);
 
-/* Writes a frame with this control byte. out_length at least 292, else 33; user_length at most 250, else 16. */
+/* Writes a frame with this control byte, any addresses. Changes the lent bytes only. out_length at least 292, else 33; user_length at most
+ * 250, else 16. */
 struct pomarisco_wrote pomarisco_frame_write(uint8_t *out, size_t out_length, uint8_t control, uint16_t destination, uint16_t source, const uint8_t *user, size_t user_length);
 
-/* Reads the frame at the front of the bytes, and writes its user data; bytes after the frame are not read. Refusals 11 to 15, and 33 when
- * out_length is under 250. */
+/* Reads the frame at the front of the bytes, whoever it is for, and writes its user data; bytes after the frame are not read. Changes the
+ * lent bytes only. Refusals 11 to 15, and 33 when out_length is under 250. */
 struct pomarisco_frame pomarisco_frame_read(const uint8_t *bytes, size_t length, uint8_t *out, size_t out_length);
 
-/* Takes the frame at the front of the bytes for the station `own`, and counts it in the line record. Writes its user data. Refusals 11 to 15, 17,
- * and 33 when out_length is under 250 (not counted). */
+/* Takes the frame at the front of the bytes for the station `own`, and counts it in the line record. Writes its user data; for a reply the
+ * lent bytes stay. Refusals 11 to 15, 17, and 33 when out_length is under 250 (not counted). */
 struct pomarisco_link pomarisco_link_receive(struct pomarisco_line line, uint16_t own, uint16_t master, const uint8_t *bytes, size_t length, uint8_t *out, size_t out_length);
 
-/* Writes the reply frame that link_receive asked for. out_length at least 292, else 33. */
+/* Writes the reply frame that link_receive asked for. Changes the lent bytes only. out_length at least 292, else 33. */
 struct pomarisco_wrote pomarisco_link_reply(uint8_t *out, size_t out_length, uint16_t own, uint16_t master, uint8_t control);
 
 /* Writes a frame of user data to the master (control 44 hex). As frame_write. */
 struct pomarisco_wrote pomarisco_link_data(uint8_t *out, size_t out_length, uint16_t own, uint16_t master, const uint8_t *user, size_t user_length);
 
-/* Takes a segment into the fragment at the front of the lent bytes: lend the same bytes, as they were left, until it is whole. Refusals 21 to 23, and 33
- * when out_length is under 2,048. */
+/* Takes a segment into the fragment at the front of the lent bytes: lend the same bytes, as they were left, until it is whole. Changes the
+ * assembly and those bytes. Refusals 21 to 23, and 33 when out_length is under 2,048. */
 struct pomarisco_reception pomarisco_segment_receive(struct pomarisco_assembly assembly, const uint8_t *segment, size_t segment_length, uint8_t *out, size_t out_length);
 
-/* Writes the next segment of a fragment: call again with the sender given back, and the same fragment, until `last`. Refusal 16, and 33 when
- * out_length is under 250. */
+/* Writes the next segment of a fragment: call again with the sender given back, and the same fragment, until `last`. Changes the sender and
+ * the lent bytes. A place at or past the fragment's end begins it anew. Refusal 16, and 33 when out_length is under 250. */
 struct pomarisco_sending pomarisco_segment_send(struct pomarisco_sender sender, const uint8_t *fragment, size_t fragment_length, uint8_t *out, size_t out_length);
 
 #ifdef __cplusplus
