@@ -4,4 +4,5 @@ pub mod Readings
 pub mod Requests
 pub mod Step
 pub mod Contracts
+pub mod Window
 pub mod Singly

@@ -1,31 +1,31 @@
 -- `outstation::raise_event` meets its contract. Assumes nothing.
-use mathlib.Core.Path.{_≡_}
-use lib.ListN.{length}
-use Rattle.laws.proofs.Loops.{long}
-use Rattle.outstation.proofs.ReadLaws.{room, no-room, raised-held, raised-dropped}
+use Prim.Native.Nat.{_≤_}
+use mathlib.Core.Path.{ap}
+use borrow.Author.Tests.{le-ltb, lt-ltb}
+use Rattle.outstation.specs.Window.{raisedIn}
 use borrow.Author.Needs.{needs}
 use Rattle.outstation.proofs.raise_event.Statement.{statement}
 use Rattle.outstation.proofs.raise_event.Tie as tie
 
-slots : (c : tie.Start) → length (c .args .o .buffer .held) ≡ 256
-slots c = search (long, needs)
-
-push-requires : tie.Need-push-requires
-push-requires c κs = search needs
-
-dropped-session-requires : tie.Need-dropped-session-requires
-dropped-session-requires c κs = search needs
+add-m : tie.Need-add-m
+add-m c = search needs
 
 returns : tie.Need-returns
-returns c =
-    let o = c .before .before .before .args .o in
-    raised-held o _ _ (c .before .push .ensures) (room (o .buffer) (slots (c .before .before .before)) (c .if1 .taken))
+unfolding raisedIn
+returns c = rw (lt-ltb (c .before .before .before .before .args .w .marks .count) 256 (search needs))
+
+note-drop-requires : tie.Need-note-drop-requires
+note-drop-requires c κs = search needs
+
+marks-at-requires : tie.Need-marks-at-requires
+marks-at-requires c κs = search needs
 
 returns-2 : tie.Need-returns-2
+unfolding raisedIn
 returns-2 c =
-    let o = c .before .before .before .before .before .args .o in
-    raised-dropped o _ _ _ (c .before .before .before .push .ensures)
-    (no-room (o .buffer) (slots (c .before .before .before .before .before)) (c .before .before .if1 .left)) (c .dropped-session .ensures)
+    let over : 256 ≤ c .before .before .before .before .before .args .w .marks .count = search needs in
+    rw (le-ltb (c .before .before .before .before .before .args .w .marks .count) 256 over, c .marks-at .ensures, c .before .note-drop .ensures)
 
 pub raise-event-spec : {M : Type 1} → statement M
-raise-event-spec = tie.close (tie.spec push-requires dropped-session-requires returns returns-2)
+raise-event-spec =
+    tie.close (tie.spec add-m returns note-drop-requires marks-at-requires returns-2)

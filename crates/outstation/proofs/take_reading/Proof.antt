@@ -1,77 +1,101 @@
--- `outstation::take_reading` meets its contract. Assumes nothing.
-use mir.Syntax.{w32}
-use mir.Val.{SFits}
-use mir.Facts.{toZ-ofZ}
-use mathlib.Core.Path.{sym, _∙_}
-use Rattle.outstation.proofs.ReadLaws.{late, in-time}
+-- `outstation::take_reading` meets its contract: its window, stored back. Assumes nothing.
+use mathlib.Core.Path.{_≡_}
+use lib.ListN.{length}
+use Rattle.laws.proofs.Loops.{long}
+use Rattle.outstation.specs.Window.{tookIn}
+use Rattle.outstation.proofs.WindowLaws.{window-did}
 use borrow.Author.Needs.{needs}
 use Rattle.outstation.proofs.take_reading.Statement.{statement}
 use Rattle.outstation.proofs.take_reading.Tie as tie
 
-bad-time-requires : tie.Need-bad-time-requires
-bad-time-requires c κs = search needs
+binaries : (c : tie.Start) → length (c .args .o .points .binaries) ≡ 64
+binaries c = search (long, needs)
 
-not-taken-requires : tie.Need-not-taken-requires
-not-taken-requires c κs = search needs
+analogs : (c : tie.Start) → length (c .args .o .points .analogs) ≡ 64
+analogs c = search (long, needs)
+
+events : (c : tie.Start) → length (c .args .o .buffer .held) ≡ 256
+events c = search (long, needs)
+
+point-place-requires : tie.Need-point-place-requires
+point-place-requires c κs = search needs
+
+event-place-requires : tie.Need-event-place-requires
+event-place-requires c κs = search needs
+
+marks-at-requires : tie.Need-marks-at-requires
+marks-at-requires c κs = search needs
+
+mul-binary : tie.Need-mul-binary
+mul-binary c = search needs
+
+element-copy-out-binary : tie.Need-element-copy-out-binary
+element-copy-out-binary c = search needs
+
+mul-analog : tie.Need-mul-analog
+mul-analog c = search needs
+
+element-copy-out-analog : tie.Need-element-copy-out-analog
+element-copy-out-analog c = search needs
+
+mul-held : tie.Need-mul-held
+mul-held c = search needs
+
+element-copy-out-held : tie.Need-element-copy-out-held
+element-copy-out-held c = search needs
+
+hear-requires : tie.Need-hear-requires
+hear-requires c κs = search needs
+
+mul-binary-after : tie.Need-mul-binary-after
+mul-binary-after c = search needs
+
+element-set-from-binary-after : tie.Need-element-set-from-binary-after
+element-set-from-binary-after c = search needs
+
+mul-analog-after : tie.Need-mul-analog-after
+mul-analog-after c = search needs
+
+element-set-from-analog-after : tie.Need-element-set-from-analog-after
+element-set-from-analog-after c = search needs
+
+mul-held-after : tie.Need-mul-held-after
+mul-held-after c = search needs
+
+element-set-from-held-after : tie.Need-element-set-from-held-after
+element-set-from-held-after c = search needs
+
+with-wait-requires : tie.Need-with-wait-requires
+with-wait-requires c κs = search needs
 
 returns : tie.Need-returns
 returns c =
-    let s = c .before .before .before in
-    late (s .args .o) (s .args .r) _ (sym (c .before .before .bad-time .ensures) ∙ c .before .if1 .taken) (c .not-taken .ensures)
-
-enum-known-m : tie.Need-enum-known-m
-enum-known-m c = search needs
-
-take-binary-requires : tie.Need-take-binary-requires
-take-binary-requires c κs = search needs
-
-enum-known-m-2 : tie.Need-enum-known-m-2
-enum-known-m-2 c = search needs
-
-take-whole-requires : tie.Need-take-whole-requires
-take-whole-requires c κs = search needs
-
-enum-known-m-3 : tie.Need-enum-known-m-3
-enum-known-m-3 c = search needs
-
-take-real-requires : tie.Need-take-real-requires
-take-real-requires c κs = search needs
-
-returns-2 : tie.Need-returns-2
-returns-2 c =
-    let s = c .before .before .before .before .before .before in
-    in-time (s .args .o) (s .args .r) _ _
-    (sym (c .before .before .before .before .before .bad-time .ensures) ∙ c .before .before .before .before .if1 .left)
-    (c .before .before .m .given .1) (c .take-binary .ensures)
-
-returns-3 : tie.Need-returns-3
-returns-3 c =
-    let s = c .before .before .before .before .before .before in
-    let f : SFits w32 (c .before .before .m2 .given .0 .0) = search needs in
-    in-time (s .args .o) (s .args .r) _ _
-    (sym (c .before .before .before .before .before .bad-time .ensures) ∙ c .before .before .before .before .if1 .left)
-    (c .before .before .m2 .given .1) (rw (toZ-ofZ f) at (c .take-whole .ensures))
-
-returns-4 : tie.Need-returns-4
-returns-4 c =
-    let s = c .before .before .before .before .before .before in
-    in-time (s .args .o) (s .args .r) _ _
-    (sym (c .before .before .before .before .before .bad-time .ensures) ∙ c .before .before .before .before .if1 .left)
-    (c .before .before .m3 .given .1) (c .take-real .ensures)
+    let s = c .before .before .before .before .before .before .before .before .before .before .before .before .before .before .before .before in
+    let at = c .before .before .before .before .before .before .before .before .before .before .before .before .point-place in
+    let next = c .before .before .before .before .before .before .before .before .before .before .before .event-place in
+    rw (c .with-wait .ensures)
+    (window-did (s .args .o) (s .args .r) (at .result) (next .result) _ _ _ (at .ensures) (next .ensures) (binaries s) (analogs s) (events s)
+    (tookIn (c .before .before .before .before .before .before .hear .result)) (rw (c .before .before .before .before .before .before .before .before .before .before .marks-at .ensures) at (c .before .before .before .before .before .before .hear .ensures)))
 
 pub take-reading-spec : {M : Type 1} → statement M
 take-reading-spec =
     tie.close
     (tie.spec
-    bad-time-requires
-    not-taken-requires
-    returns
-    enum-known-m
-    take-binary-requires
-    enum-known-m-2
-    take-whole-requires
-    enum-known-m-3
-    take-real-requires
-    returns-2
-    returns-3
-    returns-4)
+    point-place-requires
+    event-place-requires
+    marks-at-requires
+    mul-binary
+    element-copy-out-binary
+    mul-analog
+    element-copy-out-analog
+    mul-held
+    element-copy-out-held
+    hear-requires
+    mul-binary-after
+    element-set-from-binary-after
+    mul-analog-after
+    element-set-from-analog-after
+    mul-held-after
+    element-set-from-held-after
+    with-wait-requires
+    returns)
