@@ -1,5 +1,5 @@
 -- `outstation::hear_binary` meets its contract. Assumes nothing.
-use mathlib.Core.Path.{_≡_, refl, sym, ap, _∙_}
+use mathlib.Core.Path.{refl, sym, ap, _∙_}
 use Prim.Native.Nat.{_<_, min}
 use native.Mathlib.Omega.{arith}
 use Rattle.points.specs.declared.BinaryTaken.{BinaryTaken}

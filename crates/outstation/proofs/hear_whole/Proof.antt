@@ -1,5 +1,4 @@
 -- `outstation::hear_whole` meets its contract. Assumes nothing.
-use mathlib.Core.Path.{_≡_}
 use Prim.Native.Nat.{_<_, min}
 use native.Mathlib.Omega.{arith}
 use Rattle.outstation.proofs.WindowLaws.{whole-heard, no-whole}

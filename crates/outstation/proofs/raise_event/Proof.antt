@@ -1,6 +1,5 @@
 -- `outstation::raise_event` meets its contract. Assumes nothing.
 use Prim.Native.Nat.{_≤_}
-use mathlib.Core.Path.{ap}
 use borrow.Author.Tests.{le-ltb, lt-ltb}
 use Rattle.outstation.specs.Window.{raisedIn}
 use borrow.Author.Needs.{needs}
