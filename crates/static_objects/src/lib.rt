@@ -47,11 +47,15 @@ fn installed(count: usize) -> usize
     }
 }
 
-// A point's place in its array; for an index past it the last place, whose point is then not shown.
+// A point's place in its array; past its end the last place, whose point is then not shown.
 fn slot(i: usize) -> usize
     ensures { λ r. ⌜ r ≡ min i 63 ⌝ }
 {
-    if i < 63 { i } else { 63 }
+    if i < points::POINTS_MAX {
+        i
+    } else {
+        points::POINTS_MAX - 1
+    }
 }
 
 // What the i-th binary shows, of so many installed.
@@ -161,7 +165,8 @@ fn binaries_size(n: usize) -> usize
     if n == 0 { 0 } else { 7 + n }
 }
 
-// Puts what n binaries from `from` on show at the offset. The loop reads the array itself: a function that takes the points copies them.
+// Puts the bytes of n binaries from `from` on at the offset, with no header. The loop reads the array itself: a function that it
+// handed the points to would copy them at each call.
 fn put_states(out: &mut [u8], at: usize, p: Points, from: usize, n: usize)
     requires { ⌜ (at + n ≤ length (now out)) × (from + n < 200000) ⌝ }
     ensures { λ _. ⌜ now (out .exit) ≡ splice (now (out .entry)) at (objectBytes (pointObjects (inputs p) false from n)) ⌝ }
@@ -238,8 +243,8 @@ fn end_run(out: &mut [u8], at: usize, variation: u8, first: usize, m: usize)
     }
 }
 
-// Puts n analogs from `from` on at the offset, and answers the offset after them. A run's header has its last index, so its place
-// is left free until the run ends.
+// Puts n analogs from `from` on at the offset, and answers the offset after them. A header holds the last index of its run, so its
+// place is left free until the run ends.
 fn put_analogs(out: &mut [u8], at: usize, p: Points, from: usize, n: usize) -> usize
     requires { ⌜ (at + length (rangeBytes (inputs p) true from n) ≤ length (now out)) × (from + n < 200000) ⌝ }
     ensures { λ r. ⌜
@@ -277,6 +282,8 @@ fn put_analogs(out: &mut [u8], at: usize, p: Points, from: usize, n: usize) -> u
     end_run(out, run, last, first, m);
     to
 }
+
+// ---- the headers of a request
 
 fn header_size(h: Header, p: Points) -> usize
     ensures { λ r. ⌜ (r ≡ length (headerBytes (inputs p) h)) × (r ≤ 1600000) ⌝ }
