@@ -1,6 +1,6 @@
 // Link frames: written into lent bytes, and read back from bytes.
 ghost use mathlib.Core.Path.{_≡_};
-ghost use Prim.Native.Nat.{_+_, _*_, _-_, _≤_, _<_, min};
+ghost use Prim.Native.Nat.{_+_, _*_, _-_, _≤_, _<_};
 ghost use lib.ListN.{length};
 ghost use Rattle.octets.specs.Bytes.{splice};
 ghost use Rattle.frame.specs.Frame.{
@@ -66,12 +66,6 @@ pub enum Read {
     ReadLent,
 }
 
-fn least(a: usize, b: usize) -> usize
-    ensures { λ r. ⌜ r ≡ min a b ⌝ }
-{
-    if a < b { a } else { b }
-}
-
 // Puts bytes and then their check at the offset.
 fn put_sealed(out: &mut [u8], at: usize, s: &[u8])
     requires { ⌜ at + length (now s) + 2 ≤ length (now out) ⌝ }
@@ -90,7 +84,7 @@ fn put_blocks(out: &mut [u8], at: usize, s: &[u8], k: usize)
     let mut to = at;
     let mut left = k;
     while 0 < left {
-        let e = least(from + BLOCK, s.len());
+        let e = octets::least(from + BLOCK, s.len());
         put_sealed(out, to, &s[from..e]);
         to = to + (e - from) + 2;
         from += BLOCK;
@@ -151,7 +145,7 @@ fn blocks_ok(b: &[u8], k: usize) -> bool
     let mut at: usize = 0;
     let mut left = k;
     while 0 < left {
-        let e = least(at + 18, b.len());
+        let e = octets::least(at + 18, b.len());
         if !seal_ok(&b[at..e]) {
             return false;
         }
@@ -170,7 +164,7 @@ fn copy_users(out: &mut [u8], b: &[u8], k: usize)
     let mut to: usize = 0;
     let mut left = k;
     while 0 < left {
-        let e = least(at + 18, b.len()) - 2;
+        let e = octets::least(at + 18, b.len()) - 2;
         octets::copy(out, to, &b[at..e]);
         to += e - at;
         at += 18;

@@ -1,6 +1,6 @@
 // Numbers of several bytes, lowest byte first, put into and taken from bytes at an offset.
 ghost use mathlib.Core.Path.{_≡_};
-ghost use Prim.Native.Nat.{_+_, _^_, _≤_, _<_};
+ghost use Prim.Native.Nat.{_+_, _^_, _≤_, _<_, min};
 ghost use lib.ListN.{length};
 ghost use Rattle.octets.specs.Bytes.{splice, le, valueAt};
 
@@ -108,6 +108,13 @@ pub fn take8(s: &[u8], at: usize) -> u64
     ensures { λ r. ⌜ r ≡ valueAt 8 at (now (s .entry)) ⌝ }
 {
     take(s, at, 8)
+}
+
+// The smaller of two.
+pub fn least(a: usize, b: usize) -> usize
+    ensures { λ r. ⌜ r ≡ min a b ⌝ }
+{
+    if a < b { a } else { b }
 }
 
 // Copies s to the offset.

@@ -63,7 +63,7 @@ pub fn repeats(m: Last, f: &[u8]) -> bool
         return false;
     }
     let request = m.request;
-    let n = select::least(m.request_len, FRAGMENT_MAX);
+    let n = octets::least(m.request_len, FRAGMENT_MAX);
     application::equal(f, &request[..n])
 }
 
@@ -76,7 +76,7 @@ pub fn answer_again(m: Last, out: &mut [u8]) -> usize
         return 0;
     }
     let answer = m.answer;
-    let n = select::least(m.answer_len, ANSWER_MAX);
+    let n = octets::least(m.answer_len, ANSWER_MAX);
     octets::copy(out, 0, &answer[..n]);
     n
 }

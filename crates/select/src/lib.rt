@@ -1,6 +1,6 @@
 // The select latch, and what a control request does to it, to the answer and to the outputs.
 ghost use mathlib.Core.Path.{_≡_};
-ghost use Prim.Native.Nat.{_-_, _≤_, _<_, min};
+ghost use Prim.Native.Nat.{_-_, _≤_, _<_};
 ghost use lib.ListN.{length, take};
 ghost use Rattle.octets.specs.Bytes.{splice};
 ghost use Rattle.control.specs.Objects.{objectsMax, echoMax, answerMax, formed, listOf};
@@ -50,13 +50,6 @@ pub struct Controlled {
     pub len: usize,
     pub carried: Crobs,
     pub latch: Latch,
-}
-
-// The lesser number.
-pub fn least(a: usize, b: usize) -> usize
-    ensures { λ r. ⌜ r ≡ min a b ⌝ }
-{
-    if a < b { a } else { b }
 }
 
 // The time from one to the other.
@@ -110,7 +103,7 @@ pub fn operate(
         return 2;
     }
     let objects = latch.objects;
-    let n = least(latch.len, ECHO_MAX);
+    let n = octets::least(latch.len, ECHO_MAX);
     if !application::equal(o, &objects[..n]) {
         return 2;
     }

@@ -1,6 +1,6 @@
 // The transport function: segments taken into a fragment, and a fragment sent as segments.
 ghost use mathlib.Core.Path.{_≡_};
-ghost use Prim.Native.Nat.{_+_, _-_, _≤_, _<_, _%_, min};
+ghost use Prim.Native.Nat.{_+_, _-_, _≤_, _<_, _%_};
 ghost use lib.ListN.{length};
 ghost use Rattle.octets.specs.Bytes.{splice};
 ghost use Rattle.transport.specs.Segment.{bitOf, headerOf, nextOf};
@@ -93,12 +93,6 @@ pub fn next(q: TransportSequence) -> TransportSequence
     TransportSequence((q.0 % 64 + 1) % 64)
 }
 
-fn least(a: usize, b: usize) -> usize
-    ensures { λ r. ⌜ r ≡ min a b ⌝ }
-{
-    if a < b { a } else { b }
-}
-
 // Where the data of a segment without FIR goes, n bytes of it.
 fn placed(a: Assembly, sequence: u8, n: usize) -> Place
     requires { ⌜ (0 < n) × (n ≤ 249) ⌝ }
@@ -111,7 +105,7 @@ fn placed(a: Assembly, sequence: u8, n: usize) -> Place
     if sequence != q.0 {
         return Place::NotNext;
     }
-    let len = least(a.len, FRAGMENT_MAX);
+    let len = octets::least(a.len, FRAGMENT_MAX);
     if FRAGMENT_MAX < len + n {
         return Place::TooLong;
     }
@@ -260,7 +254,7 @@ fn write_segment(p: Sender, fragment: &[u8], out: &mut [u8]) -> Sending
 {
     let n = fragment.len();
     let at = from(p.at, n);
-    let e = least(at + SEGMENT_DATA_MAX, n);
+    let e = octets::least(at + SEGMENT_DATA_MAX, n);
     let last = n <= at + SEGMENT_DATA_MAX;
     let h = header(at == 0, last, p.next);
     out[0] = h;
