@@ -1,6 +1,6 @@
 // One reading against one point: scaling, reporting gates, the point's record (document 01, "Readings").
 ghost use mathlib.Core.Path.{_≡_};
-ghost use Prim.Native.Nat.{_≤_};
+ghost use Prim.Native.Nat.{_≤_, min};
 ghost use lib.Ieee.Scale.{finite};
 ghost use lib.IntN.{natAbs, _-ℤ_};
 ghost use Rattle.points.specs.Scaling.{shownOf, limitedTo, clampedTo};
@@ -133,6 +133,17 @@ pub struct Points {
     pub binary_count: usize,
     pub analogs: [AnalogPoint; 64],
     pub analog_count: usize,
+}
+
+// How many points of a kind are installed: a count past the array has all of it.
+pub fn installed(count: usize) -> usize
+    ensures { λ r. ⌜ r ≡ min count 64 ⌝ }
+{
+    if count < POINTS_MAX {
+        count
+    } else {
+        POINTS_MAX
+    }
 }
 
 // What a binary reading comes to: the point's new record and whether an event is raised, or refusal 4.

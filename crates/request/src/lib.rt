@@ -228,7 +228,7 @@ pub fn headers(s: &[u8], binaries: u16, analogs: u16) -> Plan
 }
 
 // How many headers the plan has.
-fn filled(count: usize) -> usize
+pub fn filled(count: usize) -> usize
     ensures { λ r. ⌜ r ≡ min count headersMax ⌝ }
 {
     if count < HEADERS_MAX {

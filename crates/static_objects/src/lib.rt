@@ -36,17 +36,6 @@ pub enum Shown {
     Analog(u8, Value),
 }
 
-// How many points of a kind are installed.
-fn installed(count: usize) -> usize
-    ensures { λ r. ⌜ r ≡ min count 64 ⌝ }
-{
-    if count < points::POINTS_MAX {
-        count
-    } else {
-        points::POINTS_MAX
-    }
-}
-
 // A point's place in its array; past its end the last place, whose point is then not shown.
 fn slot(i: usize) -> usize
     ensures { λ r. ⌜ r ≡ min i 63 ⌝ }
@@ -171,7 +160,7 @@ fn put_states(out: &mut [u8], at: usize, p: Points, from: usize, n: usize)
     requires { ⌜ (at + n ≤ length (now out)) × (from + n < 200000) ⌝ }
     ensures { λ _. ⌜ now (out .exit) ≡ splice (now (out .entry)) at (objectBytes (pointObjects (inputs p) false from n)) ⌝ }
 {
-    let count = installed(p.binary_count);
+    let count = points::installed(p.binary_count);
     let mut to = at;
     let mut i = from;
     let mut left = n;
@@ -207,7 +196,7 @@ fn analogs_size(p: Points, from: usize, n: usize) -> usize
     requires { ⌜ from + n < 200000 ⌝ }
     ensures { λ r. ⌜ (r ≡ length (rangeBytes (inputs p) true from n)) × (r ≤ 12 * n) ⌝ }
 {
-    let count = installed(p.analog_count);
+    let count = points::installed(p.analog_count);
     let mut total: usize = 0;
     let mut last: u8 = 0;
     let mut i = from;
@@ -251,7 +240,7 @@ fn put_analogs(out: &mut [u8], at: usize, p: Points, from: usize, n: usize) -> u
         (r ≡ at + length (rangeBytes (inputs p) true from n))
         × (now (out .exit) ≡ splice (now (out .entry)) at (rangeBytes (inputs p) true from n)) ⌝ }
 {
-    let count = installed(p.analog_count);
+    let count = points::installed(p.analog_count);
     let mut to = at;
     let mut run = at;
     let mut last: u8 = 0;
@@ -303,24 +292,13 @@ fn put_header(out: &mut [u8], at: usize, h: Header, p: Points) -> usize
     put_analogs(out, to, p, h.analog as usize, h.analogs as usize)
 }
 
-// How many of a plan's headers there are.
-fn filled(count: usize) -> usize
-    ensures { λ r. ⌜ r ≡ min count 16 ⌝ }
-{
-    if count < request::HEADERS_MAX {
-        count
-    } else {
-        request::HEADERS_MAX
-    }
-}
-
 // The bytes of the static part.
 pub fn static_size(plan: Plan, p: Points) -> usize
     ensures { λ r. ⌜
         (r ≡ length (staticBytes (inputs p) (take (plan .count) (plan .headers))))
         × (r ≤ 25600000) ⌝ }
 {
-    let n = filled(plan.count);
+    let n = request::filled(plan.count);
     let mut total: usize = 0;
     let mut i: usize = 0;
     while i < n {
@@ -338,7 +316,7 @@ pub fn put_static(out: &mut [u8], at: usize, plan: Plan, p: Points) -> usize
         (r ≡ at + length (staticBytes (inputs p) (take (plan .count) (plan .headers))))
         × (now (out .exit) ≡ splice (now (out .entry)) at (staticBytes (inputs p) (take (plan .count) (plan .headers)))) ⌝ }
 {
-    let n = filled(plan.count);
+    let n = request::filled(plan.count);
     let mut to = at;
     let mut i: usize = 0;
     while i < n {
@@ -353,8 +331,8 @@ pub fn put_static(out: &mut [u8], at: usize, plan: Plan, p: Points) -> usize
 pub fn asked(s: &[u8], p: Points) -> Plan
     ensures { λ r. ⌜ plannedOf r ≡ readOf (inputs p) (now (s .entry)) ⌝ }
 {
-    let binaries = installed(p.binary_count) as u16;
-    let analogs = installed(p.analog_count) as u16;
+    let binaries = points::installed(p.binary_count) as u16;
+    let analogs = points::installed(p.analog_count) as u16;
     let plan = request::headers(s, binaries, analogs);
     let v = plan.verdict;
     match v {
