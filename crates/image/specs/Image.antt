@@ -33,6 +33,8 @@ use Rattle.outstation.specs.declared.Wait.{Wait}
 use Rattle.outstation.specs.declared.Wait.the-variants.{Idle, Awaiting}
 use Rattle.outstation.specs.declared.Session.{Session}
 use Rattle.outstation.specs.declared.Outstation.{Outstation}
+use Rattle.outstation.specs.declared.Marks.{Marks}
+use Rattle.outstation.specs.declared.Window.{Window}
 use Rattle.outstation.specs.declared.Setup.{Setup}
 use Rattle.outstation.specs.declared.Measured.{Measured}
 use Rattle.outstation.specs.declared.Measured.the-variants as Rs
@@ -55,6 +57,8 @@ use Rattle.image.specs.declared.LastImage.{LastImage}
 use Rattle.image.specs.declared.LatchImage.{LatchImage}
 use Rattle.image.specs.declared.SessionImage.{SessionImage}
 use Rattle.image.specs.declared.OutstationImage.{OutstationImage}
+use Rattle.image.specs.declared.MarksImage.{MarksImage}
+use Rattle.image.specs.declared.WindowImage.{WindowImage}
 use Rattle.image.specs.declared.AnalogSetupImage.{AnalogSetupImage}
 use Rattle.image.specs.declared.SetupImage.{SetupImage}
 use Rattle.image.specs.declared.ReadingImage.{ReadingImage}
@@ -292,6 +296,21 @@ stateOf i =
       buffer = bufferOf (i .buffer);
       session = sessionOf (i .session);
     }
+
+-- ---- one reading's window
+
+unfoldable pub marksImage : Marks → MarksImage
+marksImage m = record { clock = m .clock; count = m .count; overflow = whether (m .overflow); wait = waitImage (m .wait) }
+
+unfoldable pub marksOf : MarksImage → Marks
+marksOf i = record { clock = i .clock; count = i .count; overflow = holds (i .overflow); wait = waitOf (i .wait) }
+
+unfoldable pub windowImage : Window → WindowImage
+windowImage w =
+    record { marks = marksImage (w .marks); binary = binaryImage (w .binary); analog = analogImage (w .analog); held = heldImage (w .held) }
+
+unfoldable pub windowOf : WindowImage → Window
+windowOf i = record { marks = marksOf (i .marks); binary = binaryOf (i .binary); analog = analogOf (i .analog); held = heldOf (i .held) }
 
 -- ---- setup and reading
 

@@ -42,6 +42,10 @@ ghost use Rattle.image.specs.Image.{
   sessionOf,
   imageOf,
   stateOf,
+  marksImage,
+  marksOf,
+  windowImage,
+  windowOf,
   kindOf,
   analogSetupOf,
   setupOf,
@@ -56,12 +60,14 @@ use events::Buffer;
 use events::Event;
 use events::Held;
 use events::Shown;
+use outstation::Marks;
 use outstation::Measured;
 use outstation::Outstation;
 use outstation::Reading;
 use outstation::Session;
 use outstation::Setup;
 use outstation::Wait;
+use outstation::Window;
 use points::AnalogKind;
 use points::AnalogPoint;
 use points::AnalogSetup;
@@ -926,6 +932,80 @@ pub fn unpack(i: OutstationImage) -> Outstation
         points: points_of(points),
         buffer: buffer_of(buffer),
         session: session_of(session),
+    }
+}
+
+// ---- one reading's window
+
+// What a reading may change beside its point and the next event.
+pub struct MarksImage {
+    pub clock: u64,
+    pub count: usize,
+    pub overflow: u8,
+    pub wait: WaitImage,
+}
+
+// What one reading sees and may change of an image.
+pub struct WindowImage {
+    pub marks: MarksImage,
+    pub binary: BinaryImage,
+    pub analog: AnalogImage,
+    pub held: HeldImage,
+}
+
+fn marks_image(m: Marks) -> MarksImage
+    ensures { λ r. ⌜ r ≡ marksImage m ⌝ }
+{
+    let w = m.wait;
+    MarksImage {
+        clock: m.clock,
+        count: m.count,
+        overflow: flag(m.overflow),
+        wait: wait_image(w),
+    }
+}
+
+fn marks_of(i: MarksImage) -> Marks
+    ensures { λ r. ⌜ r ≡ marksOf i ⌝ }
+{
+    let w = i.wait;
+    Marks {
+        clock: i.clock,
+        count: i.count,
+        overflow: truth(i.overflow),
+        wait: wait_of(w),
+    }
+}
+
+// The image of a window.
+pub fn window_image(w: Window) -> WindowImage
+    ensures { λ r. ⌜ r ≡ windowImage w ⌝ }
+{
+    let m = w.marks;
+    let b = w.binary;
+    let a = w.analog;
+    let h = w.held;
+    WindowImage {
+        marks: marks_image(m),
+        binary: binary_image(b),
+        analog: analog_image(a),
+        held: held_image(h),
+    }
+}
+
+// The window that an image stands for.
+pub fn window_of(i: WindowImage) -> Window
+    ensures { λ r. ⌜ r ≡ windowOf i ⌝ }
+{
+    let m = i.marks;
+    let b = i.binary;
+    let a = i.analog;
+    let h = i.held;
+    Window {
+        marks: marks_of(m),
+        binary: binary_of(b),
+        analog: analog_of(a),
+        held: held_of(h),
     }
 }
 
