@@ -1,2 +1,3 @@
 pub mod HostLaws
 pub mod LineLaws
+pub mod TableImageLaws
