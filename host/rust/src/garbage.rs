@@ -5,7 +5,7 @@ use reference::generate::Random;
 
 use crate::header::*;
 use crate::meaning::*;
-use crate::pair::Lent;
+use crate::pair::{Lent, Seen};
 
 fn same<T: Same>(what: &str, given: &T, plain: &T) -> Result<(), String> {
     match given.differs(plain) {
@@ -35,6 +35,9 @@ fn image(live: &Outstation, random: &mut Random) -> Outstation {
     }
     image.points.binary_count = count(BINARIES, random);
     image.points.analog_count = count(ANALOGS, random);
+    // Few flags, so that a reading's may be those last reported and its gate decides.
+    image.points.binaries.iter_mut().for_each(|binary| binary.reported %= 3);
+    image.points.analogs.iter_mut().for_each(|analog| analog.reported %= 3);
     image.buffer.count = count(EVENTS, random);
     for held in &mut image.buffer.held {
         if random.chance(80) {
@@ -62,15 +65,20 @@ fn image(live: &Outstation, random: &mut Random) -> Outstation {
             *time %= 1 << random.pick(&[4, 16, 48]);
         }
     }
+    // Often, times that an awaited confirmation keeps.
+    if random.chance(50) {
+        session.wait.time = image.clock;
+        session.latch.time = image.clock;
+    }
     image
 }
 
-fn reading(random: &mut Random) -> Reading {
+fn reading(clock: u64, random: &mut Random) -> Reading {
     let mut reading = Reading::random(random);
     if random.chance(90) {
+        reading.time = clock.wrapping_add(random.below(3) as u64);
         reading.point %= 66;
-        reading.time %= 1 << 48;
-        reading.flags %= 34;
+        reading.flags %= random.pick(&[3, 3, 3, 33]);
         reading.kind %= 4;
     }
     reading
@@ -116,32 +124,36 @@ fn fragment(image: &Outstation, random: &mut Random) -> Vec<u8> {
 }
 
 /// The state's calls on one image.
-pub fn outstation(live: &Outstation, random: &mut Random) -> Result<(), String> {
+pub fn outstation(live: &Outstation, random: &mut Random, seen: &mut Seen) -> Result<(), String> {
     let given = image(live, random);
     let plain_image = plain(&given);
 
-    let one = reading(random);
+    let one = reading(given.clock, random);
     let took = crate::header::reading(&given, &one);
     let expected = crate::header::reading(&plain_image, &plain_reading(&one));
     same("reading: refusal", &took.refusal, &expected.refusal)?;
     same("reading", &plain(&took.image), &plain(&expected.image))?;
+    let kinds = ["garbage: binary reading accepted", "garbage: whole reading accepted"];
+    let kind = kinds.get(usize::from(one.kind)).unwrap_or(&"garbage: float reading accepted");
+    seen.note(kind, took.refusal == 0);
 
     let mut table = Table::zero();
     for place in &mut table.readings {
-        *place = reading(random);
+        *place = reading(given.clock, random);
     }
-    table.readings[..20].sort_by_key(|reading| reading.time);
+    table.readings.sort_by_key(|reading| reading.time);
     table.count = count(TABLE, random);
     let took = crate::header::table(&given, &table);
     let expected = crate::header::table(&plain_image, &plain_table(&table));
     same("table: taken", &took.taken, &expected.taken)?;
     same("table: refusal", &took.refusal, &expected.refusal)?;
     same("table", &plain(&took.image), &plain(&expected.image))?;
+    seen.note("garbage: ten readings of a table taken", took.taken >= 10);
 
     let bytes = fragment(&given, random);
     let time = match random.below(4) {
         0 => random.next(),
-        1 => given.session.wait.time.wrapping_add(given.confirm_time),
+        1 => given.session.wait.time,
         _ => given.clock.wrapping_add(random.below(3) as u64),
     };
     let len = random.pick(&[0, 2047, 2048, 2048, 2048, 2049, 5000]);
@@ -156,6 +168,11 @@ pub fn outstation(live: &Outstation, random: &mut Random) -> Result<(), String> 
         same("fragment: object", one, two)?;
     }
     same("fragment", &plain(&answer.image), &plain(&expected.image))?;
+    seen.note("garbage: fragment answered", answer.answer.kind == 0);
+    let read = answer.answer.kind == 0 && bytes[1] == 1;
+    seen.note("garbage: READ awaits a CONFIRM", read && answer.image.session.wait.kind == 1);
+    seen.note("garbage: CONFIRM accepted", answer.answer.kind == 2);
+    seen.note("garbage: objects carried out", answer.operated.count > 0);
     lent.compare()
 }
 

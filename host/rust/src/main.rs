@@ -294,7 +294,7 @@ fn garbage(pair: &mut Pair, seed: u64) -> Result<(), String> {
             pair.call(&call)?;
         }
         let at = |found| format!("after line {}: {found}", number + 1);
-        garbage::outstation(&pair.image, &mut random).map_err(at)?;
+        garbage::outstation(&pair.image, &mut random, &mut pair.seen).map_err(at)?;
         garbage::setup(&mut random).map_err(at)?;
         for _ in 0..10 {
             garbage::line(&mut random).map_err(at)?;
