@@ -88,9 +88,9 @@ fn reading(clock: u64, random: &mut Random) -> Reading {
 fn fragment(image: &Outstation, random: &mut Random) -> Vec<u8> {
     let session = &image.session;
     match random.below(8) {
-        0 => vec![0xC0 | session.wait.sequence % 16, 0],
+        0 => vec![0xC0 | (session.wait.sequence % 16), 0],
         1 => {
-            let mut bytes = vec![0xC0 | (session.latch.sequence.wrapping_add(1)) % 16, 4];
+            let mut bytes = vec![0xC0 | (session.latch.sequence.wrapping_add(1) % 16), 4];
             bytes.extend_from_slice(&session.latch.objects[..session.latch.len.min(109)]);
             bytes
         }
@@ -243,7 +243,7 @@ pub fn line(random: &mut Random) -> Result<(), String> {
         assembly.begun = 0;
     }
     if let (Some(first), true) = (bytes.first_mut(), random.chance(80)) {
-        *first = *first & 0xC0 | (assembly.last % 64 + 1) % 64;
+        *first = (*first & 0xC0) | ((assembly.last % 64 + 1) % 64);
     }
     let mut lent = Lent::new(random.pick(&lens), random);
     let reception = segment_receive(assembly, &bytes, lent.library());

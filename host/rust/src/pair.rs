@@ -516,7 +516,7 @@ impl Pair {
                 (sending.sent.size, sending.sent.refusal, ended),
                 (size, 0, false),
             );
-            ended = sending.sent.last != 0;
+            ended = sending.sent.last == 1;
             library.second().copy_from_slice(lent);
             result = result.clone().and_then(|()| library.compare());
             // Other bytes for the next one.
