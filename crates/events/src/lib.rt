@@ -1,6 +1,6 @@
 // The held events: at most 256, oldest first, and the overflow indication.
 ghost use mathlib.Core.Path.{_≡_};
-ghost use mathlib.Core.Bool.{false};
+ghost use mathlib.Core.Bool.{false, _||_};
 ghost use mathlib.Core.List.{[]};
 ghost use Prim.Native.Nat.{min, _≤_};
 ghost use Rattle.laws.specs.Lists.{some};
@@ -300,29 +300,28 @@ fn left_of(h: Held, class: u8) -> bool
     }
 }
 
-// Some event of the class is held and not carried.
-fn is_left(b: Buffer, class: u8) -> bool
-    ensures { λ r. ⌜ r ≡ some (leftOf class) (queue b .held) ⌝ }
+// Whether one of the class was seen earlier, or this is one.
+fn seen(earlier: bool, h: Held, class: u8) -> bool
+    ensures { λ r. ⌜ r ≡ (earlier || leftOf class h) ⌝ }
 {
-    let n = filled(b.count);
-    let mut i = 0;
-    while i < n {
-        let h = b.held[i];
-        if left_of(h, class) {
-            return true;
-        }
-        i += 1;
-    }
-    false
+    if earlier { true } else { left_of(h, class) }
 }
 
-// The classes of which events are held and not carried.
+// The classes of which events are held and not carried. One loop for all three, for a function that reads the slots copies the buffer.
 pub fn left_behind(b: Buffer) -> Classes
     ensures { λ r. ⌜ r ≡ leftBehind (queue b .held) ⌝ }
 {
-    Classes {
-        one: is_left(b, 1),
-        two: is_left(b, 2),
-        three: is_left(b, 3),
+    let n = filled(b.count);
+    let mut one = false;
+    let mut two = false;
+    let mut three = false;
+    let mut i = 0;
+    while i < n {
+        let h = b.held[i];
+        i += 1;
+        one = seen(one, h, 1);
+        two = seen(two, h, 2);
+        three = seen(three, h, 3);
     }
+    Classes { one, two, three }
 }
