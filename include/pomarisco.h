@@ -444,8 +444,8 @@ struct pomarisco_wrote pomarisco_link_reply(uint8_t *out, size_t out_length, uin
 /* Writes a frame of user data to the master (control 44 hex). As frame_write. */
 struct pomarisco_wrote pomarisco_link_data(uint8_t *out, size_t out_length, uint16_t own, uint16_t master, const uint8_t *user, size_t user_length);
 
-/* Takes a segment into the fragment at the front of the lent bytes: lend the same bytes, as they were left, until it is whole. Changes the
- * assembly and those bytes. Refusals 21 to 23, and 33 when out_length is under 2,048. */
+/* Takes a segment into the fragment at the front of the lent bytes, behind what came before: lend the same bytes, as they were left, until it is
+ * whole. Changes the assembly and those bytes. Refusals 21 to 23, and 33 when out_length is under 2,048. */
 struct pomarisco_reception pomarisco_segment_receive(struct pomarisco_assembly assembly, const uint8_t *segment, size_t segment_length, uint8_t *out, size_t out_length);
 
 /* Writes the next segment of a fragment: call again with the sender given back, and the same fragment, until `last`. Changes the sender and
