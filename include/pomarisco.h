@@ -10,8 +10,9 @@
  *  - A truth is a uint8_t, 0 for false and any other number for true.
  *  - Of a kind's fields only those named with that kind count; of a latch or a last request that is not armed or held, none.
  *  - A count above its array's length means all of it (in a setup it is refused, 5). Array elements past the count do not count.
- * What is given back has the least numbers for kinds and truths (1 for true). What does not count may be given back changed or
- * as it was, also by a refused call: compare meanings, not bytes.
+ * From restart on, changed by calls alone, a struct has 1 for true, the least number for each kind, and no count above its array. Where the
+ * host gives other numbers, the call may give those back; what does not count may change in any call, also a refused one: compare meanings,
+ * not bytes.
  *
  * LENT BYTES. `const uint8_t *p, size_t n` is n bytes that the call reads; `uint8_t *p, size_t n` is n bytes that it may
  * write. It writes the output at their front; the bytes after the output keep what they held, and so do all of them when

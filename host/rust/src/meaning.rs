@@ -116,15 +116,6 @@ pub fn plain(image: &Outstation) -> Outstation {
     image
 }
 
-/// Counts no higher than their arrays: a call may give back a higher one as it was given.
-pub fn counted(image: &Outstation) -> Outstation {
-    let mut image = *image;
-    image.points.binary_count = image.points.binary_count.min(BINARIES);
-    image.points.analog_count = image.points.analog_count.min(ANALOGS);
-    image.buffer.count = image.buffer.count.min(EVENTS);
-    image
-}
-
 pub fn plain_reading(reading: &Reading) -> Reading {
     let given = *reading;
     let mut reading = Reading { kind: kind(given.kind, 2), ..given };

@@ -204,9 +204,9 @@ impl Pair {
         }
     }
 
-    /// Keeps the image that a call gave back.
+    /// Keeps the image that a call gave back. Where other numbers were given, others may come back.
     fn keep(&mut self, image: &header::Outstation) {
-        self.image = if self.other { meaning::counted(image) } else { *image };
+        self.image = if self.other { meaning::plain(image) } else { *image };
     }
 
     // ---- setup
