@@ -1,6 +1,8 @@
 // The outstation, a setup and a reading as numbers, for a host in C: no enum and no bool. Every value of these structs stands for one of the outstation's.
 ghost use mathlib.Core.Path.{_≡_};
-ghost use mathlib.Core.List.{map};
+ghost use mathlib.Core.Bool.{false};
+ghost use mathlib.Core.List.{[], map};
+ghost use Rattle.events.specs.Queue.{queue};
 ghost use Rattle.image.specs.Image.{
   whether,
   holds,
@@ -40,7 +42,6 @@ ghost use Rattle.image.specs.Image.{
   latchOf,
   sessionImage,
   sessionOf,
-  imageOf,
   stateOf,
   marksImage,
   marksOf,
@@ -399,21 +400,6 @@ fn held_of(i: HeldImage) -> Held
     }
 }
 
-fn held_images(xs: [Held; 256]) -> [HeldImage; 256]
-    ensures { λ r. ⌜ r ≡ map heldImage xs ⌝ }
-{
-    let a = xs[0];
-    let first = held_image(a);
-    let mut next = [first; 256];
-    let mut i: usize = 0;
-    while i < 256 {
-        let x = xs[i];
-        next[i] = held_image(x);
-        i += 1;
-    }
-    next
-}
-
 fn helds_of(xs: [HeldImage; 256]) -> [Held; 256]
     ensures { λ r. ⌜ r ≡ map heldOf xs ⌝ }
 {
@@ -429,14 +415,51 @@ fn helds_of(xs: [HeldImage; 256]) -> [Held; 256]
     next
 }
 
-fn buffer_image(b: Buffer) -> BufferImage
+pub fn buffer_image(b: Buffer) -> BufferImage
     ensures { λ r. ⌜ r ≡ bufferImage b ⌝ }
 {
-    let held = b.held;
+    let a = b.held[0];
+    let first = held_image(a);
+    let mut next = [first; 256];
+    let mut i: usize = 0;
+    while i < 256 {
+        let x = b.held[i];
+        next[i] = held_image(x);
+        i += 1;
+    }
     BufferImage {
-        held: held_images(held),
+        held: next,
         count: b.count,
         overflow: flag(b.overflow),
+    }
+}
+
+// No event held, none dropped.
+pub fn no_events() -> BufferImage
+    ensures { λ r. ⌜ queue (bufferOf r) ≡ record { held = []; overflow = false } ⌝ }
+{
+    let v = value_image(Value::Long(0));
+    let s = ShownImage {
+        value: v,
+        state: 0,
+        kind: 0,
+    };
+    let e = EventImage {
+        time: 0,
+        shown: s,
+        point: 0,
+        flags: 0,
+        class: 0,
+    };
+    let h = HeldImage {
+        event: e,
+        carried: 0,
+    };
+    let held = [h; 256];
+    BufferImage {
+        held: held,
+        count: 0,
+        overflow: 0,
     }
 }
 
@@ -746,7 +769,7 @@ fn analogs_of(xs: [AnalogImage; 64]) -> [AnalogPoint; 64]
     next
 }
 
-fn points_image(p: Points) -> PointsImage
+pub fn points_image(p: Points) -> PointsImage
     ensures { λ r. ⌜ r ≡ pointsImage p ⌝ }
 {
     let binaries = p.binaries;
@@ -869,7 +892,7 @@ fn latch_of(i: LatchImage) -> Latch
     }
 }
 
-fn session_image(s: Session) -> SessionImage
+pub fn session_image(s: Session) -> SessionImage
     ensures { λ r. ⌜ r ≡ sessionImage s ⌝ }
 {
     let wait = s.wait;
@@ -898,24 +921,6 @@ fn session_of(i: SessionImage) -> Session
 }
 
 // ---- the outstation
-
-// The image of a state.
-pub fn pack(s: Outstation) -> OutstationImage
-    ensures { λ r. ⌜ r ≡ imageOf s ⌝ }
-{
-    let points = s.points;
-    let buffer = s.buffer;
-    let session = s.session;
-    OutstationImage {
-        arm_time: s.arm_time,
-        confirm_time: s.confirm_time,
-        clock: s.clock,
-        points: points_image(points),
-        buffer: buffer_image(buffer),
-        session: session_image(session),
-        outputs: s.outputs,
-    }
-}
 
 // The state that an image stands for.
 pub fn unpack(i: OutstationImage) -> Outstation

@@ -12,6 +12,7 @@ use Rattle.laws.specs.Lists.{all}
 use Rattle.laws.proofs.AllLaws.{refuted}
 use Rattle.points.specs.Setup.{classOk, analogOk, freshBinary, freshAnalog}
 use Rattle.points.specs.declared.AnalogPoint.{AnalogPoint}
+use Rattle.points.specs.declared.Points.{Points}
 use Rattle.points.specs.declared.BinaryPoint.{BinaryPoint}
 use Rattle.points.specs.Inputs.{inputs}
 use Rattle.events.specs.declared.Buffer.{Buffer}
@@ -101,33 +102,39 @@ module _ (u : Setup) (b : Bounds u) where
   unfolding binaryClasses
   bad-classes h = rw (kept, h)
 
+-- the points that a setup gives
+pub set-points : (u : Setup) (bs : List BinaryPoint) (ps : List AnalogPoint) → bs ≡ map freshBinary (u .classes) → ps ≡ map freshAnalog (u .analogs)
+    → inputs (record { binaries = bs; «binary_count» = u .«binary_count»; analogs = ps; «analog_count» = u .«analog_count» }) ≡ restarted u .inputs
+unfolding restarted inputs binaryClasses analogSetups
+set-points u bs ps eb ep =
+    λ k.
+    record {
+      binaries = (ap (take (u .«binary_count»)) eb ∙ map-take freshBinary (u .«binary_count») (u .classes)) k;
+      analogs = (ap (take (u .«analog_count»)) ep ∙ map-take freshAnalog (u .«analog_count») (u .analogs)) k;
+    }
+
 -- the outstation that a setup gives
-pub set-up : (u : Setup) (bs : List BinaryPoint) (ps : List AnalogPoint) (b : Buffer) (s : Session) → bs ≡ map freshBinary (u .classes) → ps ≡ map freshAnalog (u .analogs)
-    → queue b ≡ record { held = []; overflow = false } → exchangeOf s ≡ freshExchange
+pub set-up : (u : Setup) (p : Points) (b : Buffer) (s : Session) → inputs p ≡ restarted u .inputs → queue b ≡ record { held = []; overflow = false } → exchangeOf s ≡ freshExchange
     → world
     (record {
       «arm_time» = u .«arm_time»;
       «confirm_time» = u .«confirm_time»;
       outputs = u .outputs;
       clock = 0;
-      points = record { binaries = bs; «binary_count» = u .«binary_count»; analogs = ps; «analog_count» = u .«analog_count» };
+      points = p;
       buffer = b;
       session = s;
     })
     ≡ restarted u
-unfolding restarted inputs binaryClasses analogSetups
-set-up u bs ps b s eb ep q x =
+unfolding restarted
+set-up u p b s i q x =
     λ k.
     record {
       armTime = u .«arm_time»;
       confirmTime = u .«confirm_time»;
       outputs = u .outputs;
       clock = 0;
-      inputs =
-          record {
-            binaries = (ap (take (u .«binary_count»)) eb ∙ map-take freshBinary (u .«binary_count») (u .classes)) k;
-            analogs = (ap (take (u .«analog_count»)) ep ∙ map-take freshAnalog (u .«analog_count») (u .analogs)) k;
-          };
+      inputs = i k;
       queue = q k;
       exchange = x k;
     }
