@@ -26,10 +26,10 @@ enum Work {
     Unknown,
 }
 
-// Whether a name is known, and the most points or events that its work may be asked for: 0 where it has no size.
-struct Limit {
-    known: bool,
-    most: u64,
+// The size that a work may be asked for: up to so many points or events, 0 where it has none.
+enum Extent {
+    UpTo(u64),
+    Unknown,
 }
 
 fn nothing(count: u64) -> u64 {
@@ -73,6 +73,7 @@ fn work_of(w: &[u8]) -> Work {
     Work::Unknown
 }
 
+// A size is at most its work's extent; the remainder only shows that it fits its type.
 fn run(w: Work, count: u64, size: u64) -> u64 {
     match w {
         Work::Nothing => nothing(count),
@@ -80,7 +81,7 @@ fn run(w: Work, count: u64, size: u64) -> u64 {
         Work::FrameRead => frames::frame_read(count),
         Work::Reading => parts::reading(count),
         Work::Push => parts::push(count),
-        Work::ClassZero => class_zero::class_zero(count, (size % 256) as usize),
+        Work::ClassZero => class_zero::class_zero(count, size as usize),
         Work::OutstationReading => stations::outstation_reading(count, (size % 256) as u16),
         Work::HeldReading => stations::held_reading(count, size),
         Work::EventRead => event_reads::event_read(count, size),
@@ -88,48 +89,18 @@ fn run(w: Work, count: u64, size: u64) -> u64 {
     }
 }
 
-fn limit_of(w: Work) -> Limit {
+fn extent_of(w: Work) -> Extent {
     match w {
-        Work::Nothing => Limit {
-            known: true,
-            most: 0,
-        },
-        Work::FrameWrite => Limit {
-            known: true,
-            most: 0,
-        },
-        Work::FrameRead => Limit {
-            known: true,
-            most: 0,
-        },
-        Work::Reading => Limit {
-            known: true,
-            most: 0,
-        },
-        Work::Push => Limit {
-            known: true,
-            most: 0,
-        },
-        Work::ClassZero => Limit {
-            known: true,
-            most: 64,
-        },
-        Work::OutstationReading => Limit {
-            known: true,
-            most: 64,
-        },
-        Work::HeldReading => Limit {
-            known: true,
-            most: 255,
-        },
-        Work::EventRead => Limit {
-            known: true,
-            most: 256,
-        },
-        Work::Unknown => Limit {
-            known: false,
-            most: 0,
-        },
+        Work::Nothing => Extent::UpTo(0),
+        Work::FrameWrite => Extent::UpTo(0),
+        Work::FrameRead => Extent::UpTo(0),
+        Work::Reading => Extent::UpTo(0),
+        Work::Push => Extent::UpTo(0),
+        Work::ClassZero => Extent::UpTo(64),
+        Work::OutstationReading => Extent::UpTo(64),
+        Work::HeldReading => Extent::UpTo(255),
+        Work::EventRead => Extent::UpTo(256),
+        Work::Unknown => Extent::Unknown,
     }
 }
 
@@ -138,21 +109,33 @@ fn say(w: Work, count: u64, size: u64) {
     io::write_all(STDOUT_FILENO, b"\n");
 }
 
+fn say_unknown() {
+    io::write_all(STDOUT_FILENO, b"unknown\n");
+}
+
+// COUNT, or COUNT SIZE; with no size it is the full one.
+fn answer_counted(s: &[u8], c: text::Cursor, w: Work, full: u64) {
+    let count = text::take_number(s, c, 32, COUNT_MAX);
+    if text::finished(count.next) {
+        return say(w, count.value, full);
+    }
+    let size = text::take_number(s, count.next, 32, full);
+    if text::finished(size.next) {
+        return say(w, count.value, size.value);
+    }
+    say_unknown()
+}
+
 fn answer(s: &[u8]) {
     let name = text::word(s, text::start(), 32);
     let from = name.from;
     let to = name.to;
     let w = work_of(&s[from..to]);
-    let k = limit_of(w);
-    let count = text::take_number(s, name.next, 32, COUNT_MAX);
-    let size = text::take_number(s, count.next, 32, k.most);
-    if k.known && text::finished(count.next) {
-        return say(w, count.value, k.most);
+    let e = extent_of(w);
+    match e {
+        Extent::UpTo(full) => answer_counted(s, name.next, w, full),
+        Extent::Unknown => say_unknown(),
     }
-    if k.known && text::finished(size.next) {
-        return say(w, count.value, size.value);
-    }
-    io::write_all(STDOUT_FILENO, b"unknown\n");
 }
 
 fn lines(s: &[u8]) {
