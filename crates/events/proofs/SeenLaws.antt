@@ -38,10 +38,10 @@ module _ (p : Held → Bool) (b : Buffer) (n : ℕ) (slots : length (b .held) �
       record {
         read = omega arith;
         rest =
-        ap (λ (x : Bool). x || some p r) e
-        ∙ turn seen (p h) (some p r)
-        ∙ ap (λ (l : List Held). seen || some p l) (sym (front (λ l. l) (λ l. l) n i i (b .held) noHeld below (omega (arith, slots, least))))
-        ∙ s .rest;
+            ap (λ (x : Bool). x || some p r) e
+            ∙ turn seen (p h) (some p r)
+            ∙ ap (λ (l : List Held). seen || some p l) (sym (front (λ l. l) (λ l. l) n i i (b .held) noHeld below (omega (arith, slots, least))))
+            ∙ s .rest;
       }
 
   pub noted : (seen : Bool) (i : ℕ) → Noting p b n seen i → n ≤ i → seen ≡ some p (queue b .held)
