@@ -146,10 +146,3 @@ impl Buffer {
         }
     }
 }
-
-/// The same by value.
-pub fn push_by_value(b: Buffer, e: Event) -> Buffer {
-    let mut next = b;
-    next.push(e);
-    next
-}

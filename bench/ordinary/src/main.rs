@@ -6,7 +6,7 @@ mod outstation;
 mod points;
 mod read;
 
-use events::{Buffer, Event, Shown, CAPACITY};
+use events::{Buffer, Event, Shown};
 use outstation::{Answer, FragmentError, Outstation};
 use points::{
     AnalogPoint, BinaryPoint, FloatTrack, Gate, Measure, Points, ReadingError, Scale, Value,
@@ -125,16 +125,6 @@ fn reading_by_value(count: u64) -> u64 {
     sum
 }
 
-fn event_of(n: u64) -> Event {
-    Event {
-        point: (n % 64) as u16,
-        shown: Shown::Analog(Value::Long((n % 4096) as i32)),
-        flags: 1,
-        time: n,
-        class: 1,
-    }
-}
-
 fn digest(sum: u64, b: &Buffer) -> u64 {
     b.held.iter().fold(sum, |s, h| {
         fold(fold(s, h.event.time), h.event.point as u64)
@@ -144,32 +134,6 @@ fn digest(sum: u64, b: &Buffer) -> u64 {
 /// The checksum with every byte.
 fn fold_all(sum: u64, s: &[u8]) -> u64 {
     s.iter().fold(sum, |sum, &b| fold(sum, b as u64))
-}
-
-fn push(count: u64) -> u64 {
-    let mut b = Buffer::new();
-    let mut sum = 1u64;
-    for left in (1..=count).rev() {
-        if CAPACITY <= b.count {
-            b.count = 0;
-        }
-        b.push(event_of(left));
-        sum = fold(sum, b.count as u64);
-    }
-    digest(sum, &b)
-}
-
-fn push_by_value(count: u64) -> u64 {
-    let mut b = Buffer::new();
-    let mut sum = 1u64;
-    for left in (1..=count).rev() {
-        if CAPACITY <= b.count {
-            b.count = 0;
-        }
-        b = events::push_by_value(b, event_of(left));
-        sum = fold(sum, b.count as u64);
-    }
-    digest(sum, &b)
 }
 
 fn analog_of(i: usize) -> AnalogPoint {
@@ -398,7 +362,7 @@ fn event_read_by_value(count: u64, n: usize) -> u64 {
 fn most(name: &str) -> Option<usize> {
     Some(match name {
         "nothing" | "frame-write" | "frame-read" | "frame-write-table" | "frame-read-table" => 0,
-        "reading" | "reading-by-value" | "push" | "push-by-value" => 0,
+        "reading" | "reading-by-value" => 0,
         "class-0" | "outstation-reading" | "outstation-reading-by-value" => 64,
         "held-reading" | "held-reading-by-value" => 255,
         "event-read" | "event-read-by-value" => 256,
@@ -415,8 +379,6 @@ fn run(name: &str, count: u64, size: usize) -> Option<u64> {
         "frame-read-table" => frame_read(count, frame::check_table),
         "reading" => reading(count),
         "reading-by-value" => reading_by_value(count),
-        "push" => push(count),
-        "push-by-value" => push_by_value(count),
         "class-0" => class_0(count, size),
         "outstation-reading" => outstation_reading(count, size),
         "outstation-reading-by-value" => outstation_reading_by_value(count, size),

@@ -18,7 +18,6 @@ enum Work {
     FrameWrite,
     FrameRead,
     Reading,
-    Push,
     ClassZero,
     OutstationReading,
     HeldReading,
@@ -55,9 +54,6 @@ fn work_of(w: &[u8]) -> Work {
     if text::same(w, b"reading") {
         return Work::Reading;
     }
-    if text::same(w, b"push") {
-        return Work::Push;
-    }
     if text::same(w, b"class-0") {
         return Work::ClassZero;
     }
@@ -80,7 +76,6 @@ fn run(w: Work, count: u64, size: u64) -> u64 {
         Work::FrameWrite => frames::frame_write(count),
         Work::FrameRead => frames::frame_read(count),
         Work::Reading => parts::reading(count),
-        Work::Push => parts::push(count),
         Work::ClassZero => class_zero::class_zero(count, size as usize),
         Work::OutstationReading => stations::outstation_reading(count, (size % 256) as u16),
         Work::HeldReading => stations::held_reading(count, size),
@@ -95,7 +90,6 @@ fn extent_of(w: Work) -> Extent {
         Work::FrameWrite => Extent::UpTo(0),
         Work::FrameRead => Extent::UpTo(0),
         Work::Reading => Extent::UpTo(0),
-        Work::Push => Extent::UpTo(0),
         Work::ClassZero => Extent::UpTo(64),
         Work::OutstationReading => Extent::UpTo(64),
         Work::HeldReading => Extent::UpTo(255),

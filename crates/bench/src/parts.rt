@@ -1,10 +1,7 @@
-// One point, and one event into the buffer.
+// One reading against one point.
 use crate::sums::bit;
-use crate::sums::digest;
 use crate::sums::fold;
 use crate::sums::plus;
-use events::Event;
-use events::Shown;
 use points::AnalogKind;
 use points::AnalogPoint;
 use points::AnalogSetup;
@@ -55,32 +52,4 @@ pub fn reading(count: u64) -> u64 {
         left -= 1;
     }
     sum
-}
-
-fn event_of(n: u64) -> Event {
-    let z = (n % 4096) as i32;
-    let s = Shown::Analog(Value::Long(z));
-    Event {
-        time: n,
-        shown: s,
-        point: (n % 64) as u16,
-        flags: 1,
-        class: 1,
-    }
-}
-
-pub fn push(count: u64) -> u64 {
-    let mut b = events::empty();
-    let mut sum: u64 = 1;
-    let mut left = count;
-    while 0 < left {
-        if events::CAPACITY <= b.count {
-            b.count = 0;
-        }
-        let e = event_of(left);
-        b = events::push(b, e);
-        sum = fold(sum, b.count as u64);
-        left -= 1;
-    }
-    digest(sum, b)
 }

@@ -4,6 +4,7 @@ use crate::sums::fold;
 use crate::sums::plus;
 use events::Buffer;
 use events::Event;
+use events::Held;
 use events::Shown;
 use outstation::Outstation;
 use outstation::ReadingAnswer;
@@ -117,12 +118,19 @@ fn event_at(i: u64) -> Event {
 
 fn held_events(n: u64) -> Buffer {
     let mut b = events::empty();
-    let mut i: u64 = 0;
-    while i < n {
-        let e = event_at(i);
-        b = events::push(b, e);
+    let mut held = b.held;
+    let end = events::filled(n as usize);
+    let mut i: usize = 0;
+    while i < end {
+        let e = event_at(i as u64);
+        held[i] = Held {
+            event: e,
+            carried: false,
+        };
         i += 1;
     }
+    b.held = held;
+    b.count = end;
     b
 }
 

@@ -5,7 +5,7 @@ ghost use mathlib.Core.List.{[]};
 ghost use Prim.Native.Nat.{min, _≤_};
 ghost use Rattle.laws.specs.Lists.{some};
 ghost use Rattle.events.specs.Placing.{kindOf, sizeOf, asked, emptyPack, costOf, turnOf};
-ghost use Rattle.events.specs.Queue.{queue, marked, edited, pushed, carry, selected, released, cleared, isCarried, leftOf, leftBehind};
+ghost use Rattle.events.specs.Queue.{queue, marked, edited, carry, selected, released, cleared, isCarried, leftOf, leftBehind};
 use points::Value;
 
 // How many events may be held.
@@ -84,25 +84,6 @@ pub fn filled(count: usize) -> usize
     ensures { λ r. ⌜ r ≡ min count 256 ⌝ }
 {
     if count < CAPACITY { count } else { CAPACITY }
-}
-
-// An event raised: held, or dropped where 256 are.
-pub fn push(b: Buffer, e: Event) -> Buffer
-    ensures { λ r. ⌜ queue r ≡ pushed e (queue b) ⌝ }
-{
-    let n = b.count;
-    let mut next = b;
-    if n < CAPACITY {
-        next.held[n] = Held {
-            event: e,
-            carried: false,
-        };
-        next.count = n + 1;
-        next
-    } else {
-        next.overflow = true;
-        next
-    }
 }
 
 fn with_mark(h: Held, carried: bool) -> Held
