@@ -23,20 +23,20 @@ use Rattle.repeat.specs.declared.Last.{Last}
 use Rattle.repeat.specs.Repeat.{Memory, nothing, kept, lastOf, answerOf}
 use Rattle.repeat.proofs.ReplyLaws.{echo-most, unanswered-echo, answer-taken}
 use Rattle.events.specs.declared.Buffer.{Buffer}
-use Rattle.events.specs.Queue.{Queue, queue, released}
+use Rattle.events.specs.Queue.{Queue, queue, released, cleared}
 use Rattle.outstation.specs.declared.Outstation.{Outstation}
 use Rattle.outstation.specs.declared.Wait.{Wait}
 use Rattle.outstation.specs.declared.Wait.the-variants.{Idle, Awaiting}
 use Rattle.application.specs.declared.ApplicationSequence.{ApplicationSequence}
 use Rattle.outstation.specs.Requests.{confirmed}
-use Rattle.outstation.specs.World.{World, world}
-use Rattle.outstation.specs.Step.{Answer, answers, silent, refuses, refusal, left, done, atTime, indicationsOf, indications, responseBytes, controlDeed, deedBy, readStep, requestStep, repeatStep, clearing, confirmedStep, confirmStep}
+use Rattle.outstation.specs.World.{World, Exchange, exchangeOf, world}
+use Rattle.outstation.specs.Step.{Answer, answers, silent, refuses, refusal, done, atTime, indicationsOf, indications, responseBytes, controlDeed, deedBy, readStep, requestStep, repeatStep, withWait, clearing, confirmedStep, confirmStep}
 use Rattle.outstation.specs.Step as S
 use Rattle.fragments.specs.declared.FragmentAnswer.{FragmentAnswer}
 use Rattle.fragments.specs.declared.FragmentAnswer.the-variants as Fs
 use Rattle.fragments.specs.declared.Answered.{Answered}
 use Rattle.fragments.specs.declared.Deed.{Deed}
-use Rattle.fragments.specs.Given.{answerBy, Given, Still, Worked}
+use Rattle.fragments.specs.Given.{answerBy, Given, Still, Worked, leftWith}
 
 pub length-response : (q : ℕ) (con : Bool) (i : Indications) (f : Fault) → length (responseOf q con i f) ≡ 4
 unfolding responseOf
@@ -82,12 +82,19 @@ module _ (o : Outstation) (v : Wait) (q : ℕ) (uns : Bool) (time : ℕ) (r : An
     unfolding confirmStep
     confirm-good t h = rw (e, t) h
 
+-- the state after an accepted CONFIRM
+pub confirmed-state : (o : Outstation) (s : World) (time : ℕ) (shown since : Bool) (k : Queue) (x : Exchange) → s ≡ leftWith (world o) time k x
+    → k ≡ clearing shown since (released (queue (o .buffer))) → x ≡ withWait Idle (exchangeOf (o .session))
+    → s ≡ confirmedStep (world o) time shown since .state
+unfolding confirmedStep
+confirmed-state o s time shown since k x leaves waits idles = leaves ∙ ap₂ (leftWith (world o) time) waits idles
+
 -- ---- an answer
 
-module _ (q : ℕ) (r : Deed) (b a₁ a₂ : List ℕ) (d : S.Deed) (w : Worked r b a₁ d)
-    (put : a₂ ≡ splice a₁ 0 (responseOf q (r .con) (indicationsOf (queue (r .buffer)) (r .restarted)) (r .fault))) where
-  header-is : responseOf q (r .con) (indicationsOf (queue (r .buffer)) (r .restarted)) (r .fault) ≡ responseOf q (d .con) (indications d) (d .fault)
-  header-is = rw (w .con, w .queue, w .restarted, w .fault)
+module _ (q : ℕ) (r : Deed) (b a₁ a₂ : List ℕ) (d : S.Deed) (w : Worked r b a₁ d) (k : Queue) (marked : k ≡ d .queue)
+    (put : a₂ ≡ splice a₁ 0 (responseOf q (r .con) (indicationsOf k (r .restarted)) (r .fault))) where
+  header-is : responseOf q (r .con) (indicationsOf k (r .restarted)) (r .fault) ≡ responseOf q (d .con) (indications d) (d .fault)
+  header-is = rw (w .con, marked, w .restarted, w .fault)
 
   pub answer-lent : a₂ ≡ splice b 0 (responseBytes q d)
   answer-lent =
@@ -107,21 +114,15 @@ module _ (q : ℕ) (r : Deed) (b a₁ a₂ : List ℕ) (d : S.Deed) (w : Worked 
 
 -- ---- what is left
 
-module _ (w s : World) (r : Deed) (b a₁ : List ℕ) (d : S.Deed) (worked : Worked r b a₁ d) (time : ℕ) (m : Memory) (f a : List ℕ)
-    (leaves : s ≡ left w time m (queue (r .buffer)) (r .wait) (latchOf (r .latch)) (r .restarted)) (keeps : m ≡ kept f a) where
+module _ (w s : World) (r : Deed) (b a₁ : List ℕ) (d : S.Deed) (worked : Worked r b a₁ d) (k : Queue) (marked : k ≡ d .queue) (x : Exchange)
+    (time : ℕ) (m : Memory) (f a : List ℕ) (leaves : s ≡ leftWith w time k x)
+    (holds : x ≡ record { restarted = r .restarted; wait = r .wait; last = m; latch = latchOf (r .latch) }) (keeps : m ≡ kept f a) where
+  left-exchange : x ≡ record { restarted = d .restarted; wait = d .wait; last = kept f a; latch = d .latch }
+  left-exchange =
+      holds ∙ (λ i. record { restarted = worked .restarted i; wait = worked .wait i; last = keeps i; latch = worked .latch i })
+
   pub left-done : s ≡ done w time f a d
-  left-done =
-      leaves
-      ∙ (λ k.
-      record {
-        armTime = w .armTime;
-        confirmTime = w .confirmTime;
-        outputs = w .outputs;
-        clock = time;
-        inputs = w .inputs;
-        queue = worked .queue k;
-        exchange = record { restarted = worked .restarted k; wait = worked .wait k; last = keeps k; latch = worked .latch k };
-      })
+  left-done = leaves ∙ ap₂ (leftWith w time) marked left-exchange
 
 -- ---- a deed's objects
 
@@ -153,35 +154,54 @@ silent-objects w q function time o e =
     ap (λ (n : ℕ). deedBy w q n time o .objects) e
     ∙ unanswered-echo (w .outputs) (w .armTime) (w .exchange .latch) DirectOperateNoResponse q time o refl
 
+-- the events that a request other than READ leaves
+pub deed-queue : (w : World) (q function time : ℕ) (o : List ℕ) → cleared (w .queue) ≡ deedBy w q function time o .queue
+deed-queue w q function time o = go (eqb function 2) (eqb function 3) (eqb function 4) (eqb function 5) (eqb function 6)
+  where
+    go : (a b c d e : Bool)
+        → cleared (w .queue)
+        ≡ (cond a (S.writeDeed w o)
+        (cond b (controlDeed w Select q time o)
+        (cond c (controlDeed w Operate q time o)
+        (cond d (controlDeed w DirectOperate q time o)
+        (cond e (controlDeed w DirectOperateNoResponse q time o)
+        (S.plainDeed w Fault.FunctionUnknown (w .exchange .restarted)))))) .queue)
+    go true b c d e = refl
+    go false true c d e = refl
+    go false false true d e = refl
+    go false false false true e = refl
+    go false false false false true = refl
+    go false false false false false = refl
+
 -- ---- the answered request
 
-module _ (o s : Outstation) (q time : ℕ) (f : List ℕ) (r : Deed) (b a₁ : List ℕ) (d : S.Deed) (worked : Worked r b a₁ d) (m : Memory)
-    (leaves : world s ≡ left (world o) time m (queue (r .buffer)) (r .wait) (latchOf (r .latch)) (r .restarted)) where
+module _ (o s : Outstation) (q time : ℕ) (f : List ℕ) (r : Deed) (b a₁ : List ℕ) (d : S.Deed) (worked : Worked r b a₁ d) (k : Queue)
+    (marked : k ≡ d .queue) (x : Exchange) (m : Memory) (leaves : world s ≡ leftWith (world o) time k x)
+    (holds : x ≡ record { restarted = r .restarted; wait = r .wait; last = m; latch = latchOf (r .latch) }) where
   pub silent-given : (function : ℕ) → eqb function 6 ≡ true → d .objects ≡ [] → m ≡ kept f []
       → Given (record { answer = Fs.Silent; operated = r .operated; state = s }) b a₁ (requestStep (world o) q function time f d)
   unfolding requestStep
   silent-given function e none keeps =
       rw e
       (record {
-        state = left-done (world o) (world s) r b a₁ d worked time m f [] leaves keeps;
+        state = left-done (world o) (world s) r b a₁ d worked k marked x time m f [] leaves holds keeps;
         answer = ap silent (worked .operated);
         operated = worked .operated;
         lent = worked .lent ∙ ap (splice b 4) none ∙ splice-nil b 4;
       })
 
-  module _ (a₂ : List ℕ)
-      (put : a₂ ≡ splice a₁ 0 (responseOf q (r .con) (indicationsOf (queue (r .buffer)) (r .restarted)) (r .fault))) (room : r .size ≤ length b) where
+  module _ (a₂ : List ℕ) (put : a₂ ≡ splice a₁ 0 (responseOf q (r .con) (indicationsOf k (r .restarted)) (r .fault))) (room : r .size ≤ length b) where
     pub request-given : (function : ℕ) → eqb function 6 ≡ false → m ≡ kept f (take (r .size) a₂)
         → Given (record { answer = Fs.Answer (r .size); operated = r .operated; state = s }) b a₂ (requestStep (world o) q function time f d)
     unfolding requestStep
     request-given function e keeps =
-        let bytes : take (r .size) a₂ ≡ responseBytes q d = answer-is q r b a₁ a₂ d worked put room in
+        let bytes : take (r .size) a₂ ≡ responseBytes q d = answer-is q r b a₁ a₂ d worked k marked put room in
         rw e
         (record {
-          state = left-done (world o) (world s) r b a₁ d worked time m f (responseBytes q d) leaves (keeps ∙ ap (kept f) bytes);
+          state = left-done (world o) (world s) r b a₁ d worked k marked x time m f (responseBytes q d) leaves holds (keeps ∙ ap (kept f) bytes);
           answer = ap₂ answers bytes (worked .operated);
           operated = worked .operated;
-          lent = answer-lent q r b a₁ a₂ d worked put;
+          lent = answer-lent q r b a₁ a₂ d worked k marked put;
         })
 
     pub read-given : (none : Crobs) → listOf none ≡ [] → m ≡ kept f []
@@ -189,10 +209,10 @@ module _ (o s : Outstation) (q time : ℕ) (f : List ℕ) (r : Deed) (b a₁ : L
     unfolding readStep
     read-given none e keeps =
         record {
-          state = left-done (world o) (world s) r b a₁ d worked time m f [] leaves keeps;
-          answer = ap₂ answers (answer-is q r b a₁ a₂ d worked put room) e;
+          state = left-done (world o) (world s) r b a₁ d worked k marked x time m f [] leaves holds keeps;
+          answer = ap₂ answers (answer-is q r b a₁ a₂ d worked k marked put room) e;
           operated = e;
-          lent = answer-lent q r b a₁ a₂ d worked put;
+          lent = answer-lent q r b a₁ a₂ d worked k marked put;
         }
 
 -- ---- a repeat

@@ -2,29 +2,32 @@
 -- Assumes nothing.
 use Prim.Native.Nat.{ℕ, _+_}
 use mathlib.Core.Path.{_≡_}
-use mathlib.Core.Bool.{false, cond, _||_}
+use mathlib.Core.Bool.{Bool, false, cond, _||_}
 use mathlib.Core.List.{List, []}
 use lib.Dec.{eqb}
 use lib.ListN.{length, take}
 use Rattle.octets.specs.Bytes.{splice}
-use Rattle.application.specs.declared.Fault.the-variants.{Faultless}
+use Rattle.application.specs.declared.Fault.the-variants.{Faultless, ObjectUnknown, BadParameter}
 use Rattle.control.specs.declared.Crob.{Crob}
 use Rattle.control.specs.Objects.{listOf}
 use Rattle.select.specs.Select.{noSelect, latchOf}
-use Rattle.laws.specs.Lists.{some}
-use Rattle.events.specs.Queue.{Queue, queue, isCarried}
+use Rattle.events.specs.Queue.{Queue}
 use Rattle.application.specs.Fragment.{objectsOf}
-use Rattle.repeat.specs.Repeat.{isRepeat}
+use Rattle.application.specs.Response.{writeFault}
+use Rattle.repeat.specs.Repeat.{nothing, isRepeat}
 use Rattle.static_objects.specs.Static.{readOf}
 use Rattle.outstation.specs.declared.Wait.the-variants.{Idle, Awaiting}
+use Rattle.request.specs.declared.Verdict.{Verdict}
+use Rattle.request.specs.declared.Verdict.the-variants as Vs
 use Rattle.request.specs.Parse.{Parsed, headers, fault}
-use Rattle.outstation.specs.World.{World, world}
-use Rattle.outstation.specs.Step.{Answer, answers, silent, accepts, refuses, handed, lentAfter, Result, readDeed, plainDeed, readFault, readStep, repeatStep, requestStep, deedBy}
+use Rattle.outstation.specs.World.{World, Exchange, world}
+use Rattle.outstation.specs.Step.{Answer, answers, silent, accepts, refuses, handed, lentAfter, Result, readDeed, plainDeed, readFault, isFaultless, readStep, repeatStep, requestStep, deedBy}
 use Rattle.outstation.specs.Step as S
 use Rattle.fragments.specs.declared.FragmentAnswer.{FragmentAnswer}
 use Rattle.fragments.specs.declared.FragmentAnswer.the-variants as Fs
 use Rattle.fragments.specs.declared.Answered.{Answered}
 use Rattle.fragments.specs.declared.Deed.{Deed}
+use Rattle.fragments.specs.declared.Seen.{Seen}
 
 -- the numbers of the refusal table, and the values of each case; d the lent bytes after the call
 abbrev pub answerBy : FragmentAnswer → List ℕ → List Crob → Answer
@@ -51,37 +54,75 @@ pub record Given (r : Answered) (before after : List ℕ) (x : Result) : Type 0 
 abbrev pub Still : Answered → Result → Type 0
 Still r x = (d : List ℕ) → Given r d d x
 
--- what a request does, worked by the code: the objects of its answer are in the lent bytes from 4 on, up to `size`
+-- what a request does beside the events, worked by the code: the objects of its answer are in the lent bytes from 4 on, up to `size`
 pub record Worked (r : Deed) (before after : List ℕ) (d : S.Deed) : Type 0 where
   pub fault : r .fault ≡ d .fault
   pub con : r .con ≡ d .con
   pub size : r .size ≡ 4 + length (d .objects)
   pub lent : after ≡ splice before 4 (d .objects)
   pub operated : listOf (r .operated) ≡ d .operated
-  pub queue : queue (r .buffer) ≡ d .queue
   pub wait : r .wait ≡ d .wait
   pub latch : latchOf (r .latch) ≡ d .latch
   pub restarted : r .restarted ≡ d .restarted
 
--- the same, of a function that is lent nothing
-abbrev pub WorkedStill : Deed → S.Deed → Type 0
-WorkedStill r d = (lent : List ℕ) → Worked r lent lent d
+-- the same, whatever events are held
+abbrev pub WorkedWith : Deed → List ℕ → List ℕ → (Queue → S.Deed) → Type 0
+WorkedWith r before after d = (k : Queue) → Worked r before after (d k)
+
+-- the same, whatever the state is, of a function that is lent nothing
+abbrev pub WorkedStill : Deed → (World → S.Deed) → Type 0
+WorkedStill r d = (w : World) (lent : List ℕ) → Worked r lent lent (d w)
+
+-- the state as a request other than READ sees it, with these events
+abbrev pub seenWorld : Seen → Queue → World
+seenWorld s k =
+    record {
+      armTime = s .«arm_time»;
+      confirmTime = 0;
+      outputs = s .outputs;
+      clock = 0;
+      inputs = record { binaries = []; analogs = [] };
+      queue = k;
+      exchange = record { restarted = s .restarted; wait = Idle; last = nothing; latch = latchOf (s .latch) };
+    }
+
+-- WRITE, by IIN1.7 before it
+abbrev pub writeDeedBy : World → (restarted : Bool) → List ℕ → S.Deed
+writeDeedBy w restarted o = plainDeed w (writeFault o) (cond (isFaultless (writeFault o)) false restarted)
+
+-- the state with another clock, events and exchange
+abbrev pub leftWith : World → ℕ → Queue → Exchange → World
+leftWith w time k x =
+    record {
+      armTime = w .armTime;
+      confirmTime = w .confirmTime;
+      outputs = w .outputs;
+      clock = time;
+      inputs = w .inputs;
+      queue = k;
+      exchange = x;
+    }
 
 -- a READ, faultless or not
 abbrev pub readDeedBy : World → ℕ → ℕ → Parsed → S.Deed
 readDeedBy w q time (headers hs) = readDeed w q time hs
 readDeedBy w q time (fault n) = plainDeed w (readFault n) (w .exchange .restarted)
 
--- a faultless READ's deed by the events with those carried marked: what is not in the lent bytes
-pub record ReadDone (r : Deed) (w : World) (q time : ℕ) (k : Queue) (size : ℕ) : Type 0 where
+-- a faultless READ's deed, by whether an event is carried and whether some were dropped: what is not in the lent bytes
+pub record ReadDone (r : Deed) (q time : ℕ) (carried overflow : Bool) (size : ℕ) (before : Bool) : Type 0 where
   pub fault : r .fault ≡ Faultless
-  pub con : r .con ≡ (some isCarried (k .held) || k .overflow)
+  pub con : r .con ≡ (carried || overflow)
   pub sized : r .size ≡ size
   pub operated : listOf (r .operated) ≡ []
-  pub queue : queue (r .buffer) ≡ k
-  pub wait : r .wait ≡ cond (some isCarried (k .held) || k .overflow) (Awaiting (record { 0 = q }) time (k .overflow) false) Idle
+  pub wait : r .wait ≡ cond (carried || overflow) (Awaiting (record { 0 = q }) time overflow false) Idle
   pub latch : latchOf (r .latch) ≡ noSelect
-  pub restarted : r .restarted ≡ w .exchange .restarted
+  pub restarted : r .restarted ≡ before
+
+-- a READ's deed, by its verdict
+abbrev pub ReadAs : Verdict → Deed → ℕ → ℕ → (carried overflow : Bool) → ℕ → (restarted : Bool) → Type 0
+ReadAs Vs.Faultless r q time carried overflow size restarted = ReadDone r q time carried overflow size restarted
+ReadAs Vs.ObjectUnknown r q time carried overflow size restarted = WorkedStill r (λ w. plainDeed w ObjectUnknown restarted)
+ReadAs Vs.BadParameter r q time carried overflow size restarted = WorkedStill r (λ w. plainDeed w BadParameter restarted)
 
 -- a request by its function: a READ, a repeat, or another
 abbrev pub requestBy : World → ℕ → ℕ → ℕ → List ℕ → Result

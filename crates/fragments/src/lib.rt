@@ -16,7 +16,6 @@ ghost use Rattle.outstation.specs.Step.{
   step,
   withWait,
   plainDeed,
-  writeDeed,
   controlDeed,
   deedBy,
   readStep,
@@ -26,12 +25,24 @@ ghost use Rattle.outstation.specs.Step.{
   confirmStep,
   isFaultless,
   indicationsOf,
-  left,
+  clearing,
 };
-ghost use Rattle.events.specs.Queue.{queue};
+ghost use Rattle.events.specs.Queue.{queue, released};
 ghost use Rattle.select.specs.Select.{latchOf};
 ghost use Rattle.application.specs.Response.{responseOf};
-ghost use Rattle.fragments.specs.Given.{Given, Still, Worked, WorkedStill, ReadDone, readDeedBy, requestBy};
+ghost use Rattle.fragments.specs.Given.{
+  Given,
+  Still,
+  WorkedWith,
+  WorkedStill,
+  ReadDone,
+  ReadAs,
+  readDeedBy,
+  requestBy,
+  leftWith,
+  seenWorld,
+  writeDeedBy,
+};
 use application::ApplicationSequence;
 use application::Fault;
 use application::Fragment;
@@ -71,13 +82,20 @@ pub struct Answered {
     pub state: Outstation,
 }
 
-// What a request does, before its answer is put together.
+// What a request other than READ sees of the state.
+pub struct Seen {
+    pub outputs: u16,
+    pub arm_time: u64,
+    pub restarted: bool,
+    pub latch: Latch,
+}
+
+// What a request does beside the events, before its answer is put together. The events are 8 KB, so they do not go along.
 pub struct Deed {
     pub fault: Fault,
     pub con: bool,
     pub size: usize,
     pub operated: Crobs,
-    pub buffer: Buffer,
     pub wait: Wait,
     pub latch: Latch,
     pub restarted: bool,
@@ -149,23 +167,42 @@ fn idle_session(s: Session) -> Session
     }
 }
 
+// The events that wait after an accepted CONFIRM, and IIN2.3.
+fn release(b: Buffer, shown: bool, since: bool) -> Buffer
+    ensures { λ r. ⌜ queue r ≡ clearing shown since (released (queue b)) ⌝ }
+{
+    let mut c = events::release(b);
+    c.overflow = still_dropped(shown, since, c.overflow);
+    c
+}
+
+// The state with another clock, buffer and session.
+fn left_with(o: Outstation, time: u64, b: Buffer, s: Session) -> Outstation
+    ensures { λ r. ⌜ world r ≡ leftWith (world o) time (queue b) (exchangeOf s) ⌝ }
+{
+    let p = o.points;
+    Outstation {
+        arm_time: o.arm_time,
+        confirm_time: o.confirm_time,
+        outputs: o.outputs,
+        clock: time,
+        points: p,
+        buffer: b,
+        session: s,
+    }
+}
+
 fn accept_confirm(o: Outstation, time: u64, shown: bool, since: bool) -> Answered
     ensures { λ r. ⌜ Still r (confirmedStep (world o) time shown since) ⌝ }
 {
-    let mut next = o;
     let b = o.buffer;
-    let mut c = events::release(b);
-    c.overflow = still_dropped(shown, since, c.overflow);
     let s = o.session;
-    next.clock = time;
-    next.buffer = c;
-    next.session = idle_session(s);
     let a = FragmentAnswer::Confirmed;
     let none = control::none();
     Answered {
         answer: a,
         operated: none,
-        state: next,
+        state: left_with(o, time, release(b, shown, since), idle_session(s)),
     }
 }
 
@@ -193,11 +230,9 @@ fn confirm(o: Outstation, q: ApplicationSequence, uns: bool, time: u64) -> Answe
 // ---- what a request does
 
 // A request without objects in its answer: it ends the wait and empties the latch.
-fn plain_deed(o: Outstation, fault: Fault, restarted: bool) -> Deed
-    ensures { λ r. ⌜ WorkedStill r (plainDeed (world o) fault restarted) ⌝ }
+fn plain_deed(fault: Fault, restarted: bool) -> Deed
+    ensures { λ r. ⌜ WorkedStill r (λ w. plainDeed w fault restarted) ⌝ }
 {
-    let b = o.buffer;
-    let cleared = events::clear(b);
     let w = Wait::Idle;
     let none = control::none();
     let latch = select::empty();
@@ -206,22 +241,20 @@ fn plain_deed(o: Outstation, fault: Fault, restarted: bool) -> Deed
         con: false,
         size: 4,
         operated: none,
-        buffer: cleared,
         wait: w,
         latch: latch,
         restarted: restarted,
     }
 }
 
-fn write_deed(o: Outstation, s: &[u8]) -> Deed
-    ensures { λ r. ⌜ WorkedStill r (writeDeed (world o) (now (s .entry))) ⌝ }
+fn write_deed(restarted: bool, s: &[u8]) -> Deed
+    ensures { λ r. ⌜ WorkedStill r (λ w. writeDeedBy w restarted (now (s .entry))) ⌝ }
 {
-    let x = o.session;
     let fault = application::write_fault(s);
     if is_faultless(fault) {
-        plain_deed(o, fault, false)
+        plain_deed(fault, false)
     } else {
-        plain_deed(o, fault, x.restarted)
+        plain_deed(fault, restarted)
     }
 }
 
@@ -237,7 +270,7 @@ fn is_faultless(f: Fault) -> bool
 }
 
 fn control_deed(
-    o: Outstation,
+    seen: Seen,
     g: ControlFunction,
     q: ApplicationSequence,
     time: u64,
@@ -245,13 +278,10 @@ fn control_deed(
     out: &mut [u8],
 ) -> Deed
     requires { ⌜ 2048 ≤ length (now out) ⌝ }
-    ensures { λ r. ⌜ Worked r (now (out .entry)) (now (out .exit)) (controlDeed (world o) g (q .0) time (now (s .entry))) ⌝ }
+    ensures { λ r. ⌜ WorkedWith r (now (out .entry)) (now (out .exit)) (λ k. controlDeed (seenWorld seen k) g (q .0) time (now (s .entry))) ⌝ }
 {
-    let x = o.session;
-    let latch = x.latch;
-    let c = select::control(latch, o.outputs, o.arm_time, g, q, time, s, out);
-    let b = o.buffer;
-    let cleared = events::clear(b);
+    let latch = seen.latch;
+    let c = select::control(latch, seen.outputs, seen.arm_time, g, q, time, s, out);
     let w = Wait::Idle;
     let fault = c.fault;
     let operated = c.carried;
@@ -261,10 +291,9 @@ fn control_deed(
         con: false,
         size: 4 + c.len,
         operated: operated,
-        buffer: cleared,
         wait: w,
         latch: after,
-        restarted: x.restarted,
+        restarted: seen.restarted,
     }
 }
 
@@ -291,12 +320,18 @@ fn either(a: bool, b: bool) -> bool
 }
 
 // A faultless READ: its objects are in the lent bytes, its events are marked.
-fn read_done(o: Outstation, q: ApplicationSequence, time: u64, b: Buffer, size: usize) -> Deed
-    ensures { λ r. ⌜ ReadDone r (world o) (q .0) time (queue b) size ⌝ }
+fn read_done(
+    q: ApplicationSequence,
+    time: u64,
+    carried: bool,
+    overflow: bool,
+    size: usize,
+    restarted: bool,
+) -> Deed
+    ensures { λ r. ⌜ ReadDone r (q .0) time carried overflow size restarted ⌝ }
 {
-    let con = either(events::any_carried(b), b.overflow);
-    let w = wait_for(con, q, time, b.overflow);
-    let x = o.session;
+    let con = either(carried, overflow);
+    let w = wait_for(con, q, time, overflow);
     let none = control::none();
     let latch = select::empty();
     let fault = Fault::Faultless;
@@ -305,31 +340,28 @@ fn read_done(o: Outstation, q: ApplicationSequence, time: u64, b: Buffer, size: 
         con: con,
         size: size,
         operated: none,
-        buffer: b,
         wait: w,
         latch: latch,
-        restarted: x.restarted,
+        restarted: restarted,
     }
 }
 
-// A READ, of the bytes after control and function.
-fn read_deed(o: Outstation, q: ApplicationSequence, time: u64, s: &[u8], out: &mut [u8]) -> Deed
-    requires { ⌜ 2048 ≤ length (now out) ⌝ }
-    ensures { λ r. ⌜ Worked r (now (out .entry)) (now (out .exit)) (readDeedBy (world o) (q .0) time (readOf (world o .inputs) (now (s .entry)))) ⌝ }
+// A READ by its verdict, from what the reply's events show.
+fn read_deed(
+    v: Verdict,
+    q: ApplicationSequence,
+    time: u64,
+    carried: bool,
+    overflow: bool,
+    size: usize,
+    restarted: bool,
+) -> Deed
+    ensures { λ r. ⌜ ReadAs v r (q .0) time carried overflow size restarted ⌝ }
 {
-    let x = o.session;
-    let p = o.points;
-    let b = o.buffer;
-    let reply = read::respond(out, s, p, b);
-    let plan = reply.plan;
-    let v = plan.verdict;
     match v {
-        Verdict::Faultless => {
-            let held = reply.buffer;
-            read_done(o, q, time, held, reply.size)
-        }
-        Verdict::ObjectUnknown => plain_deed(o, Fault::ObjectUnknown, x.restarted),
-        Verdict::BadParameter => plain_deed(o, Fault::BadParameter, x.restarted),
+        Verdict::Faultless => read_done(q, time, carried, overflow, size, restarted),
+        Verdict::ObjectUnknown => plain_deed(Fault::ObjectUnknown, restarted),
+        Verdict::BadParameter => plain_deed(Fault::BadParameter, restarted),
     }
 }
 
@@ -349,32 +381,25 @@ fn indications_of(b: Buffer, restarted: bool) -> Indications
     }
 }
 
-// What a new request leaves, with what is kept of it.
-fn leave(o: Outstation, time: u64, last: Last, d: Deed) -> Outstation
-    ensures { λ r. ⌜ world r ≡ left (world o) time (lastOf last) (queue (d .buffer)) (d .wait) (latchOf (d .latch)) (d .restarted) ⌝ }
+// What a new request leaves of the session, with what is kept of it.
+fn session_of(d: Deed, last: Last) -> Session
+    ensures { λ r. ⌜ exchangeOf r ≡ record { restarted = d .restarted; wait = d .wait; last = lastOf last; latch = latchOf (d .latch) } ⌝ }
 {
-    let b = d.buffer;
     let w = d.wait;
     let latch = d.latch;
-    let s = Session {
+    Session {
         restarted: d.restarted,
         wait: w,
         last: last,
         latch: latch,
-    };
-    let mut next = o;
-    next.clock = time;
-    next.buffer = b;
-    next.session = s;
-    next
+    }
 }
 
-// Puts the response header in front of the objects.
-fn put_header(out: &mut [u8], q: ApplicationSequence, d: Deed)
+// Puts the response header in front of the objects; b: the events with those carried marked.
+fn put_header(out: &mut [u8], q: ApplicationSequence, d: Deed, b: Buffer)
     requires { ⌜ 4 ≤ length (now out) ⌝ }
-    ensures { λ _. ⌜ now (out .exit) ≡ splice (now (out .entry)) 0 (responseOf (q .0) (d .con) (indicationsOf (queue (d .buffer)) (d .restarted)) (d .fault)) ⌝ }
+    ensures { λ _. ⌜ now (out .exit) ≡ splice (now (out .entry)) 0 (responseOf (q .0) (d .con) (indicationsOf (queue b) (d .restarted)) (d .fault)) ⌝ }
 {
-    let b = d.buffer;
     let i = indications_of(b, d.restarted);
     let fault = d.fault;
     application::put_response(out, q, d.con, i, fault);
@@ -391,22 +416,31 @@ fn answer_read(
     requires { ⌜ (2 ≤ length (now f)) × (length (now f) ≤ 2048) × (2048 ≤ length (now out)) ⌝ }
     ensures { λ r. ⌜ Given r (now (out .entry)) (now (out .exit)) (readStep (world o) (q .0) time (now (f .entry)) (readDeedBy (world o) (q .0) time (readOf (world o .inputs) (objectsOf (now (f .entry)))))) ⌝ }
 {
-    let d = read_deed(o, q, time, &f[2..], out);
-    put_header(out, q, d);
+    let x = o.session;
+    let p = o.points;
+    let b = o.buffer;
+    let reply = read::respond(out, &f[2..], p, b);
+    let plan = reply.plan;
+    let v = plan.verdict;
+    let held = reply.buffer;
+    let carried = events::any_carried(held);
+    let d = read_deed(v, q, time, carried, held.overflow, reply.size, x.restarted);
+    put_header(out, q, d, held);
     let last = repeat::remember(f, &f[..0]);
     let n = d.size;
     let a = FragmentAnswer::Answer(n);
     let none = control::none();
+    let s = session_of(d, last);
     Answered {
         answer: a,
         operated: none,
-        state: leave(o, time, last, d),
+        state: left_with(o, time, held, s),
     }
 }
 
 // What a request other than READ does, by its function, of the bytes after control and function.
 fn deed_of(
-    o: Outstation,
+    seen: Seen,
     q: ApplicationSequence,
     function: u8,
     time: u64,
@@ -414,25 +448,31 @@ fn deed_of(
     out: &mut [u8],
 ) -> Deed
     requires { ⌜ 2048 ≤ length (now out) ⌝ }
-    ensures { λ r. ⌜ Worked r (now (out .entry)) (now (out .exit)) (deedBy (world o) (q .0) function time (now (s .entry))) ⌝ }
+    ensures { λ r. ⌜ WorkedWith r (now (out .entry)) (now (out .exit)) (λ k. deedBy (seenWorld seen k) (q .0) function time (now (s .entry))) ⌝ }
 {
     if function == 2 {
-        return write_deed(o, s);
+        return write_deed(seen.restarted, s);
     }
     if function == 3 {
-        return control_deed(o, ControlFunction::Select, q, time, s, out);
+        return control_deed(seen, ControlFunction::Select, q, time, s, out);
     }
     if function == 4 {
-        return control_deed(o, ControlFunction::Operate, q, time, s, out);
+        return control_deed(seen, ControlFunction::Operate, q, time, s, out);
     }
     if function == 5 {
-        return control_deed(o, ControlFunction::DirectOperate, q, time, s, out);
+        return control_deed(seen, ControlFunction::DirectOperate, q, time, s, out);
     }
     if function == 6 {
-        return control_deed(o, ControlFunction::DirectOperateNoResponse, q, time, s, out);
+        return control_deed(
+            seen,
+            ControlFunction::DirectOperateNoResponse,
+            q,
+            time,
+            s,
+            out,
+        );
     }
-    let x = o.session;
-    plain_deed(o, Fault::FunctionUnknown, x.restarted)
+    plain_deed(Fault::FunctionUnknown, seen.restarted)
 }
 
 // Answers a request other than READ, and keeps it with its answer.
@@ -447,25 +487,37 @@ fn answer_request(
     requires { ⌜ (2 ≤ length (now f)) × (length (now f) ≤ 2048) × (2048 ≤ length (now out)) ⌝ }
     ensures { λ r. ⌜ Given r (now (out .entry)) (now (out .exit)) (requestStep (world o) (q .0) function time (now (f .entry)) (deedBy (world o) (q .0) function time (objectsOf (now (f .entry))))) ⌝ }
 {
-    let d = deed_of(o, q, function, time, &f[2..], out);
+    let x = o.session;
+    let latch = x.latch;
+    let seen = Seen {
+        outputs: o.outputs,
+        arm_time: o.arm_time,
+        restarted: x.restarted,
+        latch: latch,
+    };
+    let d = deed_of(seen, q, function, time, &f[2..], out);
     let operated = d.operated;
+    let held = o.buffer;
+    let b = events::clear(held);
     if function == 6 {
         let last = repeat::remember(f, &f[..0]);
         let a = FragmentAnswer::Silent;
+        let y = session_of(d, last);
         return Answered {
             answer: a,
             operated: operated,
-            state: leave(o, time, last, d),
+            state: left_with(o, time, b, y),
         };
     }
-    put_header(out, q, d);
+    put_header(out, q, d, b);
     let n = d.size;
     let last = repeat::remember(f, &out[..n]);
     let a = FragmentAnswer::Answer(n);
+    let y = session_of(d, last);
     Answered {
         answer: a,
         operated: operated,
-        state: leave(o, time, last, d),
+        state: left_with(o, time, b, y),
     }
 }
 

@@ -6,9 +6,6 @@ use Rattle.octets.proofs.Splice.{splice-nil}
 use Rattle.fragments.proofs.plain_deed.Statement.{statement}
 use Rattle.fragments.proofs.plain_deed.Tie as tie
 
-clear-requires : tie.Need-clear-requires
-clear-requires c κs = search needs
-
 none-requires : tie.Need-none-requires
 none-requires c κs = search needs
 
@@ -17,18 +14,22 @@ empty-requires c κs = search needs
 
 returns : tie.Need-returns
 returns c =
-    λ lent.
+    λ w lent.
     record {
       fault = refl;
       con = refl;
       size = refl;
       lent = sym (splice-nil lent 4);
       operated = c .before .none .ensures .0;
-      queue = c .before .before .clear .ensures;
       wait = refl;
       latch = c .empty .ensures;
       restarted = refl;
     }
 
 pub plain-deed-spec : {M : Type 1} → statement M
-plain-deed-spec = tie.close (tie.spec clear-requires none-requires empty-requires returns)
+plain-deed-spec =
+    tie.close
+    (tie.spec
+    none-requires
+    empty-requires
+    returns)

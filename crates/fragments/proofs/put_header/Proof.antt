@@ -19,10 +19,15 @@ same-length c = search needs
 
 returns : tie.Need-returns
 returns c =
-    let a = c .before .before .before .before .before .before .before .args in
+    let a = c .before .before .before .before .before .before .args in
     c .before .before .put-response .ensures
     ∙ ap (λ (i : Indications). splice (a .out .now) 0 (responseOf (a .q .0) (a .d .con) i (a .d .fault))) (c .before .before .before .before .indications-of .ensures)
 
 pub put-header-spec : {M : Type 1} → statement M
 put-header-spec =
-    tie.close (tie.spec indications-of-requires put-response-requires same-length returns)
+    tie.close
+    (tie.spec
+    indications-of-requires
+    put-response-requires
+    same-length
+    returns)

@@ -2,7 +2,6 @@
 -- Assumes nothing.
 use mathlib.Core.Path.{sym, _∙_}
 use borrow.Author.Needs.{needs}
-use Rattle.outstation.specs.World.{exchangeOf}
 use Rattle.fragments.proofs.write_deed.Statement.{statement}
 use Rattle.fragments.proofs.write_deed.Tie as tie
 
@@ -19,11 +18,10 @@ plain-deed-requires-2 : tie.Need-plain-deed-requires-2
 plain-deed-requires-2 c κs = search needs
 
 returns : tie.Need-returns
-returns c = λ lent. rw (← (c .before .before .before .write-fault .ensures), sym (c .before .before .is-faultless .ensures) ∙ c .before .if1 .taken) (c .plain-deed .ensures lent)
+returns c = λ w lent. rw (← (c .before .before .before .write-fault .ensures), sym (c .before .before .is-faultless .ensures) ∙ c .before .if1 .taken) (c .plain-deed .ensures w lent)
 
 returns-2 : tie.Need-returns-2
-unfolding exchangeOf
-returns-2 c = λ lent. rw (← (c .before .before .before .write-fault .ensures), sym (c .before .before .is-faultless .ensures) ∙ c .before .if1 .left) (c .plain-deed2 .ensures lent)
+returns-2 c = λ w lent. rw (← (c .before .before .before .write-fault .ensures), sym (c .before .before .is-faultless .ensures) ∙ c .before .if1 .left) (c .plain-deed2 .ensures w lent)
 
 pub write-deed-spec : {M : Type 1} → statement M
 write-deed-spec =
