@@ -83,11 +83,11 @@ module _ (o : Outstation) (v : Wait) (q : ℕ) (uns : Bool) (time : ℕ) (r : An
     confirm-good t h = rw (e, t) h
 
 -- the state after an accepted CONFIRM
-pub confirmed-state : (o : Outstation) (s : World) (time : ℕ) (shown since : Bool) (k : Queue) (x : Exchange) → s ≡ leftWith (world o) time k x
+pub confirmed-state : (o : Outstation) (s : World) (time : ℕ) (shown since : Bool) (k : Queue) (x : Exchange) → s ≡ leftWith (world o) time (world o .inputs) k x
     → k ≡ clearing shown since (released (queue (o .buffer))) → x ≡ withWait Idle (exchangeOf (o .session))
     → s ≡ confirmedStep (world o) time shown since .state
 unfolding confirmedStep
-confirmed-state o s time shown since k x leaves waits idles = leaves ∙ ap₂ (leftWith (world o) time) waits idles
+confirmed-state o s time shown since k x leaves waits idles = leaves ∙ ap₂ (leftWith (world o) time (world o .inputs)) waits idles
 
 -- ---- an answer
 
@@ -115,14 +115,14 @@ module _ (q : ℕ) (r : Deed) (b a₁ a₂ : List ℕ) (d : S.Deed) (w : Worked 
 -- ---- what is left
 
 module _ (w s : World) (r : Deed) (b a₁ : List ℕ) (d : S.Deed) (worked : Worked r b a₁ d) (k : Queue) (marked : k ≡ d .queue) (x : Exchange)
-    (time : ℕ) (m : Memory) (f a : List ℕ) (leaves : s ≡ leftWith w time k x)
+    (time : ℕ) (m : Memory) (f a : List ℕ) (leaves : s ≡ leftWith w time (w .inputs) k x)
     (holds : x ≡ record { restarted = r .restarted; wait = r .wait; last = m; latch = latchOf (r .latch) }) (keeps : m ≡ kept f a) where
   left-exchange : x ≡ record { restarted = d .restarted; wait = d .wait; last = kept f a; latch = d .latch }
   left-exchange =
       holds ∙ (λ i. record { restarted = worked .restarted i; wait = worked .wait i; last = keeps i; latch = worked .latch i })
 
   pub left-done : s ≡ done w time f a d
-  left-done = leaves ∙ ap₂ (leftWith w time) marked left-exchange
+  left-done = leaves ∙ ap₂ (leftWith w time (w .inputs)) marked left-exchange
 
 -- ---- a deed's objects
 
@@ -176,7 +176,7 @@ deed-queue w q function time o = go (eqb function 2) (eqb function 3) (eqb funct
 -- ---- the answered request
 
 module _ (o s : Outstation) (q time : ℕ) (f : List ℕ) (r : Deed) (b a₁ : List ℕ) (d : S.Deed) (worked : Worked r b a₁ d) (k : Queue)
-    (marked : k ≡ d .queue) (x : Exchange) (m : Memory) (leaves : world s ≡ leftWith (world o) time k x)
+    (marked : k ≡ d .queue) (x : Exchange) (m : Memory) (leaves : world s ≡ leftWith (world o) time (world o .inputs) k x)
     (holds : x ≡ record { restarted = r .restarted; wait = r .wait; last = m; latch = latchOf (r .latch) }) where
   pub silent-given : (function : ℕ) → eqb function 6 ≡ true → d .objects ≡ [] → m ≡ kept f []
       → Given (record { answer = Fs.Silent; operated = r .operated; state = s }) b a₁ (requestStep (world o) q function time f d)

@@ -11,6 +11,7 @@ use Rattle.application.specs.declared.Fault.the-variants.{Faultless, ObjectUnkn
 use Rattle.control.specs.declared.Crob.{Crob}
 use Rattle.control.specs.Objects.{listOf}
 use Rattle.select.specs.Select.{noSelect, latchOf}
+use Rattle.points.specs.Inputs.{Inputs}
 use Rattle.events.specs.Queue.{Queue}
 use Rattle.application.specs.Fragment.{objectsOf}
 use Rattle.application.specs.Response.{writeFault}
@@ -90,15 +91,15 @@ seenWorld s k =
 abbrev pub writeDeedBy : World → (restarted : Bool) → List ℕ → S.Deed
 writeDeedBy w restarted o = plainDeed w (writeFault o) (cond (isFaultless (writeFault o)) false restarted)
 
--- the state with another clock, events and exchange
-abbrev pub leftWith : World → ℕ → Queue → Exchange → World
-leftWith w time k x =
+-- the state with another clock, inputs, events and exchange
+abbrev pub leftWith : World → ℕ → Inputs → Queue → Exchange → World
+leftWith w time i k x =
     record {
       armTime = w .armTime;
       confirmTime = w .confirmTime;
       outputs = w .outputs;
       clock = time;
-      inputs = w .inputs;
+      inputs = i;
       queue = k;
       exchange = x;
     }

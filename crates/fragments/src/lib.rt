@@ -27,6 +27,7 @@ ghost use Rattle.outstation.specs.Step.{
   indicationsOf,
   clearing,
 };
+ghost use Rattle.points.specs.Inputs.{inputs};
 ghost use Rattle.events.specs.Queue.{queue, released};
 ghost use Rattle.select.specs.Select.{latchOf};
 ghost use Rattle.application.specs.Response.{responseOf};
@@ -52,6 +53,7 @@ use events::Buffer;
 use outstation::Outstation;
 use outstation::Session;
 use outstation::Wait;
+use points::Points;
 use repeat::Last;
 use request::Verdict;
 use select::ControlFunction;
@@ -176,11 +178,10 @@ fn release(b: Buffer, shown: bool, since: bool) -> Buffer
     c
 }
 
-// The state with another clock, buffer and session.
-fn left_with(o: Outstation, time: u64, b: Buffer, s: Session) -> Outstation
-    ensures { λ r. ⌜ world r ≡ leftWith (world o) time (queue b) (exchangeOf s) ⌝ }
+// The state with another clock, buffer and session. The points come along, so that a caller that has them does not copy them again.
+fn left_with(o: Outstation, time: u64, p: Points, b: Buffer, s: Session) -> Outstation
+    ensures { λ r. ⌜ world r ≡ leftWith (world o) time (inputs p) (queue b) (exchangeOf s) ⌝ }
 {
-    let p = o.points;
     Outstation {
         arm_time: o.arm_time,
         confirm_time: o.confirm_time,
@@ -195,6 +196,7 @@ fn left_with(o: Outstation, time: u64, b: Buffer, s: Session) -> Outstation
 fn accept_confirm(o: Outstation, time: u64, shown: bool, since: bool) -> Answered
     ensures { λ r. ⌜ Still r (confirmedStep (world o) time shown since) ⌝ }
 {
+    let p = o.points;
     let b = o.buffer;
     let s = o.session;
     let a = FragmentAnswer::Confirmed;
@@ -202,7 +204,7 @@ fn accept_confirm(o: Outstation, time: u64, shown: bool, since: bool) -> Answere
     Answered {
         answer: a,
         operated: none,
-        state: left_with(o, time, release(b, shown, since), idle_session(s)),
+        state: left_with(o, time, p, release(b, shown, since), idle_session(s)),
     }
 }
 
@@ -434,7 +436,7 @@ fn answer_read(
     Answered {
         answer: a,
         operated: none,
-        state: left_with(o, time, held, s),
+        state: left_with(o, time, p, held, s),
     }
 }
 
@@ -497,6 +499,7 @@ fn answer_request(
     };
     let d = deed_of(seen, q, function, time, &f[2..], out);
     let operated = d.operated;
+    let p = o.points;
     let held = o.buffer;
     let b = events::clear(held);
     if function == 6 {
@@ -506,7 +509,7 @@ fn answer_request(
         return Answered {
             answer: a,
             operated: operated,
-            state: left_with(o, time, b, y),
+            state: left_with(o, time, p, b, y),
         };
     }
     put_header(out, q, d, b);
@@ -517,7 +520,7 @@ fn answer_request(
     Answered {
         answer: a,
         operated: operated,
-        state: left_with(o, time, b, y),
+        state: left_with(o, time, p, b, y),
     }
 }
 

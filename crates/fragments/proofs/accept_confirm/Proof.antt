@@ -22,7 +22,7 @@ left-with-requires c κs = search needs
 returns : tie.Need-returns
 unfolding confirmedStep
 returns c =
-    let a = c .before .before .before .before .before .before .args in
+    let a = c .before .before .before .before .before .before .before .args in
     λ d.
     record {
       state =

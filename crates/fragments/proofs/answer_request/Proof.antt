@@ -50,8 +50,8 @@ same-length c = search needs
 returns : tie.Need-returns
 unfolding exchangeOf
 returns c =
-    let a = c .before .before .before .before .before .before .before .before .before .before .before .before .before .before .before .before .before .args in
-    let dd = c .before .before .before .before .before .before .before .before .before .before .deed-of in
+    let a = c .before .before .before .before .before .before .before .before .before .before .before .before .before .before .before .before .before .before .args in
+    let dd = c .before .before .before .before .before .before .before .before .before .before .before .deed-of in
     let w = world (a .o) in
     let worked : Worked (dd .result) (a .out .now) (dd .last .1 .1 .1 .1 .1 .0) (deedBy w (a .q .0) (a .function) (a .time) (objectsOf (a .f .now))) =
     subst (λ (x : List ℕ). Worked (dd .result) (a .out .now) (dd .last .1 .1 .1 .1 .1 .0) (deedBy w (a .q .0) (a .function) (a .time) x))
@@ -68,37 +68,37 @@ put-header-requires c κs = search needs
 slice-reshare-prefix-remember : tie.Need-slice-reshare-prefix-remember
 unfolding exchangeOf
 slice-reshare-prefix-remember c =
-    let a = c .before .before .before .before .before .before .before .before .before .before .before .before .before .before .before .before .before .args in
-    let dd = c .before .before .before .before .before .before .before .before .before .before .deed-of in
+    let a = c .before .before .before .before .before .before .before .before .before .before .before .before .before .before .before .before .before .before .args in
+    let dd = c .before .before .before .before .before .before .before .before .before .before .before .deed-of in
     let most = objects-most (world (a .o)) (a .q .0) (a .function) (a .time) (take (length (a .f .now) - 2) (drop 2 (a .f .now))) in
     let size = dd .ensures (queue (a .o .buffer)) .size in
     let small : dd .result .size ≤ 113 = omega (arith, most, size) in
     let same : length (c .before .before .put-header .last .0) ≡ length (a .out .now) = search needs in
-    let pre = c .before .before .before .before .before .before .before .before .before .before .before .before .before .before .before .before .before .pre in
+    let pre = c .before .before .before .before .before .before .before .before .before .before .before .before .before .before .before .before .before .before .pre in
     omega (arith, small, same, pre)
 
 slice-aggregate-remember-2 : tie.Need-slice-aggregate-remember-2
 unfolding exchangeOf
 slice-aggregate-remember-2 c =
-    let a = c .before .before .before .before .before .before .before .before .before .before .before .before .before .before .before .before .before .before .args in
-    let dd = c .before .before .before .before .before .before .before .before .before .before .before .deed-of in
+    let a = c .before .before .before .before .before .before .before .before .before .before .before .before .before .before .before .before .before .before .before .args in
+    let dd = c .before .before .before .before .before .before .before .before .before .before .before .before .deed-of in
     let most = objects-most (world (a .o)) (a .q .0) (a .function) (a .time) (take (length (a .f .now) - 2) (drop 2 (a .f .now))) in
     let size = dd .ensures (queue (a .o .buffer)) .size in
     let small : dd .result .size ≤ 113 = omega (arith, most, size) in
     let same : length (c .before .before .before .put-header .last .0) ≡ length (a .out .now) = search needs in
-    let pre = c .before .before .before .before .before .before .before .before .before .before .before .before .before .before .before .before .before .before .pre in
+    let pre = c .before .before .before .before .before .before .before .before .before .before .before .before .before .before .before .before .before .before .before .pre in
     simp length-take (omega (arith, small, same, pre))
 
 remember-requires-2 : tie.Need-remember-requires-2
 unfolding exchangeOf
 remember-requires-2 c κs =
-    let a = c .before .before .before .before .before .before .before .before .before .before .before .before .before .before .before .before .before .before .args in
-    let dd = c .before .before .before .before .before .before .before .before .before .before .before .deed-of in
+    let a = c .before .before .before .before .before .before .before .before .before .before .before .before .before .before .before .before .before .before .before .args in
+    let dd = c .before .before .before .before .before .before .before .before .before .before .before .before .deed-of in
     let most = objects-most (world (a .o)) (a .q .0) (a .function) (a .time) (take (length (a .f .now) - 2) (drop 2 (a .f .now))) in
     let size = dd .ensures (queue (a .o .buffer)) .size in
     let small : dd .result .size ≤ 113 = omega (arith, most, size) in
     let same : length (c .before .before .before .put-header .last .0) ≡ length (a .out .now) = search needs in
-    let pre = c .before .before .before .before .before .before .before .before .before .before .before .before .before .before .before .before .before .before .pre in
+    let pre = c .before .before .before .before .before .before .before .before .before .before .before .before .before .before .before .before .before .before .before .pre in
     (pre .1, simp length-take (omega (arith, small, same, pre)))
 
 session-of-requires-2 : tie.Need-session-of-requires-2
@@ -108,20 +108,20 @@ left-with-requires-2 : tie.Need-left-with-requires-2
 left-with-requires-2 c κs = search needs
 
 same-length-2 : tie.Need-same-length-2
-same-length-2 c = c .before .before .before .before .before .before .put-header .kept .0 ∙ c .before .before .before .before .before .before .before .before .before .before .before .before .before .before .deed-of .kept .1 .1 .1 .1 .1 .0
+same-length-2 c = c .before .before .before .before .before .before .put-header .kept .0 ∙ c .before .before .before .before .before .before .before .before .before .before .before .before .before .before .before .deed-of .kept .1 .1 .1 .1 .1 .0
 
 returns-2 : tie.Need-returns-2
 unfolding exchangeOf
 returns-2 c =
-    let a = c .before .before .before .before .before .before .before .before .before .before .before .before .before .before .before .before .before .before .before .before .before .args in
-    let dd = c .before .before .before .before .before .before .before .before .before .before .before .before .before .before .deed-of in
+    let a = c .before .before .before .before .before .before .before .before .before .before .before .before .before .before .before .before .before .before .before .before .before .before .args in
+    let dd = c .before .before .before .before .before .before .before .before .before .before .before .before .before .before .before .deed-of in
     let w = world (a .o) in
     let worked : Worked (dd .result) (a .out .now) (dd .last .1 .1 .1 .1 .1 .0) (deedBy w (a .q .0) (a .function) (a .time) (objectsOf (a .f .now))) =
     subst (λ (x : List ℕ). Worked (dd .result) (a .out .now) (dd .last .1 .1 .1 .1 .1 .0) (deedBy w (a .q .0) (a .function) (a .time) x))
     (to-end (a .f .now) 2) (dd .ensures (queue (a .o .buffer))) in
     let most = objects-most w (a .q .0) (a .function) (a .time) (objectsOf (a .f .now)) in
     let size = worked .size in
-    let room : dd .result .size ≤ length (a .out .now) = omega (arith, most, size, c .before .before .before .before .before .before .before .before .before .before .before .before .before .before .before .before .before .before .before .before .before .pre) in
+    let room : dd .result .size ≤ length (a .out .now) = omega (arith, most, size, c .before .before .before .before .before .before .before .before .before .before .before .before .before .before .before .before .before .before .before .before .before .before .pre) in
     let left = c .before .before .before .before .before .before .before .before .before .clear .ensures ∙ deed-queue w (a .q .0) (a .function) (a .time) (objectsOf (a .f .now)) in
     request-given (a .o) (c .left-with2 .result) (a .q .0) (a .time) (a .f .now) (dd .result) (a .out .now) _ _ worked _ left _ _ (c .left-with2 .ensures)
     (c .before .session-of2 .ensures) _ (c .before .before .before .before .before .before .put-header .ensures) room (a .function) (ne-eqb _ _ (c .before .before .before .before .before .before .before .before .if1 .left)) (c .before .before .remember2 .ensures)
