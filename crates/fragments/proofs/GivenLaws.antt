@@ -1,6 +1,6 @@
 -- Laws of a fragment's result: the answer put together from a request's deed, what is kept, and what is left.
 -- Assumes nothing.
-use mathlib.Core.Path.{_≡_, refl, sym, ap, ap₂, _∙_}
+use mathlib.Core.Path.{_≡_, refl, sym, ap, ap₂, subst, _∙_}
 use mathlib.Core.Bool.{Bool, true, false, cond, not, _&&_}
 use mathlib.Core.List.{List, []}
 use Prim.Native.Nat.{ℕ, _+_, _≤_}
@@ -11,7 +11,9 @@ use Rattle.octets.specs.Bytes.{splice}
 use Rattle.octets.proofs.Splice.{splice-nil}
 use Rattle.application.specs.declared.Fault.{Fault}
 use Rattle.application.specs.declared.Indications.{Indications}
+use Rattle.application.specs.Fragment.{objectsOf}
 use Rattle.application.specs.Response.{responseOf}
+use Rattle.static_objects.specs.Static.{readOf}
 use Rattle.application.proofs.AnswerLaws.{answer-whole}
 use Rattle.control.specs.declared.Crob.{Crob}
 use Rattle.control.specs.declared.Crobs.{Crobs}
@@ -20,7 +22,7 @@ use Rattle.select.specs.Select.{latchOf}
 use Rattle.select.specs.declared.ControlFunction.{ControlFunction}
 use Rattle.select.specs.declared.ControlFunction.the-variants.{Select, Operate, DirectOperate, DirectOperateNoResponse}
 use Rattle.repeat.specs.declared.Last.{Last}
-use Rattle.repeat.specs.Repeat.{Memory, nothing, kept, lastOf, answerOf}
+use Rattle.repeat.specs.Repeat.{Memory, nothing, kept, lastOf, answerOf, isRepeat}
 use Rattle.repeat.proofs.ReplyLaws.{echo-most, unanswered-echo, answer-taken}
 use Rattle.events.specs.declared.Buffer.{Buffer}
 use Rattle.events.specs.Queue.{Queue, queue, released, cleared}
@@ -35,8 +37,9 @@ use Rattle.outstation.specs.Step as S
 use Rattle.fragments.specs.declared.FragmentAnswer.{FragmentAnswer}
 use Rattle.fragments.specs.declared.FragmentAnswer.the-variants as Fs
 use Rattle.fragments.specs.declared.Answered.{Answered}
+use Rattle.fragments.specs.declared.Confirmation.{Confirmation}
 use Rattle.fragments.specs.declared.Deed.{Deed}
-use Rattle.fragments.specs.Given.{answerBy, Given, Still, Worked, leftWith}
+use Rattle.fragments.specs.Given.{answerBy, Given, Still, Worked, leftWith, readDeedBy, requestBy, confirmBy, Confirms}
 
 pub length-response : (q : ℕ) (con : Bool) (i : Indications) (f : Fault) → length (responseOf q con i f) ≡ 4
 unfolding responseOf
@@ -67,20 +70,27 @@ overflow-stored b c shown since x e h =
       overflow = (h ∙ ap (λ (y : Queue). cond (shown && not since) false (y .overflow)) e) k;
     }
 
-module _ (o : Outstation) (v : Wait) (q : ℕ) (uns : Bool) (time : ℕ) (r : Answered) where
-  pub confirm-idle : v ≡ Idle → Still r (refusal 32 (world o)) → Still r (confirmStep (world o) v q uns time)
+module _ (w : World) (v : Wait) (q : ℕ) (uns : Bool) (time : ℕ) where
+  pub confirm-idle : v ≡ Idle → confirmStep w v q uns time ≡ refusal 32 w
   unfolding confirmStep
-  confirm-idle e h = rw e h
+  confirm-idle e = rw e
 
-  module _ (awaited : ApplicationSequence) (sent : ℕ) (shown since : Bool) (e : v ≡ Awaiting awaited sent shown since) where
-    pub confirm-late : confirmed (o .«confirm_time») q uns time (awaited .0) sent ≡ false → Still r (refusal 32 (world o)) → Still r (confirmStep (world o) v q uns time)
+  module _ (awaited : ApplicationSequence) (sent : ℕ) (shown since : Bool) (e : v ≡ Awaiting awaited sent shown since) (limit : ℕ)
+      (same : w .confirmTime ≡ limit) where
+    pub confirm-late : confirmed limit q uns time (awaited .0) sent ≡ false → confirmStep w v q uns time ≡ refusal 32 w
     unfolding confirmStep
-    confirm-late t h = rw (e, t) h
+    confirm-late t = rw (e, same, t)
 
-    pub confirm-good : confirmed (o .«confirm_time») q uns time (awaited .0) sent ≡ true → Still r (confirmedStep (world o) time shown since)
-        → Still r (confirmStep (world o) v q uns time)
+    pub confirm-good : confirmed limit q uns time (awaited .0) sent ≡ true → confirmStep w v q uns time ≡ confirmedStep w time shown since
     unfolding confirmStep
-    confirm-good t h = rw (e, t) h
+    confirm-good t = rw (e, same, t)
+
+-- the step of a CONFIRM, by what it comes to
+pub confirm-given : (o : Outstation) (r : Answered) (b a : List ℕ) (v : Wait) (q : ℕ) (uns : Bool) (time : ℕ) (x y : Confirmation)
+    → Confirms x (o .«confirm_time») v q uns time → x ≡ y → Given r b a (confirmBy y (world o) time)
+    → Given r b a (confirmStep (world o) v q uns time)
+confirm-given o r b a v q uns time x y is e given =
+    subst (Given r b a) (sym (is (world o) refl ∙ ap (λ (z : Confirmation). confirmBy z (world o) time) e)) given
 
 -- the state after an accepted CONFIRM
 pub confirmed-state : (o : Outstation) (s : World) (time : ℕ) (shown since : Bool) (k : Queue) (x : Exchange) → s ≡ leftWith (world o) time (world o .inputs) k x
@@ -215,6 +225,21 @@ module _ (o s : Outstation) (q time : ℕ) (f : List ℕ) (r : Deed) (b a₁ : L
           lent = answer-lent q r b a₁ a₂ d worked k marked put;
         }
 
+-- ---- a request by its function
+
+module _ (w : World) (q function time : ℕ) (f : List ℕ) (r : Answered) (b a : List ℕ) where
+  pub by-read : eqb function 1 ≡ true → Given r b a (readStep w q time f (readDeedBy w q time (readOf (w .inputs) (objectsOf f))))
+      → Given r b a (requestBy w q function time f)
+  by-read e h = rw e h
+
+  module _ (e : eqb function 1 ≡ false) where
+    pub by-repeat : isRepeat (w .exchange .last) f ≡ true → Given r b a (repeatStep w function time) → Given r b a (requestBy w q function time f)
+    by-repeat t h = rw (e, t) h
+
+    pub by-other : isRepeat (w .exchange .last) f ≡ false → Given r b a (requestStep w q function time f (deedBy w q function time (objectsOf f)))
+        → Given r b a (requestBy w q function time f)
+    by-other t h = rw (e, t) h
+
 -- ---- a repeat
 
 -- the kept answer is at most its array
@@ -227,11 +252,11 @@ kept-short m e = go (m .held)
     go false = omega arith
 
 module _ (o s : Outstation) (function time : ℕ) (none : Crobs) (b : List ℕ) (same : world s ≡ atTime time (world o)) (no : listOf none ≡ []) where
-  pub repeat-silent : eqb function 6 ≡ true → Given (record { answer = Fs.Silent; operated = none; state = s }) b b (repeatStep (world o) function time)
+  repeat-silent : eqb function 6 ≡ true → Given (record { answer = Fs.Silent; operated = none; state = s }) b b (repeatStep (world o) function time)
   unfolding repeatStep
   repeat-silent e = rw e (record { state = same; answer = ap silent no; operated = no; lent = refl })
 
-  pub repeat-given : (a : List ℕ) (n : ℕ) → eqb function 6 ≡ false → a ≡ splice b 0 (answerOf (world o .exchange .last))
+  repeat-given : (a : List ℕ) (n : ℕ) → eqb function 6 ≡ false → a ≡ splice b 0 (answerOf (world o .exchange .last))
       → n ≡ length (answerOf (world o .exchange .last)) → n ≤ length b
       → Given (record { answer = Fs.Answer n; operated = none; state = s }) b a (repeatStep (world o) function time)
   unfolding repeatStep
@@ -243,3 +268,20 @@ module _ (o s : Outstation) (function time : ℕ) (none : Crobs) (b : List ℕ) 
         operated = no;
         lent = put;
       })
+
+  pub repeat-any : (a : List ℕ) (n : ℕ) (is : FragmentAnswer) → a ≡ cond (eqb function 6) b (splice b 0 (answerOf (world o .exchange .last)))
+      → n ≡ cond (eqb function 6) 0 (length (answerOf (world o .exchange .last))) → n ≤ length b
+      → is ≡ cond (eqb function 6) Fs.Silent (Fs.Answer n)
+      → Given (record { answer = is; operated = none; state = s }) b a (repeatStep (world o) function time)
+  repeat-any a n is put size room said = go (eqb function 6) refl put size said
+    where
+      go : (e : Bool) → eqb function 6 ≡ e → a ≡ cond e b (splice b 0 (answerOf (world o .exchange .last)))
+          → n ≡ cond e 0 (length (answerOf (world o .exchange .last))) → is ≡ cond e Fs.Silent (Fs.Answer n)
+          → Given (record { answer = is; operated = none; state = s }) b a (repeatStep (world o) function time)
+      go true e p z t =
+          subst (λ (x : FragmentAnswer). Given (record { answer = x; operated = none; state = s }) b a (repeatStep (world o) function time)) (sym t)
+          (subst (λ (x : List ℕ). Given (record { answer = Fs.Silent; operated = none; state = s }) b x (repeatStep (world o) function time)) (sym p)
+          (repeat-silent e))
+      go false e p z t =
+          subst (λ (x : FragmentAnswer). Given (record { answer = x; operated = none; state = s }) b a (repeatStep (world o) function time)) (sym t)
+          (repeat-given a n e p z room)

@@ -17,16 +17,19 @@ use Rattle.application.specs.Fragment.{objectsOf}
 use Rattle.application.specs.Response.{writeFault}
 use Rattle.repeat.specs.Repeat.{nothing, isRepeat}
 use Rattle.static_objects.specs.Static.{readOf}
+use Rattle.outstation.specs.declared.Wait.{Wait}
 use Rattle.outstation.specs.declared.Wait.the-variants.{Idle, Awaiting}
 use Rattle.request.specs.declared.Verdict.{Verdict}
 use Rattle.request.specs.declared.Verdict.the-variants as Vs
 use Rattle.request.specs.Parse.{Parsed, headers, fault}
 use Rattle.outstation.specs.World.{World, Exchange, world}
-use Rattle.outstation.specs.Step.{Answer, answers, silent, accepts, refuses, handed, lentAfter, Result, readDeed, plainDeed, readFault, isFaultless, readStep, repeatStep, requestStep, deedBy}
+use Rattle.outstation.specs.Step.{Answer, answers, silent, accepts, refuses, handed, lentAfter, Result, readDeed, plainDeed, readFault, isFaultless, readStep, repeatStep, requestStep, deedBy, refusal, confirmedStep, confirmStep}
 use Rattle.outstation.specs.Step as S
 use Rattle.fragments.specs.declared.FragmentAnswer.{FragmentAnswer}
 use Rattle.fragments.specs.declared.FragmentAnswer.the-variants as Fs
 use Rattle.fragments.specs.declared.Answered.{Answered}
+use Rattle.fragments.specs.declared.Confirmation.{Confirmation}
+use Rattle.fragments.specs.declared.Confirmation.the-variants as Cs
 use Rattle.fragments.specs.declared.Deed.{Deed}
 use Rattle.fragments.specs.declared.Seen.{Seen}
 
@@ -124,6 +127,15 @@ abbrev pub ReadAs : Verdict → Deed → ℕ → ℕ → (carried overflow : Boo
 ReadAs Vs.Faultless r q time carried overflow size restarted = ReadDone r q time carried overflow size restarted
 ReadAs Vs.ObjectUnknown r q time carried overflow size restarted = WorkedStill r (λ w. plainDeed w ObjectUnknown restarted)
 ReadAs Vs.BadParameter r q time carried overflow size restarted = WorkedStill r (λ w. plainDeed w BadParameter restarted)
+
+-- what a CONFIRM comes to, as a step
+abbrev pub confirmBy : Confirmation → World → ℕ → Result
+confirmBy Cs.Refused w time = refusal 32 w
+confirmBy (Cs.Accepted shown since) w time = confirmedStep w time shown since
+
+-- the same, told from the confirm time and the awaited confirmation of any state
+abbrev pub Confirms : Confirmation → ℕ → Wait → ℕ → Bool → ℕ → Type 0
+Confirms x confirmTime v q uns time = (w : World) → w .confirmTime ≡ confirmTime → confirmStep w v q uns time ≡ confirmBy x w time
 
 -- a request by its function: a READ, a repeat, or another
 abbrev pub requestBy : World → ℕ → ℕ → ℕ → List ℕ → Result

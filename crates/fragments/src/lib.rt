@@ -3,6 +3,7 @@ ghost use mathlib.Core.Path.{_≡_};
 ghost use mathlib.Core.Bool.{cond, false, _||_, _&&_, not};
 ghost use mathlib.Core.List.{[]};
 ghost use Prim.Native.Nat.{_+_, _-_, _≤_};
+ghost use lib.Dec.{eqb};
 ghost use lib.ListN.{length};
 ghost use Rattle.octets.specs.Bytes.{splice};
 ghost use Rattle.application.specs.Fragment.{objectsOf};
@@ -22,7 +23,6 @@ ghost use Rattle.outstation.specs.Step.{
   requestStep,
   repeatStep,
   confirmedStep,
-  confirmStep,
   isFaultless,
   indicationsOf,
   clearing,
@@ -39,7 +39,7 @@ ghost use Rattle.fragments.specs.Given.{
   ReadDone,
   ReadAs,
   readDeedBy,
-  requestBy,
+  Confirms,
   leftWith,
   seenWorld,
   writeDeedBy,
@@ -82,6 +82,12 @@ pub struct Answered {
     pub answer: FragmentAnswer,
     pub operated: Crobs,
     pub state: Outstation,
+}
+
+// What a CONFIRM comes to; of one that is accepted, whether its response showed IIN2.3 and whether an event was dropped since.
+pub enum Confirmation {
+    Refused,
+    Accepted { shown: bool, since: bool },
 }
 
 // What a request other than READ sees of the state.
@@ -208,23 +214,22 @@ fn accept_confirm(o: Outstation, time: u64, shown: bool, since: bool) -> Answere
     }
 }
 
-fn confirm(o: Outstation, q: ApplicationSequence, uns: bool, time: u64) -> Answered
-    ensures { λ r. ⌜ Still r (confirmStep (world o) (world o .exchange .wait) (q .0) uns time) ⌝ }
+// Whether a CONFIRM is accepted, by the response that awaits it.
+fn confirm(confirm_time: u64, w: Wait, q: ApplicationSequence, uns: bool, time: u64) -> Confirmation
+    ensures { λ r. ⌜ Confirms r «confirm_time» w (q .0) uns time ⌝ }
 {
-    let s = o.session;
-    let w = s.wait;
     match w {
-        Wait::Idle => refuse(o, FragmentAnswer::NotConfirmed),
+        Wait::Idle => Confirmation::Refused,
         Wait::Awaiting {
             sequence,
             time: sent,
             shown,
             since,
         } => {
-            if in_time(o.confirm_time, q, uns, time, sequence, sent) {
-                return accept_confirm(o, time, shown, since);
+            if in_time(confirm_time, q, uns, time, sequence, sent) {
+                return Confirmation::Accepted { shown, since };
             }
-            refuse(o, FragmentAnswer::NotConfirmed)
+            Confirmation::Refused
         }
     }
 }
@@ -535,26 +540,42 @@ fn again(last: Last, out: &mut [u8]) -> usize
     repeat::answer_again(last, out)
 }
 
+// The same for a function: 6 is never answered.
+fn put_again(last: Last, function: u8, out: &mut [u8]) -> usize
+    requires { ⌜ 2048 ≤ length (now out) ⌝ }
+    ensures { λ r. ⌜
+        (now (out .exit) ≡ cond (eqb function 6) (now (out .entry)) (splice (now (out .entry)) 0 (answerOf (lastOf last))))
+        × (r ≡ cond (eqb function 6) 0 (length (answerOf (lastOf last))))
+        × (r ≤ length (now (out .entry))) ⌝ }
+{
+    if function == 6 {
+        return 0;
+    }
+    again(last, out)
+}
+
+fn answer_as(function: u8, n: usize) -> FragmentAnswer
+    ensures { λ r. ⌜ r ≡ cond (eqb function 6) FragmentAnswer.Silent (FragmentAnswer.Answer n) ⌝ }
+{
+    if function == 6 {
+        FragmentAnswer::Silent
+    } else {
+        FragmentAnswer::Answer(n)
+    }
+}
+
 // A repeat: the same answer again, nothing done, only the clock moves.
 fn repeat_request(o: Outstation, function: u8, time: u64, out: &mut [u8]) -> Answered
     requires { ⌜ 2048 ≤ length (now out) ⌝ }
     ensures { λ r. ⌜ Given r (now (out .entry)) (now (out .exit)) (repeatStep (world o) function time) ⌝ }
 {
-    let mut next = o;
-    next.clock = time;
-    let none = control::none();
-    if function == 6 {
-        let a = FragmentAnswer::Silent;
-        return Answered {
-            answer: a,
-            operated: none,
-            state: next,
-        };
-    }
     let s = o.session;
     let last = s.last;
-    let n = again(last, out);
-    let a = FragmentAnswer::Answer(n);
+    let n = put_again(last, function, out);
+    let a = answer_as(function, n);
+    let none = control::none();
+    let mut next = o;
+    next.clock = time;
     Answered {
         answer: a,
         operated: none,
@@ -562,30 +583,8 @@ fn repeat_request(o: Outstation, function: u8, time: u64, out: &mut [u8]) -> Ans
     }
 }
 
-// A request: a READ, a repeat, or another.
-fn request(
-    o: Outstation,
-    q: ApplicationSequence,
-    function: u8,
-    time: u64,
-    f: &[u8],
-    out: &mut [u8],
-) -> Answered
-    requires { ⌜ (2 ≤ length (now f)) × (length (now f) ≤ 2048) × (2048 ≤ length (now out)) ⌝ }
-    ensures { λ r. ⌜ Given r (now (out .entry)) (now (out .exit)) (requestBy (world o) (q .0) function time (now (f .entry))) ⌝ }
-{
-    if function == 1 {
-        return answer_read(o, q, time, f, out);
-    }
-    let s = o.session;
-    let last = s.last;
-    if repeat::repeats(last, f) {
-        return repeat_request(o, function, time, out);
-    }
-    answer_request(o, q, function, time, f, out)
-}
-
-// A fragment from the master, and the lent output for its answer.
+// A fragment from the master, and the lent output for its answer. Each way ends here: a function between that hands on one of several
+// results would copy the whole state once more.
 pub fn fragment(o: Outstation, time: u64, f: &[u8], out: &mut [u8]) -> Answered
     ensures { λ r. ⌜ Given r (now (out .entry)) (now (out .exit)) (step (fragment time (now (f .entry)) (length (now (out .entry)))) (world o)) ⌝ }
 {
@@ -601,7 +600,25 @@ pub fn fragment(o: Outstation, time: u64, f: &[u8], out: &mut [u8]) -> Answered
         Fragment::Confirm {
             sequence,
             unsolicited,
-        } => confirm(o, sequence, unsolicited, time),
-        Fragment::Request { sequence, function } => request(o, sequence, function, time, f, out),
+        } => {
+            let s = o.session;
+            let w = s.wait;
+            let c = confirm(o.confirm_time, w, sequence, unsolicited, time);
+            match c {
+                Confirmation::Refused => refuse(o, FragmentAnswer::NotConfirmed),
+                Confirmation::Accepted { shown, since } => accept_confirm(o, time, shown, since),
+            }
+        }
+        Fragment::Request { sequence, function } => {
+            if function == 1 {
+                return answer_read(o, sequence, time, f, out);
+            }
+            let s = o.session;
+            let last = s.last;
+            if repeat::repeats(last, f) {
+                return repeat_request(o, function, time, out);
+            }
+            answer_request(o, sequence, function, time, f, out)
+        }
     }
 }

@@ -2,11 +2,13 @@
 -- Assumes nothing.
 use mathlib.Core.Path.{refl, sym, _∙_}
 use borrow.Author.Needs.{needs}
-use borrow.Author.Tests.{lt-ltb, le-ltb}
+use borrow.Author.Tests.{eq-eqb, ne-eqb, lt-ltb, le-ltb}
 use lib.ListN.{length}
+use Rattle.outstation.specs.World.{world, exchangeOf}
 use Rattle.fragments.proofs.AskLaws.{request-sized, fragment-late, fragment-small, fragment-malformed, fragment-confirm, fragment-request}
-use Rattle.fragments.proofs.GivenLaws.{refused-given}
+use Rattle.fragments.proofs.GivenLaws.{refused-given, confirm-given, by-read, by-repeat, by-other}
 use Rattle.fragments.specs.declared.FragmentAnswer.the-variants as Fs
+use Rattle.fragments.specs.declared.Confirmation.the-variants as Cs
 use Rattle.fragments.proofs.fragment.Statement.{statement}
 use Rattle.fragments.proofs.fragment.Tie as tie
 
@@ -48,45 +50,117 @@ enum-known-k c = search needs
 confirm-requires : tie.Need-confirm-requires
 confirm-requires c κs = search needs
 
+enum-told-2 : tie.Need-enum-told-2
+enum-told-2 c = search needs
+
+refuse-requires-4 : tie.Need-refuse-requires-4
+refuse-requires-4 c κs = search needs
+
+enum-known-c : tie.Need-enum-known-c
+enum-known-c c = search needs
+
+accept-confirm-requires : tie.Need-accept-confirm-requires
+accept-confirm-requires c κs = search needs
+
 enum-known-k-2 : tie.Need-enum-known-k-2
 enum-known-k-2 c = search needs
 
-request-requires : tie.Need-request-requires
-request-requires c κs =
-    let a = c .before .before .before .before .before .before .before .before .before .before .args in
-    let cl = c .before .before .before .before .classify in
-    let g = c .before .before .k2 .given in
+answer-read-requires : tie.Need-answer-read-requires
+answer-read-requires c κs =
+    let a = c .before .before .before .before .before .before .before .before .before .before .before .args in
+    let cl = c .before .before .before .before .before .classify in
+    let g = c .before .before .before .k2 .given in
     let z = request-sized (a .f .now) (cl .result) (g .0 .0) (g .0 .1 .0) (cl .ensures) (g .1) in
-    (z .0, z .1, c .before .before .before .before .before .if2 .left)
+    (z .0, z .1, c .before .before .before .before .before .before .if2 .left)
+
+same-length : tie.Need-same-length
+same-length c = c .before .before .answer-read .kept .1 .1 .1 .1 .0
 
 returns-3 : tie.Need-returns-3
 returns-3 c =
+    let a = c .before .before .before .before .before .before .before .before .before .before .before .before .before .before .args in
+    let cl = c .before .before .before .before .before .before .before .before .classify in
+    let g = c .before .before .before .before .before .before .k2 .given in
+    fragment-request (a .o) (a .time) (a .f .now) (length (a .out .now)) (c .before .before .answer-read .result) (a .out .now) _
+    (sym (c .before .before .before .before .before .before .before .before .before .before .before .bad-time .ensures) ∙ c .before .before .before .before .before .before .before .before .before .before .if1 .left) (le-ltb _ _ (c .before .before .before .before .before .before .before .before .before .if2 .left)) (cl .result) (cl .ensures) (g .0 .0) (g .0 .1 .0) (g .1)
+    (by-read (world (a .o)) (g .0 .0 .0) (g .0 .1 .0) (a .time) (a .f .now) (c .before .before .answer-read .result) (a .out .now) _ (eq-eqb _ _ (c .before .before .before .before .if3 .taken)) (c .before .before .answer-read .ensures))
+
+repeats-requires : tie.Need-repeats-requires
+repeats-requires c κs =
+    let a = c .before .before .before .before .before .before .before .before .before .before .before .before .args in
+    let cl = c .before .before .before .before .before .before .classify in
+    let g = c .before .before .before .before .k2 .given in
+    let z = request-sized (a .f .now) (cl .result) (g .0 .0) (g .0 .1 .0) (cl .ensures) (g .1) in
+    z .0
+
+repeat-request-requires : tie.Need-repeat-request-requires
+repeat-request-requires c κs = c .before .before .before .before .before .before .before .before .before .before .if2 .left
+
+same-length-2 : tie.Need-same-length-2
+same-length-2 c = c .before .before .repeat-request .kept .1 .1 .1 .0
+
+returns-4 : tie.Need-returns-4
+unfolding exchangeOf
+returns-4 c =
+    let a = c .before .before .before .before .before .before .before .before .before .before .before .before .before .before .before .before .before .before .args in
+    let cl = c .before .before .before .before .before .before .before .before .before .before .before .before .classify in
+    let g = c .before .before .before .before .before .before .before .before .before .before .k2 .given in
+    fragment-request (a .o) (a .time) (a .f .now) (length (a .out .now)) (c .before .before .repeat-request .result) (a .out .now) _
+    (sym (c .before .before .before .before .before .before .before .before .before .before .before .before .before .before .before .bad-time .ensures) ∙ c .before .before .before .before .before .before .before .before .before .before .before .before .before .before .if1 .left) (le-ltb _ _ (c .before .before .before .before .before .before .before .before .before .before .before .before .before .if2 .left)) (cl .result) (cl .ensures) (g .0 .0) (g .0 .1 .0) (g .1)
+    (by-repeat (world (a .o)) (g .0 .0 .0) (g .0 .1 .0) (a .time) (a .f .now) (c .before .before .repeat-request .result) (a .out .now) _ (ne-eqb _ _ (c .before .before .before .before .before .before .before .before .if3 .left)) (sym (c .before .before .before .before .before .repeats .ensures) ∙ c .before .before .before .before .if4 .taken) (c .before .before .repeat-request .ensures))
+
+answer-request-requires : tie.Need-answer-request-requires
+answer-request-requires c κs =
+    let a = c .before .before .before .before .before .before .before .before .before .before .before .before .before .before .before .args in
+    let cl = c .before .before .before .before .before .before .before .before .before .classify in
+    let g = c .before .before .before .before .before .before .before .k2 .given in
+    let z = request-sized (a .f .now) (cl .result) (g .0 .0) (g .0 .1 .0) (cl .ensures) (g .1) in
+    (z .0, z .1, c .before .before .before .before .before .before .before .before .before .before .if2 .left)
+
+returns-5 : tie.Need-returns-5
+returns-5 c =
     let a = c .before .before .before .before .before .before .before .before .before .args in
     let cl = c .before .before .before .classify in
     fragment-malformed (a .o) (a .time) (a .f .now) (length (a .out .now)) (c .refuse3 .result) (a .out .now) (a .out .now)
     (sym (c .before .before .before .before .before .before .bad-time .ensures) ∙ c .before .before .before .before .before .if1 .left) (le-ltb _ _ (c .before .before .before .before .if2 .left)) (cl .result) (cl .ensures) (c .before .enum-told .given .1)
     (refused-given (c .refuse3 .result) (a .o) Fs.Malformed 31 (c .refuse3 .ensures .0) (c .refuse3 .ensures .1) (c .refuse3 .ensures .2) (λ d x. refl) (a .out .now))
 
-returns-4 : tie.Need-returns-4
-returns-4 c =
-    let a = c .before .before .before .before .before .before .before .before .before .before .args in
-    let cl = c .before .before .before .before .classify in
-    let g = c .before .before .k .given in
-    fragment-confirm (a .o) (a .time) (a .f .now) (length (a .out .now)) (c .confirm .result) (a .out .now) (a .out .now)
-    (sym (c .before .before .before .before .before .before .before .bad-time .ensures) ∙ c .before .before .before .before .before .before .if1 .left) (le-ltb _ _ (c .before .before .before .before .before .if2 .left)) (cl .result) (cl .ensures) (g .0 .0) (g .0 .1 .0) (g .1)
-    (c .confirm .ensures (a .out .now))
+returns-6 : tie.Need-returns-6
+unfolding exchangeOf
+returns-6 c =
+    let a = c .before .before .before .before .before .before .before .before .before .before .before .before .before .before .args in
+    let cl = c .before .before .before .before .before .before .before .before .classify in
+    let g = c .before .before .before .before .before .before .k .given in
+    fragment-confirm (a .o) (a .time) (a .f .now) (length (a .out .now)) (c .refuse4 .result) (a .out .now) (a .out .now)
+    (sym (c .before .before .before .before .before .before .before .before .before .before .before .bad-time .ensures) ∙ c .before .before .before .before .before .before .before .before .before .before .if1 .left) (le-ltb _ _ (c .before .before .before .before .before .before .before .before .before .if2 .left)) (cl .result) (cl .ensures) (g .0 .0) (g .0 .1 .0) (g .1)
+    (confirm-given (a .o) (c .refuse4 .result) (a .out .now) (a .out .now) (a .o .session .wait) (g .0 .0 .0) (g .0 .1 .0) (a .time) (c .before .before .before .confirm .result) Cs.Refused
+    (c .before .before .before .confirm .ensures) (c .before .enum-told2 .given .1)
+    (refused-given (c .refuse4 .result) (a .o) Fs.NotConfirmed 32 (c .refuse4 .ensures .0) (c .refuse4 .ensures .1) (c .refuse4 .ensures .2) (λ d x. refl) (a .out .now)))
 
-same-length : tie.Need-same-length
-same-length c = search needs
+returns-7 : tie.Need-returns-7
+unfolding exchangeOf
+returns-7 c =
+    let a = c .before .before .before .before .before .before .before .before .before .before .before .before .before .before .before .args in
+    let cl = c .before .before .before .before .before .before .before .before .before .classify in
+    let g = c .before .before .before .before .before .before .before .k .given in
+    let h = c .before .before .c .given in
+    fragment-confirm (a .o) (a .time) (a .f .now) (length (a .out .now)) (c .accept-confirm .result) (a .out .now) (a .out .now)
+    (sym (c .before .before .before .before .before .before .before .before .before .before .before .before .bad-time .ensures) ∙ c .before .before .before .before .before .before .before .before .before .before .before .if1 .left) (le-ltb _ _ (c .before .before .before .before .before .before .before .before .before .before .if2 .left)) (cl .result) (cl .ensures) (g .0 .0) (g .0 .1 .0) (g .1)
+    (confirm-given (a .o) (c .accept-confirm .result) (a .out .now) (a .out .now) (a .o .session .wait) (g .0 .0 .0) (g .0 .1 .0) (a .time) (c .before .before .before .before .confirm .result)
+    (Cs.Accepted (h .0 .0) (h .0 .1 .0)) (c .before .before .before .before .confirm .ensures) (h .1) (c .accept-confirm .ensures (a .out .now)))
 
-returns-5 : tie.Need-returns-5
-returns-5 c =
-    let a = c .before .before .before .before .before .before .before .before .before .before .before .before .before .args in
-    let cl = c .before .before .before .before .before .before .before .classify in
-    let g = c .before .before .before .before .before .k2 .given in
-    fragment-request (a .o) (a .time) (a .f .now) (length (a .out .now)) (c .before .before .request .result) (a .out .now) _
-    (sym (c .before .before .before .before .before .before .before .before .before .before .bad-time .ensures) ∙ c .before .before .before .before .before .before .before .before .before .if1 .left) (le-ltb _ _ (c .before .before .before .before .before .before .before .before .if2 .left)) (cl .result) (cl .ensures) (g .0 .0) (g .0 .1 .0) (g .1)
-    (c .before .before .request .ensures)
+same-length-3 : tie.Need-same-length-3
+same-length-3 c = c .before .before .answer-request .kept .1 .1 .1 .1 .1 .0
+
+returns-8 : tie.Need-returns-8
+unfolding exchangeOf
+returns-8 c =
+    let a = c .before .before .before .before .before .before .before .before .before .before .before .before .before .before .before .before .before .before .args in
+    let cl = c .before .before .before .before .before .before .before .before .before .before .before .before .classify in
+    let g = c .before .before .before .before .before .before .before .before .before .before .k2 .given in
+    fragment-request (a .o) (a .time) (a .f .now) (length (a .out .now)) (c .before .before .answer-request .result) (a .out .now) _
+    (sym (c .before .before .before .before .before .before .before .before .before .before .before .before .before .before .before .bad-time .ensures) ∙ c .before .before .before .before .before .before .before .before .before .before .before .before .before .before .if1 .left) (le-ltb _ _ (c .before .before .before .before .before .before .before .before .before .before .before .before .before .if2 .left)) (cl .result) (cl .ensures) (g .0 .0) (g .0 .1 .0) (g .1)
+    (by-other (world (a .o)) (g .0 .0 .0) (g .0 .1 .0) (a .time) (a .f .now) (c .before .before .answer-request .result) (a .out .now) _ (ne-eqb _ _ (c .before .before .before .before .before .before .before .before .if3 .left)) (sym (c .before .before .before .before .before .repeats .ensures) ∙ c .before .before .before .before .if4 .left) (c .before .before .answer-request .ensures))
 
 pub fragment-spec : {M : Type 1} → statement M
 fragment-spec =
@@ -102,9 +176,21 @@ fragment-spec =
     refuse-requires-3
     enum-known-k
     confirm-requires
+    enum-told-2
+    refuse-requires-4
+    enum-known-c
+    accept-confirm-requires
     enum-known-k-2
-    request-requires
-    returns-3
-    returns-4
+    answer-read-requires
     same-length
-    returns-5)
+    returns-3
+    repeats-requires
+    repeat-request-requires
+    same-length-2
+    returns-4
+    answer-request-requires
+    returns-5
+    returns-6
+    returns-7
+    same-length-3
+    returns-8)
