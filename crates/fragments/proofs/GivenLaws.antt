@@ -6,6 +6,7 @@ use mathlib.Core.List.{List, []}
 use Prim.Native.Nat.{ℕ, _+_, _≤_}
 use native.Mathlib.Omega.{arith}
 use lib.Dec.{eqb}
+use borrow.Author.Tests.{eqb-true}
 use lib.ListN.{length, take, length-append, length-take}
 use Rattle.octets.specs.Bytes.{splice}
 use Rattle.octets.proofs.Splice.{splice-nil}
@@ -188,7 +189,7 @@ deed-queue w q function time o = go (eqb function 2) (eqb function 3) (eqb funct
 module _ (o s : Outstation) (q time : ℕ) (f : List ℕ) (r : Deed) (b a₁ : List ℕ) (d : S.Deed) (worked : Worked r b a₁ d) (k : Queue)
     (marked : k ≡ d .queue) (x : Exchange) (m : Memory) (leaves : world s ≡ leftWith (world o) time (world o .inputs) k x)
     (holds : x ≡ record { restarted = r .restarted; wait = r .wait; last = m; latch = latchOf (r .latch) }) where
-  pub silent-given : (function : ℕ) → eqb function 6 ≡ true → d .objects ≡ [] → m ≡ kept f []
+  silent-given : (function : ℕ) → eqb function 6 ≡ true → d .objects ≡ [] → m ≡ kept f []
       → Given (record { answer = Fs.Silent; operated = r .operated; state = s }) b a₁ (requestStep (world o) q function time f d)
   unfolding requestStep
   silent-given function e none keeps =
@@ -201,7 +202,7 @@ module _ (o s : Outstation) (q time : ℕ) (f : List ℕ) (r : Deed) (b a₁ : L
       })
 
   module _ (a₂ : List ℕ) (put : a₂ ≡ splice a₁ 0 (responseOf q (r .con) (indicationsOf k (r .restarted)) (r .fault))) (room : r .size ≤ length b) where
-    pub request-given : (function : ℕ) → eqb function 6 ≡ false → m ≡ kept f (take (r .size) a₂)
+    request-given : (function : ℕ) → eqb function 6 ≡ false → m ≡ kept f (take (r .size) a₂)
         → Given (record { answer = Fs.Answer (r .size); operated = r .operated; state = s }) b a₂ (requestStep (world o) q function time f d)
     unfolding requestStep
     request-given function e keeps =
@@ -224,6 +225,30 @@ module _ (o s : Outstation) (q time : ℕ) (f : List ℕ) (r : Deed) (b a₁ : L
           operated = e;
           lent = answer-lent q r b a₁ a₂ d worked k marked put;
         }
+
+  pub request-any : (a₂ : List ℕ) (n : ℕ) (is : FragmentAnswer) (function : ℕ) → (function ≡ 6 → d .objects ≡ [])
+      → a₂ ≡ cond (eqb function 6) a₁ (splice a₁ 0 (responseOf q (r .con) (indicationsOf k (r .restarted)) (r .fault)))
+      → n ≡ cond (eqb function 6) 0 (r .size) → r .size ≤ length b → is ≡ cond (eqb function 6) Fs.Silent (Fs.Answer n) → m ≡ kept f (take n a₂)
+      → Given (record { answer = is; operated = r .operated; state = s }) b a₂ (requestStep (world o) q function time f d)
+  request-any a₂ n is function none put size room said keeps = go (eqb function 6) refl put size said
+    where
+      go : (e : Bool) → eqb function 6 ≡ e
+          → a₂ ≡ cond e a₁ (splice a₁ 0 (responseOf q (r .con) (indicationsOf k (r .restarted)) (r .fault))) → n ≡ cond e 0 (r .size)
+          → is ≡ cond e Fs.Silent (Fs.Answer n)
+          → Given (record { answer = is; operated = r .operated; state = s }) b a₂ (requestStep (world o) q function time f d)
+      go true e p z t =
+          subst (λ (x : FragmentAnswer). Given (record { answer = x; operated = r .operated; state = s }) b a₂ (requestStep (world o) q function time f d)) (sym t)
+          (subst (λ (x : List ℕ). Given (record { answer = Fs.Silent; operated = r .operated; state = s }) b x (requestStep (world o) q function time f d)) (sym p)
+          (silent-given function e (none (eqb-true function 6 e)) (keeps ∙ ap (λ (j : ℕ). kept f (take j a₂)) z)))
+      go false e p z t =
+          subst (λ (x : FragmentAnswer). Given (record { answer = x; operated = r .operated; state = s }) b a₂ (requestStep (world o) q function time f d))
+          (sym (t ∙ ap Fs.Answer z))
+          (request-given a₂ p room function e (keeps ∙ ap (λ (j : ℕ). kept f (take j a₂)) z))
+
+-- an answer that is kept, or none
+pub kept-most : (e : Bool) (n size : ℕ) → n ≡ cond e 0 size → size ≤ 113 → n ≤ 113
+kept-most true n size h m = omega (arith, h)
+kept-most false n size h m = omega (arith, h, m)
 
 -- ---- a request by its function
 

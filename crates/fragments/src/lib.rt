@@ -482,6 +482,31 @@ fn deed_of(
     plain_deed(Fault::FunctionUnknown, seen.restarted)
 }
 
+// Puts the header of a request's answer, and says the answer's length: function 6 is never answered.
+fn put_answer(out: &mut [u8], q: ApplicationSequence, function: u8, d: Deed, b: Buffer) -> usize
+    requires { ⌜ 4 ≤ length (now out) ⌝ }
+    ensures { λ r. ⌜
+        (now (out .exit) ≡ cond (eqb function 6) (now (out .entry))
+        (splice (now (out .entry)) 0 (responseOf (q .0) (d .con) (indicationsOf (queue b) (d .restarted)) (d .fault))))
+        × (r ≡ cond (eqb function 6) 0 (d .size)) ⌝ }
+{
+    if function == 6 {
+        return 0;
+    }
+    put_header(out, q, d, b);
+    d.size
+}
+
+fn answer_as(function: u8, n: usize) -> FragmentAnswer
+    ensures { λ r. ⌜ r ≡ cond (eqb function 6) FragmentAnswer.Silent (FragmentAnswer.Answer n) ⌝ }
+{
+    if function == 6 {
+        FragmentAnswer::Silent
+    } else {
+        FragmentAnswer::Answer(n)
+    }
+}
+
 // Answers a request other than READ, and keeps it with its answer.
 fn answer_request(
     o: Outstation,
@@ -507,21 +532,10 @@ fn answer_request(
     let p = o.points;
     let held = o.buffer;
     let b = events::clear(held);
-    if function == 6 {
-        let last = repeat::remember(f, &f[..0]);
-        let a = FragmentAnswer::Silent;
-        let y = session_of(d, last);
-        return Answered {
-            answer: a,
-            operated: operated,
-            state: left_with(o, time, p, b, y),
-        };
-    }
-    put_header(out, q, d, b);
-    let n = d.size;
+    let n = put_answer(out, q, function, d, b);
     let last = repeat::remember(f, &out[..n]);
-    let a = FragmentAnswer::Answer(n);
     let y = session_of(d, last);
+    let a = answer_as(function, n);
     Answered {
         answer: a,
         operated: operated,
@@ -540,7 +554,7 @@ fn again(last: Last, out: &mut [u8]) -> usize
     repeat::answer_again(last, out)
 }
 
-// The same for a function: 6 is never answered.
+// The same for a request's function.
 fn put_again(last: Last, function: u8, out: &mut [u8]) -> usize
     requires { ⌜ 2048 ≤ length (now out) ⌝ }
     ensures { λ r. ⌜
@@ -552,16 +566,6 @@ fn put_again(last: Last, function: u8, out: &mut [u8]) -> usize
         return 0;
     }
     again(last, out)
-}
-
-fn answer_as(function: u8, n: usize) -> FragmentAnswer
-    ensures { λ r. ⌜ r ≡ cond (eqb function 6) FragmentAnswer.Silent (FragmentAnswer.Answer n) ⌝ }
-{
-    if function == 6 {
-        FragmentAnswer::Silent
-    } else {
-        FragmentAnswer::Answer(n)
-    }
 }
 
 // A repeat: the same answer again, nothing done, only the clock moves.
