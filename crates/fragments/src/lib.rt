@@ -587,8 +587,8 @@ fn repeat_request(o: Outstation, function: u8, time: u64, out: &mut [u8]) -> Ans
     }
 }
 
-// A fragment from the master, and the lent output for its answer. Each way ends here: a function between that hands on one of several
-// results would copy the whole state once more.
+// A fragment from the master, and the lent output for its answer. Each way returns from here: a function or a match between that hands
+// on one of several results copies the whole state once more.
 pub fn fragment(o: Outstation, time: u64, f: &[u8], out: &mut [u8]) -> Answered
     ensures { λ r. ⌜ Given r (now (out .entry)) (now (out .exit)) (step (fragment time (now (f .entry)) (length (now (out .entry)))) (world o)) ⌝ }
 {
@@ -609,8 +609,12 @@ pub fn fragment(o: Outstation, time: u64, f: &[u8], out: &mut [u8]) -> Answered
             let w = s.wait;
             let c = confirm(o.confirm_time, w, sequence, unsolicited, time);
             match c {
-                Confirmation::Refused => refuse(o, FragmentAnswer::NotConfirmed),
-                Confirmation::Accepted { shown, since } => accept_confirm(o, time, shown, since),
+                Confirmation::Refused => {
+                    return refuse(o, FragmentAnswer::NotConfirmed);
+                }
+                Confirmation::Accepted { shown, since } => {
+                    return accept_confirm(o, time, shown, since);
+                }
             }
         }
         Fragment::Request { sequence, function } => {
@@ -622,7 +626,7 @@ pub fn fragment(o: Outstation, time: u64, f: &[u8], out: &mut [u8]) -> Answered
             if repeat::repeats(last, f) {
                 return repeat_request(o, function, time, out);
             }
-            answer_request(o, sequence, function, time, f, out)
+            return answer_request(o, sequence, function, time, f, out);
         }
     }
 }

@@ -56,11 +56,35 @@ enum-told-2 c = search needs
 refuse-requires-4 : tie.Need-refuse-requires-4
 refuse-requires-4 c κs = search needs
 
+returns-3 : tie.Need-returns-3
+unfolding exchangeOf
+returns-3 c =
+    let a = c .before .before .before .before .before .before .before .before .before .before .before .before .before .before .args in
+    let cl = c .before .before .before .before .before .before .before .before .classify in
+    let g = c .before .before .before .before .before .before .k .given in
+    fragment-confirm (a .o) (a .time) (a .f .now) (length (a .out .now)) (c .refuse4 .result) (a .out .now) (a .out .now)
+    (sym (c .before .before .before .before .before .before .before .before .before .before .before .bad-time .ensures) ∙ c .before .before .before .before .before .before .before .before .before .before .if1 .left) (le-ltb _ _ (c .before .before .before .before .before .before .before .before .before .if2 .left)) (cl .result) (cl .ensures) (g .0 .0) (g .0 .1 .0) (g .1)
+    (confirm-given (a .o) (c .refuse4 .result) (a .out .now) (a .out .now) (a .o .session .wait) (g .0 .0 .0) (g .0 .1 .0) (a .time) (c .before .before .before .confirm .result) Cs.Refused
+    (c .before .before .before .confirm .ensures) (c .before .enum-told2 .given .1)
+    (refused-given (c .refuse4 .result) (a .o) Fs.NotConfirmed 32 (c .refuse4 .ensures .0) (c .refuse4 .ensures .1) (c .refuse4 .ensures .2) (λ d x. refl) (a .out .now)))
+
 enum-known-c : tie.Need-enum-known-c
 enum-known-c c = search needs
 
 accept-confirm-requires : tie.Need-accept-confirm-requires
 accept-confirm-requires c κs = search needs
+
+returns-4 : tie.Need-returns-4
+unfolding exchangeOf
+returns-4 c =
+    let a = c .before .before .before .before .before .before .before .before .before .before .before .before .before .before .before .args in
+    let cl = c .before .before .before .before .before .before .before .before .before .classify in
+    let g = c .before .before .before .before .before .before .before .k .given in
+    let h = c .before .before .c .given in
+    fragment-confirm (a .o) (a .time) (a .f .now) (length (a .out .now)) (c .accept-confirm .result) (a .out .now) (a .out .now)
+    (sym (c .before .before .before .before .before .before .before .before .before .before .before .before .bad-time .ensures) ∙ c .before .before .before .before .before .before .before .before .before .before .before .if1 .left) (le-ltb _ _ (c .before .before .before .before .before .before .before .before .before .before .if2 .left)) (cl .result) (cl .ensures) (g .0 .0) (g .0 .1 .0) (g .1)
+    (confirm-given (a .o) (c .accept-confirm .result) (a .out .now) (a .out .now) (a .o .session .wait) (g .0 .0 .0) (g .0 .1 .0) (a .time) (c .before .before .before .before .confirm .result)
+    (Cs.Accepted (h .0 .0) (h .0 .1 .0)) (c .before .before .before .before .confirm .ensures) (h .1) (c .accept-confirm .ensures (a .out .now)))
 
 enum-known-k-2 : tie.Need-enum-known-k-2
 enum-known-k-2 c = search needs
@@ -76,8 +100,8 @@ answer-read-requires c κs =
 same-length : tie.Need-same-length
 same-length c = c .before .before .answer-read .kept .1 .1 .1 .1 .0
 
-returns-3 : tie.Need-returns-3
-returns-3 c =
+returns-5 : tie.Need-returns-5
+returns-5 c =
     let a = c .before .before .before .before .before .before .before .before .before .before .before .before .before .before .args in
     let cl = c .before .before .before .before .before .before .before .before .classify in
     let g = c .before .before .before .before .before .before .k2 .given in
@@ -99,9 +123,9 @@ repeat-request-requires c κs = c .before .before .before .before .before .befor
 same-length-2 : tie.Need-same-length-2
 same-length-2 c = c .before .before .repeat-request .kept .1 .1 .1 .0
 
-returns-4 : tie.Need-returns-4
+returns-6 : tie.Need-returns-6
 unfolding exchangeOf
-returns-4 c =
+returns-6 c =
     let a = c .before .before .before .before .before .before .before .before .before .before .before .before .before .before .before .before .before .before .args in
     let cl = c .before .before .before .before .before .before .before .before .before .before .before .before .classify in
     let g = c .before .before .before .before .before .before .before .before .before .before .k2 .given in
@@ -117,50 +141,26 @@ answer-request-requires c κs =
     let z = request-sized (a .f .now) (cl .result) (g .0 .0) (g .0 .1 .0) (cl .ensures) (g .1) in
     (z .0, z .1, c .before .before .before .before .before .before .before .before .before .before .if2 .left)
 
-returns-5 : tie.Need-returns-5
-returns-5 c =
-    let a = c .before .before .before .before .before .before .before .before .before .args in
-    let cl = c .before .before .before .classify in
-    fragment-malformed (a .o) (a .time) (a .f .now) (length (a .out .now)) (c .refuse3 .result) (a .out .now) (a .out .now)
-    (sym (c .before .before .before .before .before .before .bad-time .ensures) ∙ c .before .before .before .before .before .if1 .left) (le-ltb _ _ (c .before .before .before .before .if2 .left)) (cl .result) (cl .ensures) (c .before .enum-told .given .1)
-    (refused-given (c .refuse3 .result) (a .o) Fs.Malformed 31 (c .refuse3 .ensures .0) (c .refuse3 .ensures .1) (c .refuse3 .ensures .2) (λ d x. refl) (a .out .now))
-
-returns-6 : tie.Need-returns-6
-unfolding exchangeOf
-returns-6 c =
-    let a = c .before .before .before .before .before .before .before .before .before .before .before .before .before .before .args in
-    let cl = c .before .before .before .before .before .before .before .before .classify in
-    let g = c .before .before .before .before .before .before .k .given in
-    fragment-confirm (a .o) (a .time) (a .f .now) (length (a .out .now)) (c .refuse4 .result) (a .out .now) (a .out .now)
-    (sym (c .before .before .before .before .before .before .before .before .before .before .before .bad-time .ensures) ∙ c .before .before .before .before .before .before .before .before .before .before .if1 .left) (le-ltb _ _ (c .before .before .before .before .before .before .before .before .before .if2 .left)) (cl .result) (cl .ensures) (g .0 .0) (g .0 .1 .0) (g .1)
-    (confirm-given (a .o) (c .refuse4 .result) (a .out .now) (a .out .now) (a .o .session .wait) (g .0 .0 .0) (g .0 .1 .0) (a .time) (c .before .before .before .confirm .result) Cs.Refused
-    (c .before .before .before .confirm .ensures) (c .before .enum-told2 .given .1)
-    (refused-given (c .refuse4 .result) (a .o) Fs.NotConfirmed 32 (c .refuse4 .ensures .0) (c .refuse4 .ensures .1) (c .refuse4 .ensures .2) (λ d x. refl) (a .out .now)))
+same-length-3 : tie.Need-same-length-3
+same-length-3 c = c .before .before .answer-request .kept .1 .1 .1 .1 .1 .0
 
 returns-7 : tie.Need-returns-7
 unfolding exchangeOf
 returns-7 c =
-    let a = c .before .before .before .before .before .before .before .before .before .before .before .before .before .before .before .args in
-    let cl = c .before .before .before .before .before .before .before .before .before .classify in
-    let g = c .before .before .before .before .before .before .before .k .given in
-    let h = c .before .before .c .given in
-    fragment-confirm (a .o) (a .time) (a .f .now) (length (a .out .now)) (c .accept-confirm .result) (a .out .now) (a .out .now)
-    (sym (c .before .before .before .before .before .before .before .before .before .before .before .before .bad-time .ensures) ∙ c .before .before .before .before .before .before .before .before .before .before .before .if1 .left) (le-ltb _ _ (c .before .before .before .before .before .before .before .before .before .before .if2 .left)) (cl .result) (cl .ensures) (g .0 .0) (g .0 .1 .0) (g .1)
-    (confirm-given (a .o) (c .accept-confirm .result) (a .out .now) (a .out .now) (a .o .session .wait) (g .0 .0 .0) (g .0 .1 .0) (a .time) (c .before .before .before .before .confirm .result)
-    (Cs.Accepted (h .0 .0) (h .0 .1 .0)) (c .before .before .before .before .confirm .ensures) (h .1) (c .accept-confirm .ensures (a .out .now)))
-
-same-length-3 : tie.Need-same-length-3
-same-length-3 c = c .before .before .answer-request .kept .1 .1 .1 .1 .1 .0
-
-returns-8 : tie.Need-returns-8
-unfolding exchangeOf
-returns-8 c =
     let a = c .before .before .before .before .before .before .before .before .before .before .before .before .before .before .before .before .before .before .args in
     let cl = c .before .before .before .before .before .before .before .before .before .before .before .before .classify in
     let g = c .before .before .before .before .before .before .before .before .before .before .k2 .given in
     fragment-request (a .o) (a .time) (a .f .now) (length (a .out .now)) (c .before .before .answer-request .result) (a .out .now) _
     (sym (c .before .before .before .before .before .before .before .before .before .before .before .before .before .before .before .bad-time .ensures) ∙ c .before .before .before .before .before .before .before .before .before .before .before .before .before .before .if1 .left) (le-ltb _ _ (c .before .before .before .before .before .before .before .before .before .before .before .before .before .if2 .left)) (cl .result) (cl .ensures) (g .0 .0) (g .0 .1 .0) (g .1)
     (by-other (world (a .o)) (g .0 .0 .0) (g .0 .1 .0) (a .time) (a .f .now) (c .before .before .answer-request .result) (a .out .now) _ (ne-eqb _ _ (c .before .before .before .before .before .before .before .before .if3 .left)) (sym (c .before .before .before .before .before .repeats .ensures) ∙ c .before .before .before .before .if4 .left) (c .before .before .answer-request .ensures))
+
+returns-8 : tie.Need-returns-8
+returns-8 c =
+    let a = c .before .before .before .before .before .before .before .before .before .args in
+    let cl = c .before .before .before .classify in
+    fragment-malformed (a .o) (a .time) (a .f .now) (length (a .out .now)) (c .refuse3 .result) (a .out .now) (a .out .now)
+    (sym (c .before .before .before .before .before .before .bad-time .ensures) ∙ c .before .before .before .before .before .if1 .left) (le-ltb _ _ (c .before .before .before .before .if2 .left)) (cl .result) (cl .ensures) (c .before .enum-told .given .1)
+    (refused-given (c .refuse3 .result) (a .o) Fs.Malformed 31 (c .refuse3 .ensures .0) (c .refuse3 .ensures .1) (c .refuse3 .ensures .2) (λ d x. refl) (a .out .now))
 
 pub fragment-spec : {M : Type 1} → statement M
 fragment-spec =
@@ -178,19 +178,19 @@ fragment-spec =
     confirm-requires
     enum-told-2
     refuse-requires-4
+    returns-3
     enum-known-c
     accept-confirm-requires
+    returns-4
     enum-known-k-2
     answer-read-requires
     same-length
-    returns-3
+    returns-5
     repeats-requires
     repeat-request-requires
     same-length-2
-    returns-4
-    answer-request-requires
-    returns-5
     returns-6
-    returns-7
+    answer-request-requires
     same-length-3
+    returns-7
     returns-8)
