@@ -25,7 +25,7 @@
  *  - bytes that a call may write overlap no other bytes lent to it, and no other thread writes bytes lent to a call;
  *  - structs behind pointers (functions at the end) are aligned as C aligns them, and do not overlap each other or lent bytes;
  *  - the stack is deep enough: give the thread POMARISCO_STACK bytes. Measured for one call through the functions at the end, with
- *    their temporaries: reading 54 KB, restart 56 KB, table 60 KB, fragment 142 KB; every call of frames, link and segments
+ *    their temporaries: reading 53 KB, restart 55 KB, table 59 KB, fragment 115 KB; every call of frames, link and segments
  *    under 1 KB (host/measure.c; gcc -O2 and -O0 agree within 0.2 KB). The proofs know of no stack;
  *  - the structs are laid out as here: the assertions below hold this file to the library's layout;
  *  - it keeps setup, image, line record, assembly and sender of one station together, and carries out the objects it is handed.
@@ -68,7 +68,7 @@
 #define POMARISCO_FRAGMENT 2048    /* longest fragment; lend so much for an answer and for an assembly */
 #define POMARISCO_FRAME 292        /* longest frame; lend so much for a frame to be written */
 #define POMARISCO_USER 250         /* longest user data; lend so much for a frame read and a segment written */
-#define POMARISCO_STACK 294912     /* recommended stack, bytes */
+#define POMARISCO_STACK 245760     /* recommended stack, bytes */
 
 /* ---- the outstation's state */
 
