@@ -123,12 +123,6 @@ fn refuse(o: Outstation, a: FragmentAnswer) -> Answered
 
 // ---- CONFIRM
 
-fn elapsed(from: u64, to: u64) -> u64
-    ensures { λ r. ⌜ r ≡ to - from ⌝ }
-{
-    if from < to { to - from } else { 0 }
-}
-
 // Whether a CONFIRM is the one awaited, and in time.
 fn in_time(
     confirm_time: u64,
@@ -144,7 +138,7 @@ fn in_time(
         return false;
     }
     if q.0 == awaited.0 {
-        return elapsed(sent, time) <= confirm_time;
+        return select::elapsed(sent, time) <= confirm_time;
     }
     false
 }

@@ -25,9 +25,12 @@ readingNumber Rs.NoPoint = 2
 readingNumber Rs.NotFinite = 3
 readingNumber Rs.HostFlags = 4
 
--- one reading was taken, or none
+-- one reading with this refusal: it was taken where that is 0
+abbrev pub tookBy : ℕ → Answer
+tookBy n = took (cond (eqb n 0) 1 0) n
+
 abbrev pub tookAnswer : Took → Answer
-tookAnswer t = took (cond (eqb (readingNumber (t .answer)) 0) 1 0) (readingNumber (t .answer))
+tookAnswer t = tookBy (readingNumber (t .answer))
 
 -- 5: "setup breaks a limit above"
 abbrev pub setupNumber : SetupAnswer → ℕ

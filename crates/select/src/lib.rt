@@ -52,8 +52,8 @@ pub struct Controlled {
     pub latch: Latch,
 }
 
-// The time from one to the other.
-fn elapsed(from: u64, to: u64) -> u64
+// The time from one to the other, 0 where the other is earlier.
+pub fn elapsed(from: u64, to: u64) -> u64
     ensures { λ r. ⌜ r ≡ to - from ⌝ }
 {
     if from < to { to - from } else { 0 }
