@@ -8,14 +8,17 @@ use Rattle.outstation.specs.declared.Outstation.{Outstation}
 use Rattle.outstation.specs.declared.ReadingAnswer.{ReadingAnswer}
 use Rattle.outstation.specs.declared.ReadingAnswer.the-variants as Rs
 use Rattle.outstation.specs.declared.Took.{Took}
-use Rattle.outstation.specs.World.{world}
+use Rattle.outstation.specs.World.{world, Counted}
 use Rattle.outstation.specs.declared.SetupAnswer.{SetupAnswer}
 use Rattle.outstation.specs.declared.SetupAnswer.the-variants as Us
 use Rattle.outstation.specs.Step.{Call, Answer, took, Result, step}
 
--- the call c of an outstation o was answered a and left o₁: that is the step of the call
-unfoldable pub Did : Outstation → Call → Answer → Outstation → Type 0
-Did o c a o₁ = _≡_ {A = Result} (record { state = world o₁; answer = a }) (step c (world o))
+-- the call c of an outstation o was answered a and left o₁
+pub record Did (o : Outstation) (c : Call) (a : Answer) (o₁ : Outstation) : Type 0 where
+  -- that is the step of the call
+  pub result : _≡_ {A = Result} (record { state = world o₁; answer = a }) (step c (world o))
+  -- no count passes its array, where none did before
+  pub counted : Counted o → Counted o₁
 
 -- document 01's number of a reading's refusal, 0 where it was taken
 abbrev pub readingNumber : ReadingAnswer → ℕ

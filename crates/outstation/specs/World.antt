@@ -1,8 +1,10 @@
 -- The outstation as its contracts see it: numbers, and lists of what is in use.
 -- Assumes nothing.
-use Prim.Native.Nat.{ℕ}
+use Prim.Native.Nat.{ℕ, _≤_}
 use mathlib.Core.Bool.{Bool, true, false}
 use mathlib.Core.List.{[], map}
+use Rattle.laws.specs.Limits.{pointsMax, eventsMax, fragmentMax}
+use Rattle.control.specs.Objects.{echoMax, answerMax}
 use Rattle.points.specs.Inputs.{Inputs, inputs}
 use lib.ListN.{replicate}
 use Rattle.points.specs.Setup.{freshBinary, freshAnalog}
@@ -49,7 +51,22 @@ world o =
       exchange = exchangeOf (o .session);
     }
 
--- after a restart: IIN1.7 stands, nothing is awaited, kept or selected
+-- ---- no count passes its array: from restart on this holds after every call, so a host that prints the counts may rely on it
+
+pub record SessionCounted (s : Session) : Type 0 where
+  pub request : s .last .«request_len» ≤ fragmentMax
+  pub answer : s .last .«answer_len» ≤ answerMax
+  pub objects : s .latch .len ≤ echoMax
+
+pub record Counted (o : Outstation) : Type 0 where
+  pub binaries : o .points .«binary_count» ≤ pointsMax
+  pub analogs : o .points .«analog_count» ≤ pointsMax
+  pub events : o .buffer .count ≤ eventsMax
+  pub session : SessionCounted (o .session)
+
+-- ---- after a restart
+
+-- IIN1.7 stands, nothing is awaited, kept or selected
 abbrev pub freshExchange : Exchange
 freshExchange = record { restarted = true; wait = Idle; last = nothing; latch = noSelect }
 
