@@ -52,40 +52,40 @@ request-sized f k q function e t = well-sized f (passed-no (F.malformed f) 31 _ 
 -- ---- the step
 
 module _ (o : Outstation) (time : ℕ) (f : List ℕ) (room : ℕ) (r : Answered) (b a : List ℕ) where
-  pub fragment-late : badTime (o .clock) time ≡ true → Given r b a (refusal 1 (world o)) → Given r b a (step (fragment time f room) (world o))
+  pub fragment-late : badTime (o .clock) time ≡ true → Given o r b a (refusal 1 (world o)) → Given o r b a (step (fragment time f room) (world o))
   unfolding step fragmentStep
   fragment-late t h = rw t h
 
-  pub fragment-small : badTime (o .clock) time ≡ false → ltb room fragmentMax ≡ true → Given r b a (refusal 33 (world o))
-      → Given r b a (step (fragment time f room) (world o))
+  pub fragment-small : badTime (o .clock) time ≡ false → ltb room fragmentMax ≡ true → Given o r b a (refusal 33 (world o))
+      → Given o r b a (step (fragment time f room) (world o))
   unfolding step fragmentStep
   fragment-small t s h = rw (t, s) h
 
   module _ (t : badTime (o .clock) time ≡ false) (s : ltb room fragmentMax ≡ false) (k : Fragment) (is : fragmentOf k ≡ classified f) where
-    by-outcome : (x : Outcome Kind) → x ≡ classified f → Given r b a (onAsk (outcomeAsk (world o .inputs) f x) (world o) time f)
-        → Given r b a (step (fragment time f room) (world o))
+    by-outcome : (x : Outcome Kind) → x ≡ classified f → Given o r b a (onAsk (outcomeAsk (world o .inputs) f x) (world o) time f)
+        → Given o r b a (step (fragment time f room) (world o))
     unfolding step fragmentStep ask
     by-outcome x e h =
-        rw (t, s) (subst (λ (y : Outcome Kind). Given r b a (onAsk (outcomeAsk (world o .inputs) f y) (world o) time f)) e h)
+        rw (t, s) (subst (λ (y : Outcome Kind). Given o r b a (onAsk (outcomeAsk (world o .inputs) f y) (world o) time f)) e h)
 
-    pub fragment-malformed : k ≡ Ks.Malformed → Given r b a (refusal 31 (world o)) → Given r b a (step (fragment time f room) (world o))
+    pub fragment-malformed : k ≡ Ks.Malformed → Given o r b a (refusal 31 (world o)) → Given o r b a (step (fragment time f room) (world o))
     fragment-malformed e h = by-outcome (fragmentOf Ks.Malformed) (sym (ap fragmentOf e) ∙ is) h
 
     pub fragment-confirm : (q : ApplicationSequence) (uns : Bool) → k ≡ Ks.Confirm q uns
-        → Given r b a (confirmStep (world o) (world o .exchange .wait) (q .0) uns time) → Given r b a (step (fragment time f room) (world o))
+        → Given o r b a (confirmStep (world o) (world o .exchange .wait) (q .0) uns time) → Given o r b a (step (fragment time f room) (world o))
     fragment-confirm q uns e h = by-outcome (fragmentOf (Ks.Confirm q uns)) (sym (ap fragmentOf e) ∙ is) h
 
     asked-by : (w : World) (q function : ℕ) (c : Bool) (p : Parsed)
-        → Given r b a
+        → Given o r b a
         (cond c (readStep w q time f (readDeedBy w q time p))
         (cond (isRepeat (w .exchange .last) f) (repeatStep w function time) (requestStep w q function time f (deedBy w q function time (objectsOf f)))))
-        → Given r b a (onAsk (cond c (readAsk q p) (asks q function)) w time f)
+        → Given o r b a (onAsk (cond c (readAsk q p) (asks q function)) w time f)
     asked-by w q function true (headers hs) h = h
     asked-by w q function true (fault n) h = h
     asked-by w q function false p h = h
 
     pub fragment-request : (q : ApplicationSequence) (function : ℕ) → k ≡ Ks.Request q function
-        → Given r b a (requestBy (world o) (q .0) function time f) → Given r b a (step (fragment time f room) (world o))
+        → Given o r b a (requestBy (world o) (q .0) function time f) → Given o r b a (step (fragment time f room) (world o))
     fragment-request q function e h =
         by-outcome (fragmentOf (Ks.Request q function)) (sym (ap fragmentOf e) ∙ is)
         (asked-by (world o) (q .0) function (eqb function 1) (readOf (world o .inputs) (objectsOf f)) h)

@@ -43,6 +43,7 @@ module _ (w : World) (q time : ℕ) (r : Deed) (b a : List ℕ) (k : Queue) (car
             ∙ ap (λ (x : Bool). cond x (Awaiting (record { 0 = q }) time (k .overflow) false) Idle) con
             ∙ ap (λ (x : Queue). cond (some isCarried (x .held) || x .overflow) (Awaiting (record { 0 = q }) time (x .overflow) false) Idle) marked;
         latch = done .latch;
+        counted = done .counted;
         restarted = done .restarted;
       }
 

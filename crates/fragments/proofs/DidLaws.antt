@@ -10,7 +10,6 @@ use Rattle.outstation.specs.Contracts.{Did}
 use Rattle.fragments.specs.declared.Answered.{Answered}
 use Rattle.fragments.specs.Given.{fragmentAnswer, Given}
 
-pub given-did : (o : Outstation) (time : ℕ) (f b a : List ℕ) (r : Answered) → Given r b a (step (fragment time f (length b)) (world o))
+pub given-did : (o : Outstation) (time : ℕ) (f b a : List ℕ) (r : Answered) → Given o r b a (step (fragment time f (length b)) (world o))
     → Did o (fragment time f (length b)) (fragmentAnswer r a) (r .state)
-unfolding Did
-given-did o time f b a r g = λ k. record { state = g .state k; answer = g .answer k }
+given-did o time f b a r g = record { result = λ k. record { state = g .state k; answer = g .answer k }; counted = g .counted }

@@ -8,6 +8,7 @@ use native.Mathlib.Omega.{arith}
 use lib.Dec.{eqb}
 use borrow.Author.Tests.{eqb-true}
 use lib.ListN.{length, take, length-append, length-take}
+use Rattle.laws.specs.Limits.{eventsMax, fragmentMax}
 use Rattle.octets.specs.Bytes.{splice}
 use Rattle.octets.proofs.Splice.{splice-nil}
 use Rattle.application.specs.declared.Fault.{Fault}
@@ -18,8 +19,9 @@ use Rattle.static_objects.specs.Static.{readOf}
 use Rattle.application.proofs.AnswerLaws.{answer-whole}
 use Rattle.control.specs.declared.Crob.{Crob}
 use Rattle.control.specs.declared.Crobs.{Crobs}
-use Rattle.control.specs.Objects.{listOf}
+use Rattle.control.specs.Objects.{echoMax, answerMax, listOf, Holding}
 use Rattle.select.specs.Select.{latchOf}
+use Rattle.select.specs.declared.Latch.{Latch}
 use Rattle.select.specs.declared.ControlFunction.{ControlFunction}
 use Rattle.select.specs.declared.ControlFunction.the-variants.{Select, Operate, DirectOperate, DirectOperateNoResponse}
 use Rattle.repeat.specs.declared.Last.{Last}
@@ -28,11 +30,12 @@ use Rattle.repeat.proofs.ReplyLaws.{echo-most, unanswered-echo, answer-taken}
 use Rattle.events.specs.declared.Buffer.{Buffer}
 use Rattle.events.specs.Queue.{Queue, queue, released, cleared}
 use Rattle.outstation.specs.declared.Outstation.{Outstation}
+use Rattle.outstation.specs.declared.Session.{Session}
 use Rattle.outstation.specs.declared.Wait.{Wait}
 use Rattle.outstation.specs.declared.Wait.the-variants.{Idle, Awaiting}
 use Rattle.application.specs.declared.ApplicationSequence.{ApplicationSequence}
 use Rattle.outstation.specs.Requests.{confirmed}
-use Rattle.outstation.specs.World.{World, Exchange, exchangeOf, world}
+use Rattle.outstation.specs.World.{World, Exchange, exchangeOf, world, SessionCounted, Counted}
 use Rattle.outstation.specs.Step.{Answer, answers, silent, refuses, refusal, done, atTime, indicationsOf, indications, responseBytes, controlDeed, deedBy, readStep, requestStep, repeatStep, withWait, clearing, confirmedStep, confirmStep}
 use Rattle.outstation.specs.Step as S
 use Rattle.fragments.specs.declared.FragmentAnswer.{FragmentAnswer}
@@ -40,7 +43,7 @@ use Rattle.fragments.specs.declared.FragmentAnswer.the-variants as Fs
 use Rattle.fragments.specs.declared.Answered.{Answered}
 use Rattle.fragments.specs.declared.Confirmation.{Confirmation}
 use Rattle.fragments.specs.declared.Deed.{Deed}
-use Rattle.fragments.specs.Given.{answerBy, Given, Still, Worked, leftWith, readDeedBy, requestBy, confirmBy, Confirms}
+use Rattle.fragments.specs.Given.{answerBy, sizeBy, Given, Still, Worked, leftWith, readDeedBy, requestBy, confirmBy, Confirms}
 
 pub length-response : (q : ℕ) (con : Bool) (i : Indications) (f : Fault) → length (responseOf q con i f) ≡ 4
 unfolding responseOf
@@ -48,14 +51,16 @@ length-response q con i f = refl
 
 -- ---- a refusal
 
-pub refused-given : (r : Answered) (o : Outstation) (a : FragmentAnswer) (n : ℕ) → r .state ≡ o → r .answer ≡ a → listOf (r .operated) ≡ []
-    → ((d : List ℕ) (x : List Crob) → answerBy a d x ≡ refuses n) → Still r (refusal n (world o))
-refused-given r o a n s e h k d =
+pub refused-given : (r : Answered) (o : Outstation) (a : FragmentAnswer) (n : ℕ) → r .state ≡ o → r .answer ≡ a → Holding (r .operated) []
+    → ((d : List ℕ) (x : List Crob) → answerBy a d x ≡ refuses n) → sizeBy a ≡ 0 → Still o r (refusal n (world o))
+refused-given r o a n s e h k z d =
     record {
       state = ap world s;
       answer = ap (λ (b : FragmentAnswer). answerBy b d (listOf (r .operated))) e ∙ k d (listOf (r .operated));
+      size = ap sizeBy e ∙ z;
       operated = h;
       lent = refl;
+      counted = λ c. subst Counted (sym s) c;
     }
 
 -- ---- a CONFIRM
@@ -88,10 +93,10 @@ module _ (w : World) (v : Wait) (q : ℕ) (uns : Bool) (time : ℕ) where
 
 -- the step of a CONFIRM, by what it comes to
 pub confirm-given : (o : Outstation) (r : Answered) (b a : List ℕ) (v : Wait) (q : ℕ) (uns : Bool) (time : ℕ) (x y : Confirmation)
-    → Confirms x (o .«confirm_time») v q uns time → x ≡ y → Given r b a (confirmBy y (world o) time)
-    → Given r b a (confirmStep (world o) v q uns time)
+    → Confirms x (o .«confirm_time») v q uns time → x ≡ y → Given o r b a (confirmBy y (world o) time)
+    → Given o r b a (confirmStep (world o) v q uns time)
 confirm-given o r b a v q uns time x y is e given =
-    subst (Given r b a) (sym (is (world o) refl ∙ ap (λ (z : Confirmation). confirmBy z (world o) time) e)) given
+    subst (Given o r b a) (sym (is (world o) refl ∙ ap (λ (z : Confirmation). confirmBy z (world o) time) e)) given
 
 -- the state after an accepted CONFIRM
 pub confirmed-state : (o : Outstation) (s : World) (time : ℕ) (shown since : Bool) (k : Queue) (x : Exchange) → s ≡ leftWith (world o) time (world o .inputs) k x
@@ -122,6 +127,22 @@ module _ (q : ℕ) (r : Deed) (b a₁ a₂ : List ℕ) (d : S.Deed) (w : Worked 
 
   pub answer-is : r .size ≤ length b → take (r .size) a₂ ≡ responseBytes q d
   answer-is room = answer-taken b a₂ (responseBytes q d) (r .size) answer-lent answer-size room
+
+-- ---- the counts of what is left: the points are those before, the events so many or fewer, the rest is newly kept or as it was
+
+pub counted-left : (o s : Outstation) (b : Buffer) (x : Session) → s .points ≡ o .points → s .buffer ≡ b → s .session ≡ x
+    → (Counted o → b .count ≤ eventsMax) → (Counted o → SessionCounted x) → Counted o → Counted s
+counted-left o s b x points buffer session events kept c =
+    record {
+      binaries = rw points (c .binaries);
+      analogs = rw points (c .analogs);
+      events = rw buffer (events c);
+      session = rw session (kept c);
+    }
+
+pub counted-kept : (x : Session) (m : Last) (l : Latch) → x .last ≡ m → x .latch ≡ l → m .«request_len» ≤ fragmentMax → m .«answer_len» ≤ answerMax
+    → l .len ≤ echoMax → SessionCounted x
+counted-kept x m l last latch request answer objects = record { request = rw last request; answer = rw last answer; objects = rw latch objects }
 
 -- ---- what is left
 
@@ -188,60 +209,66 @@ deed-queue w q function time o = go (eqb function 2) (eqb function 3) (eqb funct
 
 module _ (o s : Outstation) (q time : ℕ) (f : List ℕ) (r : Deed) (b a₁ : List ℕ) (d : S.Deed) (worked : Worked r b a₁ d) (k : Queue)
     (marked : k ≡ d .queue) (x : Exchange) (m : Memory) (leaves : world s ≡ leftWith (world o) time (world o .inputs) k x)
-    (holds : x ≡ record { restarted = r .restarted; wait = r .wait; last = m; latch = latchOf (r .latch) }) where
+    (holds : x ≡ record { restarted = r .restarted; wait = r .wait; last = m; latch = latchOf (r .latch) }) (counts : Counted o → Counted s) where
   silent-given : (function : ℕ) → eqb function 6 ≡ true → d .objects ≡ [] → m ≡ kept f []
-      → Given (record { answer = Fs.Silent; operated = r .operated; state = s }) b a₁ (requestStep (world o) q function time f d)
+      → Given o (record { answer = Fs.Silent; operated = r .operated; state = s }) b a₁ (requestStep (world o) q function time f d)
   unfolding requestStep
   silent-given function e none keeps =
       rw e
       (record {
         state = left-done (world o) (world s) r b a₁ d worked k marked x time m f [] leaves holds keeps;
-        answer = ap silent (worked .operated);
+        answer = ap silent (worked .operated .objects);
+        size = refl;
         operated = worked .operated;
         lent = worked .lent ∙ ap (splice b 4) none ∙ splice-nil b 4;
+        counted = counts;
       })
 
   module _ (a₂ : List ℕ) (put : a₂ ≡ splice a₁ 0 (responseOf q (r .con) (indicationsOf k (r .restarted)) (r .fault))) (room : r .size ≤ length b) where
     request-given : (function : ℕ) → eqb function 6 ≡ false → m ≡ kept f (take (r .size) a₂)
-        → Given (record { answer = Fs.Answer (r .size); operated = r .operated; state = s }) b a₂ (requestStep (world o) q function time f d)
+        → Given o (record { answer = Fs.Answer (r .size); operated = r .operated; state = s }) b a₂ (requestStep (world o) q function time f d)
     unfolding requestStep
     request-given function e keeps =
         let bytes : take (r .size) a₂ ≡ responseBytes q d = answer-is q r b a₁ a₂ d worked k marked put room in
         rw e
         (record {
           state = left-done (world o) (world s) r b a₁ d worked k marked x time m f (responseBytes q d) leaves holds (keeps ∙ ap (kept f) bytes);
-          answer = ap₂ answers bytes (worked .operated);
+          answer = ap₂ answers bytes (worked .operated .objects);
+          size = answer-size q r b a₁ a₂ d worked k marked put;
           operated = worked .operated;
           lent = answer-lent q r b a₁ a₂ d worked k marked put;
+          counted = counts;
         })
 
-    pub read-given : (none : Crobs) → listOf none ≡ [] → m ≡ kept f []
-        → Given (record { answer = Fs.Answer (r .size); operated = none; state = s }) b a₂ (readStep (world o) q time f d)
+    pub read-given : (none : Crobs) → Holding none [] → m ≡ kept f []
+        → Given o (record { answer = Fs.Answer (r .size); operated = none; state = s }) b a₂ (readStep (world o) q time f d)
     unfolding readStep
     read-given none e keeps =
         record {
           state = left-done (world o) (world s) r b a₁ d worked k marked x time m f [] leaves holds keeps;
-          answer = ap₂ answers (answer-is q r b a₁ a₂ d worked k marked put room) e;
+          answer = ap₂ answers (answer-is q r b a₁ a₂ d worked k marked put room) (e .objects);
+          size = answer-size q r b a₁ a₂ d worked k marked put;
           operated = e;
           lent = answer-lent q r b a₁ a₂ d worked k marked put;
+          counted = counts;
         }
 
   pub request-any : (a₂ : List ℕ) (n : ℕ) (is : FragmentAnswer) (function : ℕ) → (function ≡ 6 → d .objects ≡ [])
       → a₂ ≡ cond (eqb function 6) a₁ (splice a₁ 0 (responseOf q (r .con) (indicationsOf k (r .restarted)) (r .fault)))
       → n ≡ cond (eqb function 6) 0 (r .size) → r .size ≤ length b → is ≡ cond (eqb function 6) Fs.Silent (Fs.Answer n) → m ≡ kept f (take n a₂)
-      → Given (record { answer = is; operated = r .operated; state = s }) b a₂ (requestStep (world o) q function time f d)
+      → Given o (record { answer = is; operated = r .operated; state = s }) b a₂ (requestStep (world o) q function time f d)
   request-any a₂ n is function none put size room said keeps = go (eqb function 6) refl put size said
     where
       go : (e : Bool) → eqb function 6 ≡ e
           → a₂ ≡ cond e a₁ (splice a₁ 0 (responseOf q (r .con) (indicationsOf k (r .restarted)) (r .fault))) → n ≡ cond e 0 (r .size)
           → is ≡ cond e Fs.Silent (Fs.Answer n)
-          → Given (record { answer = is; operated = r .operated; state = s }) b a₂ (requestStep (world o) q function time f d)
+          → Given o (record { answer = is; operated = r .operated; state = s }) b a₂ (requestStep (world o) q function time f d)
       go true e p z t =
-          subst (λ (x : FragmentAnswer). Given (record { answer = x; operated = r .operated; state = s }) b a₂ (requestStep (world o) q function time f d)) (sym t)
-          (subst (λ (x : List ℕ). Given (record { answer = Fs.Silent; operated = r .operated; state = s }) b x (requestStep (world o) q function time f d)) (sym p)
+          subst (λ (x : FragmentAnswer). Given o (record { answer = x; operated = r .operated; state = s }) b a₂ (requestStep (world o) q function time f d)) (sym t)
+          (subst (λ (x : List ℕ). Given o (record { answer = Fs.Silent; operated = r .operated; state = s }) b x (requestStep (world o) q function time f d)) (sym p)
           (silent-given function e (none (eqb-true function 6 e)) (keeps ∙ ap (λ (j : ℕ). kept f (take j a₂)) z)))
       go false e p z t =
-          subst (λ (x : FragmentAnswer). Given (record { answer = x; operated = r .operated; state = s }) b a₂ (requestStep (world o) q function time f d))
+          subst (λ (x : FragmentAnswer). Given o (record { answer = x; operated = r .operated; state = s }) b a₂ (requestStep (world o) q function time f d))
           (sym (t ∙ ap Fs.Answer z))
           (request-given a₂ p room function e (keeps ∙ ap (λ (j : ℕ). kept f (take j a₂)) z))
 
@@ -252,17 +279,17 @@ kept-most false n size h m = omega (arith, h, m)
 
 -- ---- a request by its function
 
-module _ (w : World) (q function time : ℕ) (f : List ℕ) (r : Answered) (b a : List ℕ) where
-  pub by-read : eqb function 1 ≡ true → Given r b a (readStep w q time f (readDeedBy w q time (readOf (w .inputs) (objectsOf f))))
-      → Given r b a (requestBy w q function time f)
+module _ (o : Outstation) (w : World) (q function time : ℕ) (f : List ℕ) (r : Answered) (b a : List ℕ) where
+  pub by-read : eqb function 1 ≡ true → Given o r b a (readStep w q time f (readDeedBy w q time (readOf (w .inputs) (objectsOf f))))
+      → Given o r b a (requestBy w q function time f)
   by-read e h = rw e h
 
   module _ (e : eqb function 1 ≡ false) where
-    pub by-repeat : isRepeat (w .exchange .last) f ≡ true → Given r b a (repeatStep w function time) → Given r b a (requestBy w q function time f)
+    pub by-repeat : isRepeat (w .exchange .last) f ≡ true → Given o r b a (repeatStep w function time) → Given o r b a (requestBy w q function time f)
     by-repeat t h = rw (e, t) h
 
-    pub by-other : isRepeat (w .exchange .last) f ≡ false → Given r b a (requestStep w q function time f (deedBy w q function time (objectsOf f)))
-        → Given r b a (requestBy w q function time f)
+    pub by-other : isRepeat (w .exchange .last) f ≡ false → Given o r b a (requestStep w q function time f (deedBy w q function time (objectsOf f)))
+        → Given o r b a (requestBy w q function time f)
     by-other t h = rw (e, t) h
 
 -- ---- a repeat
@@ -276,37 +303,40 @@ kept-short m e = go (m .held)
     go true = simp length-take (omega arith)
     go false = omega arith
 
-module _ (o s : Outstation) (function time : ℕ) (none : Crobs) (b : List ℕ) (same : world s ≡ atTime time (world o)) (no : listOf none ≡ []) where
-  repeat-silent : eqb function 6 ≡ true → Given (record { answer = Fs.Silent; operated = none; state = s }) b b (repeatStep (world o) function time)
+module _ (o s : Outstation) (function time : ℕ) (none : Crobs) (b : List ℕ) (same : world s ≡ atTime time (world o)) (no : Holding none [])
+    (counts : Counted o → Counted s) where
+  repeat-silent : eqb function 6 ≡ true → Given o (record { answer = Fs.Silent; operated = none; state = s }) b b (repeatStep (world o) function time)
   unfolding repeatStep
-  repeat-silent e = rw e (record { state = same; answer = ap silent no; operated = no; lent = refl })
+  repeat-silent e = rw e (record { state = same; answer = ap silent (no .objects); size = refl; operated = no; lent = refl; counted = counts })
 
   repeat-given : (a : List ℕ) (n : ℕ) → eqb function 6 ≡ false → a ≡ splice b 0 (answerOf (world o .exchange .last))
       → n ≡ length (answerOf (world o .exchange .last)) → n ≤ length b
-      → Given (record { answer = Fs.Answer n; operated = none; state = s }) b a (repeatStep (world o) function time)
+      → Given o (record { answer = Fs.Answer n; operated = none; state = s }) b a (repeatStep (world o) function time)
   unfolding repeatStep
   repeat-given a n e put size room =
       rw e
       (record {
         state = same;
-        answer = ap₂ answers (answer-taken b a (answerOf (world o .exchange .last)) n put size room) no;
+        answer = ap₂ answers (answer-taken b a (answerOf (world o .exchange .last)) n put size room) (no .objects);
+        size = size;
         operated = no;
         lent = put;
+        counted = counts;
       })
 
   pub repeat-any : (a : List ℕ) (n : ℕ) (is : FragmentAnswer) → a ≡ cond (eqb function 6) b (splice b 0 (answerOf (world o .exchange .last)))
       → n ≡ cond (eqb function 6) 0 (length (answerOf (world o .exchange .last))) → n ≤ length b
       → is ≡ cond (eqb function 6) Fs.Silent (Fs.Answer n)
-      → Given (record { answer = is; operated = none; state = s }) b a (repeatStep (world o) function time)
+      → Given o (record { answer = is; operated = none; state = s }) b a (repeatStep (world o) function time)
   repeat-any a n is put size room said = go (eqb function 6) refl put size said
     where
       go : (e : Bool) → eqb function 6 ≡ e → a ≡ cond e b (splice b 0 (answerOf (world o .exchange .last)))
           → n ≡ cond e 0 (length (answerOf (world o .exchange .last))) → is ≡ cond e Fs.Silent (Fs.Answer n)
-          → Given (record { answer = is; operated = none; state = s }) b a (repeatStep (world o) function time)
+          → Given o (record { answer = is; operated = none; state = s }) b a (repeatStep (world o) function time)
       go true e p z t =
-          subst (λ (x : FragmentAnswer). Given (record { answer = x; operated = none; state = s }) b a (repeatStep (world o) function time)) (sym t)
-          (subst (λ (x : List ℕ). Given (record { answer = Fs.Silent; operated = none; state = s }) b x (repeatStep (world o) function time)) (sym p)
+          subst (λ (x : FragmentAnswer). Given o (record { answer = x; operated = none; state = s }) b a (repeatStep (world o) function time)) (sym t)
+          (subst (λ (x : List ℕ). Given o (record { answer = Fs.Silent; operated = none; state = s }) b x (repeatStep (world o) function time)) (sym p)
           (repeat-silent e))
       go false e p z t =
-          subst (λ (x : FragmentAnswer). Given (record { answer = x; operated = none; state = s }) b a (repeatStep (world o) function time)) (sym t)
+          subst (λ (x : FragmentAnswer). Given o (record { answer = x; operated = none; state = s }) b a (repeatStep (world o) function time)) (sym t)
           (repeat-given a n e p z room)

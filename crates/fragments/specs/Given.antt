@@ -1,6 +1,6 @@
 -- What a fragment's result stands for, and what the functions on the way to it give.
 -- Assumes nothing.
-use Prim.Native.Nat.{ℕ, _+_}
+use Prim.Native.Nat.{ℕ, _+_, _≤_}
 use mathlib.Core.Path.{_≡_}
 use mathlib.Core.Bool.{Bool, false, cond, _||_}
 use mathlib.Core.List.{List, []}
@@ -9,7 +9,7 @@ use lib.ListN.{length, take}
 use Rattle.octets.specs.Bytes.{splice}
 use Rattle.application.specs.declared.Fault.the-variants.{Faultless, ObjectUnknown, BadParameter}
 use Rattle.control.specs.declared.Crob.{Crob}
-use Rattle.control.specs.Objects.{listOf}
+use Rattle.control.specs.Objects.{echoMax, listOf, Holding}
 use Rattle.select.specs.Select.{noSelect, latchOf}
 use Rattle.points.specs.Inputs.{Inputs}
 use Rattle.events.specs.Queue.{Queue}
@@ -22,8 +22,9 @@ use Rattle.outstation.specs.declared.Wait.the-variants.{Idle, Awaiting}
 use Rattle.request.specs.declared.Verdict.{Verdict}
 use Rattle.request.specs.declared.Verdict.the-variants as Vs
 use Rattle.request.specs.Parse.{Parsed, headers, fault}
-use Rattle.outstation.specs.World.{World, Exchange, world}
-use Rattle.outstation.specs.Step.{Answer, answers, silent, accepts, refuses, handed, lentAfter, Result, readDeed, plainDeed, readFault, isFaultless, readStep, repeatStep, requestStep, deedBy, refusal, confirmedStep, confirmStep}
+use Rattle.outstation.specs.declared.Outstation.{Outstation}
+use Rattle.outstation.specs.World.{World, Exchange, world, Counted}
+use Rattle.outstation.specs.Step.{Answer, took, answers, silent, accepts, refuses, handed, lentAfter, Result, readDeed, plainDeed, readFault, isFaultless, readStep, repeatStep, requestStep, deedBy, refusal, confirmedStep, confirmStep}
 use Rattle.outstation.specs.Step as S
 use Rattle.fragments.specs.declared.FragmentAnswer.{FragmentAnswer}
 use Rattle.fragments.specs.declared.FragmentAnswer.the-variants as Fs
@@ -46,17 +47,36 @@ answerBy Fs.AnswerLent d operated = refuses 33
 abbrev pub fragmentAnswer : Answered → List ℕ → Answer
 fragmentAnswer r d = answerBy (r .answer) d (listOf (r .operated))
 
--- the result r of a call that had these lent bytes before and after is this step's: new state, answer, objects handed to the host,
--- each lent byte
-pub record Given (r : Answered) (before after : List ℕ) (x : Result) : Type 0 where
+-- how many bytes the result says that it is answered with, and how many the step's answer has
+abbrev pub sizeBy : FragmentAnswer → ℕ
+sizeBy (Fs.Answer n) = n
+sizeBy Fs.Silent = 0
+sizeBy Fs.Confirmed = 0
+sizeBy Fs.Time = 0
+sizeBy Fs.Malformed = 0
+sizeBy Fs.NotConfirmed = 0
+sizeBy Fs.AnswerLent = 0
+
+abbrev pub sizeIn : Answer → ℕ
+sizeIn (took taken n) = 0
+sizeIn (answers bytes operated) = length bytes
+sizeIn (silent operated) = 0
+sizeIn accepts = 0
+sizeIn (refuses n) = 0
+
+-- the result r of a call on o that had these lent bytes before and after is this step's: new state, answer, its length, objects
+-- handed to the host, each lent byte; and no count of the state passes its array, where none did before
+pub record Given (o : Outstation) (r : Answered) (before after : List ℕ) (x : Result) : Type 0 where
   pub state : world (r .state) ≡ x .state
   pub answer : fragmentAnswer r after ≡ x .answer
-  pub operated : listOf (r .operated) ≡ handed (x .answer)
+  pub size : sizeBy (r .answer) ≡ sizeIn (x .answer)
+  pub operated : Holding (r .operated) (handed (x .answer))
   pub lent : after ≡ lentAfter before (x .answer)
+  pub counted : Counted o → Counted (r .state)
 
 -- the same, of a function that is lent nothing
-abbrev pub Still : Answered → Result → Type 0
-Still r x = (d : List ℕ) → Given r d d x
+abbrev pub Still : Outstation → Answered → Result → Type 0
+Still o r x = (d : List ℕ) → Given o r d d x
 
 -- what a request does beside the events, worked by the code: the objects of its answer are in the lent bytes from 4 on, up to `size`
 pub record Worked (r : Deed) (before after : List ℕ) (d : S.Deed) : Type 0 where
@@ -64,9 +84,10 @@ pub record Worked (r : Deed) (before after : List ℕ) (d : S.Deed) : Type 0 whe
   pub con : r .con ≡ d .con
   pub size : r .size ≡ 4 + length (d .objects)
   pub lent : after ≡ splice before 4 (d .objects)
-  pub operated : listOf (r .operated) ≡ d .operated
+  pub operated : Holding (r .operated) (d .operated)
   pub wait : r .wait ≡ d .wait
   pub latch : latchOf (r .latch) ≡ d .latch
+  pub counted : r .latch .len ≤ echoMax
   pub restarted : r .restarted ≡ d .restarted
 
 -- the same, whatever events are held
@@ -117,9 +138,10 @@ pub record ReadDone (r : Deed) (q time : ℕ) (carried overflow : Bool) (size : 
   pub fault : r .fault ≡ Faultless
   pub con : r .con ≡ (carried || overflow)
   pub sized : r .size ≡ size
-  pub operated : listOf (r .operated) ≡ []
+  pub operated : Holding (r .operated) []
   pub wait : r .wait ≡ cond (carried || overflow) (Awaiting (record { 0 = q }) time overflow false) Idle
   pub latch : latchOf (r .latch) ≡ noSelect
+  pub counted : r .latch .len ≤ echoMax
   pub restarted : r .restarted ≡ before
 
 -- a READ's deed, by its verdict

@@ -8,7 +8,7 @@ ghost use lib.ListN.{length};
 ghost use Rattle.octets.specs.Bytes.{splice};
 ghost use Rattle.application.specs.Fragment.{objectsOf};
 ghost use Rattle.repeat.specs.Repeat.{lastOf, answerOf};
-ghost use Rattle.control.specs.Objects.{listOf};
+ghost use Rattle.control.specs.Objects.{Holding};
 ghost use Rattle.static_objects.specs.Static.{readOf};
 ghost use Rattle.outstation.specs.World.{world, exchangeOf};
 ghost use Rattle.outstation.specs.Requests.{confirmed};
@@ -27,6 +27,7 @@ ghost use Rattle.outstation.specs.Step.{
   indicationsOf,
   clearing,
 };
+ghost use Rattle.laws.specs.Limits.{eventsMax};
 ghost use Rattle.points.specs.Inputs.{inputs};
 ghost use Rattle.events.specs.Queue.{queue, released};
 ghost use Rattle.select.specs.Select.{latchOf};
@@ -111,7 +112,7 @@ pub struct Deed {
 
 // A refused fragment leaves everything as it was.
 fn refuse(o: Outstation, a: FragmentAnswer) -> Answered
-    ensures { λ r. ⌜ (r .state ≡ o) × (r .answer ≡ a) × (listOf (r .operated) ≡ []) ⌝ }
+    ensures { λ r. ⌜ (r .state ≡ o) × (r .answer ≡ a) × Holding (r .operated) [] ⌝ }
 {
     let none = control::none();
     Answered {
@@ -156,7 +157,7 @@ fn still_dropped(shown: bool, since: bool, overflow: bool) -> bool
 
 // Nothing is awaited any more.
 fn idle_session(s: Session) -> Session
-    ensures { λ r. ⌜ exchangeOf r ≡ withWait Wait.Idle (exchangeOf s) ⌝ }
+    ensures { λ r. ⌜ (exchangeOf r ≡ withWait Wait.Idle (exchangeOf s)) × (r .last ≡ s .last) × (r .latch ≡ s .latch) ⌝ }
 {
     let w = Wait::Idle;
     let last = s.last;
@@ -171,7 +172,7 @@ fn idle_session(s: Session) -> Session
 
 // The events that wait after an accepted CONFIRM, and IIN2.3.
 fn release(b: Buffer, shown: bool, since: bool) -> Buffer
-    ensures { λ r. ⌜ queue r ≡ clearing shown since (released (queue b)) ⌝ }
+    ensures { λ r. ⌜ (queue r ≡ clearing shown since (released (queue b))) × (r .count ≤ eventsMax) ⌝ }
 {
     let mut c = events::release(b);
     c.overflow = still_dropped(shown, since, c.overflow);
@@ -180,7 +181,8 @@ fn release(b: Buffer, shown: bool, since: bool) -> Buffer
 
 // The state with another clock, buffer and session. The points come along, so that a caller that has them does not copy them again.
 fn left_with(o: Outstation, time: u64, p: Points, b: Buffer, s: Session) -> Outstation
-    ensures { λ r. ⌜ world r ≡ leftWith (world o) time (inputs p) (queue b) (exchangeOf s) ⌝ }
+    ensures { λ r. ⌜
+        (world r ≡ leftWith (world o) time (inputs p) (queue b) (exchangeOf s)) × (r .points ≡ p) × (r .buffer ≡ b) × (r .session ≡ s) ⌝ }
 {
     Outstation {
         arm_time: o.arm_time,
@@ -194,7 +196,7 @@ fn left_with(o: Outstation, time: u64, p: Points, b: Buffer, s: Session) -> Outs
 }
 
 fn accept_confirm(o: Outstation, time: u64, shown: bool, since: bool) -> Answered
-    ensures { λ r. ⌜ Still r (confirmedStep (world o) time shown since) ⌝ }
+    ensures { λ r. ⌜ Still o r (confirmedStep (world o) time shown since) ⌝ }
 {
     let p = o.points;
     let b = o.buffer;
@@ -384,7 +386,9 @@ fn indications_of(b: Buffer, restarted: bool) -> Indications
 
 // What a new request leaves of the session, with what is kept of it.
 fn session_of(d: Deed, last: Last) -> Session
-    ensures { λ r. ⌜ exchangeOf r ≡ record { restarted = d .restarted; wait = d .wait; last = lastOf last; latch = latchOf (d .latch) } ⌝ }
+    ensures { λ r. ⌜
+        (exchangeOf r ≡ record { restarted = d .restarted; wait = d .wait; last = lastOf last; latch = latchOf (d .latch) })
+        × (r .last ≡ last) × (r .latch ≡ d .latch) ⌝ }
 {
     let w = d.wait;
     let latch = d.latch;
@@ -415,7 +419,7 @@ fn answer_read(
     out: &mut [u8],
 ) -> Answered
     requires { ⌜ (2 ≤ length (now f)) × (length (now f) ≤ 2048) × (2048 ≤ length (now out)) ⌝ }
-    ensures { λ r. ⌜ Given r (now (out .entry)) (now (out .exit)) (readStep (world o) (q .0) time (now (f .entry)) (readDeedBy (world o) (q .0) time (readOf (world o .inputs) (objectsOf (now (f .entry)))))) ⌝ }
+    ensures { λ r. ⌜ Given o r (now (out .entry)) (now (out .exit)) (readStep (world o) (q .0) time (now (f .entry)) (readDeedBy (world o) (q .0) time (readOf (world o .inputs) (objectsOf (now (f .entry)))))) ⌝ }
 {
     let x = o.session;
     let p = o.points;
@@ -511,7 +515,7 @@ fn answer_request(
     out: &mut [u8],
 ) -> Answered
     requires { ⌜ (2 ≤ length (now f)) × (length (now f) ≤ 2048) × (2048 ≤ length (now out)) ⌝ }
-    ensures { λ r. ⌜ Given r (now (out .entry)) (now (out .exit)) (requestStep (world o) (q .0) function time (now (f .entry)) (deedBy (world o) (q .0) function time (objectsOf (now (f .entry))))) ⌝ }
+    ensures { λ r. ⌜ Given o r (now (out .entry)) (now (out .exit)) (requestStep (world o) (q .0) function time (now (f .entry)) (deedBy (world o) (q .0) function time (objectsOf (now (f .entry))))) ⌝ }
 {
     let x = o.session;
     let latch = x.latch;
@@ -565,7 +569,7 @@ fn put_again(last: Last, function: u8, out: &mut [u8]) -> usize
 // A repeat: the same answer again, nothing done, only the clock moves.
 fn repeat_request(o: Outstation, function: u8, time: u64, out: &mut [u8]) -> Answered
     requires { ⌜ 2048 ≤ length (now out) ⌝ }
-    ensures { λ r. ⌜ Given r (now (out .entry)) (now (out .exit)) (repeatStep (world o) function time) ⌝ }
+    ensures { λ r. ⌜ Given o r (now (out .entry)) (now (out .exit)) (repeatStep (world o) function time) ⌝ }
 {
     let s = o.session;
     let last = s.last;
@@ -584,7 +588,7 @@ fn repeat_request(o: Outstation, function: u8, time: u64, out: &mut [u8]) -> Ans
 // A fragment from the master, and the lent output for its answer. Each way returns from here: a function or a match between that hands
 // on one of several results copies the whole state once more.
 pub fn fragment(o: Outstation, time: u64, f: &[u8], out: &mut [u8]) -> Answered
-    ensures { λ r. ⌜ Given r (now (out .entry)) (now (out .exit)) (step (fragment time (now (f .entry)) (length (now (out .entry)))) (world o)) ⌝ }
+    ensures { λ r. ⌜ Given o r (now (out .entry)) (now (out .exit)) (step (fragment time (now (f .entry)) (length (now (out .entry)))) (world o)) ⌝ }
 {
     if outstation::bad_time(o.clock, time) {
         return refuse(o, FragmentAnswer::Time);

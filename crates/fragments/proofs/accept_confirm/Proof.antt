@@ -3,7 +3,7 @@
 use mathlib.Core.Path.{refl}
 use borrow.Author.Needs.{needs}
 use Rattle.outstation.specs.Step.{confirmedStep}
-use Rattle.fragments.proofs.GivenLaws.{confirmed-state}
+use Rattle.fragments.proofs.GivenLaws.{confirmed-state, counted-left, counted-kept}
 use Rattle.fragments.proofs.accept_confirm.Statement.{statement}
 use Rattle.fragments.proofs.accept_confirm.Tie as tie
 
@@ -23,13 +23,20 @@ returns : tie.Need-returns
 unfolding confirmedStep
 returns c =
     let a = c .before .before .before .before .before .before .before .args in
+    let left = c .left-with .ensures in
+    let idle = c .before .idle-session .ensures in
     λ d.
     record {
       state =
-          confirmed-state (a .o) _ (a .time) (a .shown) (a .since) _ _ (c .left-with .ensures) (c .before .before .release .ensures) (c .before .idle-session .ensures);
+          confirmed-state (a .o) _ (a .time) (a .shown) (a .since) _ _ (left .0) (c .before .before .release .ensures .0) (idle .0);
       answer = refl;
-      operated = c .before .before .before .none .ensures .0;
+      size = refl;
+      operated = c .before .before .before .none .ensures;
       lent = refl;
+      counted =
+          counted-left (a .o) _ _ _ (left .1 .0) (left .1 .1 .0) (left .1 .1 .1)
+          (λ k. c .before .before .release .ensures .1)
+          (λ k. counted-kept _ _ _ (idle .1 .0) (idle .1 .1) (k .session .request) (k .session .answer) (k .session .objects));
     }
 
 pub accept-confirm-spec : {M : Type 1} → statement M

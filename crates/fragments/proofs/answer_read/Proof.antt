@@ -13,7 +13,7 @@ use Rattle.static_objects.specs.Static.{readOf}
 use Rattle.read.specs.Response.{queueAfter}
 use Rattle.outstation.specs.World.{world, exchangeOf}
 use Rattle.fragments.proofs.DeedLaws.{read-queue, verdict-worked, read-most}
-use Rattle.fragments.proofs.GivenLaws.{read-given}
+use Rattle.fragments.proofs.GivenLaws.{read-given, counted-left, counted-kept}
 use Rattle.fragments.specs.Given.{Worked, readDeedBy}
 use Rattle.fragments.proofs.answer_read.Statement.{statement}
 use Rattle.fragments.proofs.answer_read.Tie as tie
@@ -76,8 +76,15 @@ returns c =
     let most = read-most w (a .q .0) (a .time) (objectsOf (a .f .now)) in
     let size = worked .size in
     let room : rd .result .size ≤ length (a .out .now) = omega (arith, most, size, c .before .before .before .before .before .before .before .before .before .before .before .before .before .before .before .before .before .before .before .before .before .before .before .pre) in
-    read-given (a .o) (c .left-with .result) (a .q .0) (a .time) (a .f .now) (rd .result) (a .out .now) _ _ worked _ marked _ _ (c .left-with .ensures)
-    (c .before .session-of .ensures) _ (c .before .before .before .before .before .before .before .put-header .ensures) room (c .before .before .none .result) (c .before .before .none .ensures .0) (c .before .before .before .remember .ensures)
+    let left = c .left-with .ensures in
+    let kept = c .before .session-of .ensures in
+    let last = c .before .before .before .remember .ensures in
+    let counts =
+    counted-left (a .o) (c .left-with .result) _ _ (left .1 .0) (left .1 .1 .0) (left .1 .1 .1)
+    (λ k. omega (arith, re .ensures .4, k .events))
+    (λ k. counted-kept _ _ _ (kept .1 .0) (kept .1 .1) (last .1 .0) (last .1 .1) (worked .counted)) in
+    read-given (a .o) (c .left-with .result) (a .q .0) (a .time) (a .f .now) (rd .result) (a .out .now) _ _ worked _ marked _ _ (left .0)
+    (kept .0) counts _ (c .before .before .before .before .before .before .before .put-header .ensures) room (c .before .before .none .result) (c .before .before .none .ensures) (last .0)
 
 pub answer-read-spec : {M : Type 1} → statement M
 answer-read-spec =

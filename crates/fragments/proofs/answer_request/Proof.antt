@@ -12,7 +12,7 @@ use Rattle.application.specs.Fragment.{objectsOf}
 use Rattle.events.specs.Queue.{queue}
 use Rattle.outstation.specs.Step.{deedBy}
 use Rattle.outstation.specs.World.{world, exchangeOf}
-use Rattle.fragments.proofs.GivenLaws.{objects-most, silent-objects, deed-queue, request-any, kept-most}
+use Rattle.fragments.proofs.GivenLaws.{objects-most, silent-objects, deed-queue, request-any, counted-left, counted-kept, kept-most}
 use Rattle.fragments.specs.Given.{Worked}
 use Rattle.fragments.proofs.answer_request.Statement.{statement}
 use Rattle.fragments.proofs.answer_request.Tie as tie
@@ -102,10 +102,17 @@ returns c =
     let most = objects-most w (a .q .0) (a .function) (a .time) (objectsOf (a .f .now)) in
     let size = worked .size in
     let room : dd .result .size ≤ length (a .out .now) = omega (arith, most, size, c .before .before .before .before .before .before .before .before .before .before .before .before .before .before .before .before .before .before .before .before .before .before .pre) in
-    let left = c .before .before .before .before .before .before .before .before .before .clear .ensures ∙ deed-queue w (a .q .0) (a .function) (a .time) (objectsOf (a .f .now)) in
-    request-any (a .o) (c .left-with .result) (a .q .0) (a .time) (a .f .now) (dd .result) (a .out .now) _ _ worked _ left _ _ (c .left-with .ensures)
-    (c .before .before .session-of .ensures) _ (pa .result) _ (a .function) (silent-objects w (a .q .0) (a .function) (a .time) (objectsOf (a .f .now)))
-    (pa .ensures .0) (pa .ensures .1) room (c .before .answer-as .ensures) (c .before .before .before .remember .ensures)
+    let left = c .before .before .before .before .before .before .before .before .before .clear .ensures .0 ∙ deed-queue w (a .q .0) (a .function) (a .time) (objectsOf (a .f .now)) in
+    let leaves = c .left-with .ensures in
+    let keeps = c .before .before .session-of .ensures in
+    let last = c .before .before .before .remember .ensures in
+    let counts =
+    counted-left (a .o) (c .left-with .result) _ _ (leaves .1 .0) (leaves .1 .1 .0) (leaves .1 .1 .1)
+    (λ k. omega (arith, c .before .before .before .before .before .before .before .before .before .clear .ensures .1, k .events))
+    (λ k. counted-kept _ _ _ (keeps .1 .0) (keeps .1 .1) (last .1 .0) (last .1 .1) (worked .counted)) in
+    request-any (a .o) (c .left-with .result) (a .q .0) (a .time) (a .f .now) (dd .result) (a .out .now) _ _ worked _ left _ _ (leaves .0)
+    (keeps .0) counts _ (pa .result) _ (a .function) (silent-objects w (a .q .0) (a .function) (a .time) (objectsOf (a .f .now)))
+    (pa .ensures .0) (pa .ensures .1) room (c .before .answer-as .ensures) (last .0)
 
 pub answer-request-spec : {M : Type 1} → statement M
 answer-request-spec =

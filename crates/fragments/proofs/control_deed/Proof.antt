@@ -34,6 +34,7 @@ returns c =
       operated = done .carried;
       wait = refl;
       latch = done .latch;
+      counted = done .counted;
       restarted = refl;
     }
 

@@ -23,7 +23,7 @@ returns c =
     let a = c .before .before .before .before .before .args in
     fragment-late (a .o) (a .time) (a .f .now) (length (a .out .now)) (c .refuse .result) (a .out .now) (a .out .now)
     (sym (c .before .before .bad-time .ensures) ∙ c .before .if1 .taken)
-    (refused-given (c .refuse .result) (a .o) Fs.Time 1 (c .refuse .ensures .0) (c .refuse .ensures .1) (c .refuse .ensures .2) (λ d x. refl) (a .out .now))
+    (refused-given (c .refuse .result) (a .o) Fs.Time 1 (c .refuse .ensures .0) (c .refuse .ensures .1) (c .refuse .ensures .2) (λ d x. refl) refl (a .out .now))
 
 refuse-requires-2 : tie.Need-refuse-requires-2
 refuse-requires-2 c κs = search needs
@@ -33,7 +33,7 @@ returns-2 c =
     let a = c .before .before .before .before .before .before .args in
     fragment-small (a .o) (a .time) (a .f .now) (length (a .out .now)) (c .refuse2 .result) (a .out .now) (a .out .now)
     (sym (c .before .before .before .bad-time .ensures) ∙ c .before .before .if1 .left) (lt-ltb _ _ (c .before .if2 .taken))
-    (refused-given (c .refuse2 .result) (a .o) Fs.AnswerLent 33 (c .refuse2 .ensures .0) (c .refuse2 .ensures .1) (c .refuse2 .ensures .2) (λ d x. refl) (a .out .now))
+    (refused-given (c .refuse2 .result) (a .o) Fs.AnswerLent 33 (c .refuse2 .ensures .0) (c .refuse2 .ensures .1) (c .refuse2 .ensures .2) (λ d x. refl) refl (a .out .now))
 
 classify-requires : tie.Need-classify-requires
 classify-requires c κs = search needs
@@ -66,7 +66,7 @@ returns-3 c =
     (sym (c .before .before .before .before .before .before .before .before .before .before .before .bad-time .ensures) ∙ c .before .before .before .before .before .before .before .before .before .before .if1 .left) (le-ltb _ _ (c .before .before .before .before .before .before .before .before .before .if2 .left)) (cl .result) (cl .ensures) (g .0 .0) (g .0 .1 .0) (g .1)
     (confirm-given (a .o) (c .refuse4 .result) (a .out .now) (a .out .now) (a .o .session .wait) (g .0 .0 .0) (g .0 .1 .0) (a .time) (c .before .before .before .confirm .result) Cs.Refused
     (c .before .before .before .confirm .ensures) (c .before .enum-told2 .given .1)
-    (refused-given (c .refuse4 .result) (a .o) Fs.NotConfirmed 32 (c .refuse4 .ensures .0) (c .refuse4 .ensures .1) (c .refuse4 .ensures .2) (λ d x. refl) (a .out .now)))
+    (refused-given (c .refuse4 .result) (a .o) Fs.NotConfirmed 32 (c .refuse4 .ensures .0) (c .refuse4 .ensures .1) (c .refuse4 .ensures .2) (λ d x. refl) refl (a .out .now)))
 
 enum-known-c : tie.Need-enum-known-c
 enum-known-c c = search needs
@@ -107,7 +107,7 @@ returns-5 c =
     let g = c .before .before .before .before .before .before .k2 .given in
     fragment-request (a .o) (a .time) (a .f .now) (length (a .out .now)) (c .before .before .answer-read .result) (a .out .now) _
     (sym (c .before .before .before .before .before .before .before .before .before .before .before .bad-time .ensures) ∙ c .before .before .before .before .before .before .before .before .before .before .if1 .left) (le-ltb _ _ (c .before .before .before .before .before .before .before .before .before .if2 .left)) (cl .result) (cl .ensures) (g .0 .0) (g .0 .1 .0) (g .1)
-    (by-read (world (a .o)) (g .0 .0 .0) (g .0 .1 .0) (a .time) (a .f .now) (c .before .before .answer-read .result) (a .out .now) _ (eq-eqb _ _ (c .before .before .before .before .if3 .taken)) (c .before .before .answer-read .ensures))
+    (by-read (a .o) (world (a .o)) (g .0 .0 .0) (g .0 .1 .0) (a .time) (a .f .now) (c .before .before .answer-read .result) (a .out .now) _ (eq-eqb _ _ (c .before .before .before .before .if3 .taken)) (c .before .before .answer-read .ensures))
 
 repeats-requires : tie.Need-repeats-requires
 repeats-requires c κs =
@@ -131,7 +131,7 @@ returns-6 c =
     let g = c .before .before .before .before .before .before .before .before .before .before .k2 .given in
     fragment-request (a .o) (a .time) (a .f .now) (length (a .out .now)) (c .before .before .repeat-request .result) (a .out .now) _
     (sym (c .before .before .before .before .before .before .before .before .before .before .before .before .before .before .before .bad-time .ensures) ∙ c .before .before .before .before .before .before .before .before .before .before .before .before .before .before .if1 .left) (le-ltb _ _ (c .before .before .before .before .before .before .before .before .before .before .before .before .before .if2 .left)) (cl .result) (cl .ensures) (g .0 .0) (g .0 .1 .0) (g .1)
-    (by-repeat (world (a .o)) (g .0 .0 .0) (g .0 .1 .0) (a .time) (a .f .now) (c .before .before .repeat-request .result) (a .out .now) _ (ne-eqb _ _ (c .before .before .before .before .before .before .before .before .if3 .left)) (sym (c .before .before .before .before .before .repeats .ensures) ∙ c .before .before .before .before .if4 .taken) (c .before .before .repeat-request .ensures))
+    (by-repeat (a .o) (world (a .o)) (g .0 .0 .0) (g .0 .1 .0) (a .time) (a .f .now) (c .before .before .repeat-request .result) (a .out .now) _ (ne-eqb _ _ (c .before .before .before .before .before .before .before .before .if3 .left)) (sym (c .before .before .before .before .before .repeats .ensures) ∙ c .before .before .before .before .if4 .taken) (c .before .before .repeat-request .ensures))
 
 answer-request-requires : tie.Need-answer-request-requires
 answer-request-requires c κs =
@@ -152,7 +152,7 @@ returns-7 c =
     let g = c .before .before .before .before .before .before .before .before .before .before .k2 .given in
     fragment-request (a .o) (a .time) (a .f .now) (length (a .out .now)) (c .before .before .answer-request .result) (a .out .now) _
     (sym (c .before .before .before .before .before .before .before .before .before .before .before .before .before .before .before .bad-time .ensures) ∙ c .before .before .before .before .before .before .before .before .before .before .before .before .before .before .if1 .left) (le-ltb _ _ (c .before .before .before .before .before .before .before .before .before .before .before .before .before .if2 .left)) (cl .result) (cl .ensures) (g .0 .0) (g .0 .1 .0) (g .1)
-    (by-other (world (a .o)) (g .0 .0 .0) (g .0 .1 .0) (a .time) (a .f .now) (c .before .before .answer-request .result) (a .out .now) _ (ne-eqb _ _ (c .before .before .before .before .before .before .before .before .if3 .left)) (sym (c .before .before .before .before .before .repeats .ensures) ∙ c .before .before .before .before .if4 .left) (c .before .before .answer-request .ensures))
+    (by-other (a .o) (world (a .o)) (g .0 .0 .0) (g .0 .1 .0) (a .time) (a .f .now) (c .before .before .answer-request .result) (a .out .now) _ (ne-eqb _ _ (c .before .before .before .before .before .before .before .before .if3 .left)) (sym (c .before .before .before .before .before .repeats .ensures) ∙ c .before .before .before .before .if4 .left) (c .before .before .answer-request .ensures))
 
 returns-8 : tie.Need-returns-8
 returns-8 c =
@@ -160,7 +160,7 @@ returns-8 c =
     let cl = c .before .before .before .classify in
     fragment-malformed (a .o) (a .time) (a .f .now) (length (a .out .now)) (c .refuse3 .result) (a .out .now) (a .out .now)
     (sym (c .before .before .before .before .before .before .bad-time .ensures) ∙ c .before .before .before .before .before .if1 .left) (le-ltb _ _ (c .before .before .before .before .if2 .left)) (cl .result) (cl .ensures) (c .before .enum-told .given .1)
-    (refused-given (c .refuse3 .result) (a .o) Fs.Malformed 31 (c .refuse3 .ensures .0) (c .refuse3 .ensures .1) (c .refuse3 .ensures .2) (λ d x. refl) (a .out .now))
+    (refused-given (c .refuse3 .result) (a .o) Fs.Malformed 31 (c .refuse3 .ensures .0) (c .refuse3 .ensures .1) (c .refuse3 .ensures .2) (λ d x. refl) refl (a .out .now))
 
 pub fragment-spec : {M : Type 1} → statement M
 fragment-spec =

@@ -7,7 +7,7 @@ use Rattle.fragments.proofs.idle_session.Tie as tie
 
 returns : tie.Need-returns
 unfolding exchangeOf
-returns c = refl
+returns c = (refl, refl, refl)
 
 pub idle-session-spec : {M : Type 1} → statement M
 idle-session-spec = tie.close (tie.spec returns)

@@ -20,9 +20,10 @@ returns c =
       con = refl;
       size = refl;
       lent = sym (splice-nil lent 4);
-      operated = c .before .none .ensures .0;
+      operated = c .before .none .ensures;
       wait = refl;
-      latch = c .empty .ensures;
+      latch = c .empty .ensures .0;
+      counted = c .empty .ensures .1;
       restarted = refl;
     }
 

@@ -27,9 +27,10 @@ returns c =
       fault = refl;
       con = con;
       sized = refl;
-      operated = c .before .none .ensures .0;
+      operated = c .before .none .ensures;
       wait = c .before .before .wait-for .ensures ∙ ap (λ (x : Bool). cond x (Awaiting (a .q) (a .time) (a .overflow) false) Idle) con;
-      latch = c .empty .ensures;
+      latch = c .empty .ensures .0;
+      counted = c .empty .ensures .1;
       restarted = refl;
     }
 

@@ -14,7 +14,7 @@ still-dropped-requires c κs = search needs
 returns : tie.Need-returns
 returns c =
     let a = c .before .before .args in
-    overflow-stored (a .b) (c .before .release .result) (a .shown) (a .since) _ (c .before .release .ensures) (c .still-dropped .ensures)
+    (overflow-stored (a .b) (c .before .release .result) (a .shown) (a .since) _ (c .before .release .ensures .0) (c .still-dropped .ensures), c .before .release .ensures .1)
 
 pub release-spec : {M : Type 1} → statement M
 release-spec = tie.close (tie.spec release-requires still-dropped-requires returns)

@@ -24,7 +24,7 @@ unfolding exchangeOf
 returns c =
     let a = c .before .before .before .before .before .before .before .before .before .args in
     let an = c .before .before .before .before .put-again in
-    repeat-any (a .o) _ (a .function) (a .time) (c .none .result) (a .out .now) refl (c .none .ensures .0) _ (an .result) _ (an .ensures .0) (an .ensures .1)
+    repeat-any (a .o) _ (a .function) (a .time) (c .none .result) (a .out .now) refl (c .none .ensures) (λ k. record { binaries = k .binaries; analogs = k .analogs; events = k .events; session = k .session }) _ (an .result) _ (an .ensures .0) (an .ensures .1)
     (an .ensures .2) (c .before .answer-as .ensures)
 
 pub repeat-request-spec : {M : Type 1} → statement M

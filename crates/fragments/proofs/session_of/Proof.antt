@@ -7,7 +7,7 @@ use Rattle.fragments.proofs.session_of.Tie as tie
 
 returns : tie.Need-returns
 unfolding exchangeOf
-returns c = refl
+returns c = (refl, refl, refl)
 
 pub session-of-spec : {M : Type 1} → statement M
 session-of-spec = tie.close (tie.spec returns)

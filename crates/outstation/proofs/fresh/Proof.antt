@@ -1,5 +1,6 @@
 -- `outstation::fresh` meets its contract. Assumes nothing.
 use Rattle.outstation.proofs.SetupLaws.{set-up}
+use native.Mathlib.Omega.{arith}
 use borrow.Author.Needs.{needs}
 use Rattle.outstation.proofs.fresh.Statement.{statement}
 use Rattle.outstation.proofs.fresh.Tie as tie
@@ -20,7 +21,13 @@ cast-t6 : tie.Need-cast-t6
 cast-t6 c = search needs
 
 returns : tie.Need-returns
-returns c = set-up (c .before .before .before .before .before .args .u) _ _ _ (c .before .before .before .before .fresh-points .ensures) (c .before .before .before .empty .ensures) (c .before .before .fresh-session .ensures)
+returns c =
+    let u = c .before .before .before .before .before .args .u in
+    let points = c .before .before .before .before .fresh-points .ensures in
+    let none = c .before .before .before .empty .ensures in
+    let session = c .before .before .fresh-session .ensures in
+    (set-up u _ _ _ (points .0) (none .0) (session .0),
+     λ bs an. record { binaries = omega (arith, bs, points .1 .0); analogs = omega (arith, an, points .1 .1); events = omega (arith, none .1); session = session .1 })
 
 pub fresh-spec : {M : Type 1} → statement M
 fresh-spec = tie.close (tie.spec fresh-points-requires empty-requires fresh-session-requires cast-t5 cast-t6 returns)
