@@ -10,11 +10,12 @@ use native.Mathlib.Omega.{arith}
 use borrow.Author.Tests.{eq-eqb, ne-eqb, lt-ltb, le-ltb, le-leb, lt-leb}
 use lib.Dec.{eqb, leb}
 use lib.ListN.{length, getD, drop}
-use lib.Seq.{drop-drop}
+use lib.Seq.{drop-drop, length-take-le}
 use Rattle.application.specs.declared.Fault.the-variants.{ObjectUnknown, BadParameter}
 use Rattle.control.specs.declared.Crob.{Crob}
+use Rattle.control.specs.declared.Crobs.{Crobs}
 use Rattle.control.specs.declared.Form.the-variants.{Wrong, Objects}
-use Rattle.control.specs.Objects.{objectsMax, widthOf, span, countOf, exact, formed, crobAt, crobs, noCrob, earlierOf}
+use Rattle.control.specs.Objects.{objectsMax, widthOf, span, countOf, exact, formed, crobAt, crobs, listOf, Holding, noCrob, earlierOf}
 
 -- ---- the bytes of n objects
 
@@ -137,6 +138,19 @@ crobs-step w n i at b h =
     let f : at + (w + 11) ≡ at + w + 11 = omega arith in
     crobs-more w (n - i) (drop at b) (omega arith)
     ∙ ap₂ (λ (k : ℕ) (l : List ℕ). crobAt w (drop at b) ∷ crobs w k l) e (drop-drop (w + 11) at b ∙ ap (λ (k : ℕ). drop k b) f)
+
+pub crobs-length : (w n : ℕ) (b : List ℕ) → length (crobs w n b) ≡ n
+unfolding crobs
+crobs-length w zero b = refl
+crobs-length w (suc n) b = ap suc (crobs-length w n (drop (w + 11) b))
+
+-- a count within the array is the number of objects
+pub length-listOf : (c : Crobs) → length (c .items) ≡ objectsMax → c .count ≤ objectsMax → length (listOf c) ≡ c .count
+unfolding listOf
+length-listOf c h k = length-take-le (c .count) (c .items) (omega arith)
+
+pub holding : (c : Crobs) (xs : List Crob) → length (c .items) ≡ objectsMax → c .count ≤ objectsMax → listOf c ≡ xs → Holding c xs
+holding c xs h k e = record { objects = e; count = sym (length-listOf c h k) ∙ ap length e }
 
 -- ---- the indices of the objects before
 

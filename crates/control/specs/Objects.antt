@@ -1,5 +1,6 @@
 -- The object bytes of a control request: "one header 12 var 1, qualifier 17 or 28, 1 to 8 objects, nothing after".
 -- Assumes nothing.
+use mathlib.Core.Path.{_≡_}
 use Prim.Native.Nat.{ℕ, zero, suc, _+_}
 use mathlib.Core.Bool.{Bool, cond, not}
 use mathlib.Core.List.{List, [], _∷_}
@@ -81,13 +82,14 @@ abbrev pub crobsBy : Form → List ℕ → List Crob
 crobsBy (Wrong x) o = []
 crobsBy (Objects w n) o = crobs w n (drop (3 + w) o)
 
-abbrev pub countBy : Form → ℕ
-countBy (Wrong x) = 0
-countBy (Objects w n) = n
-
 -- the objects that a struct holds
 unfoldable pub listOf : Crobs → List Crob
 listOf c = take (c .count) (c .items)
+
+-- a struct that holds exactly these objects: so many, and no more
+pub record Holding (c : Crobs) (xs : List Crob) : Type 0 where
+  pub objects : listOf c ≡ xs
+  pub count : c .count ≡ length xs
 
 abbrev pub noCrob : Crob
 noCrob = record { index = 0; code = 0; count = 0; «on_time» = 0; «off_time» = 0; status = 0 }

@@ -5,7 +5,7 @@ ghost use Prim.Native.Nat.{_+_, _≤_, _<_, min};
 ghost use lib.ListN.{length, take};
 ghost use Rattle.octets.specs.Bytes.{splice, valueAt};
 ghost use Rattle.laws.specs.Lists.{member};
-ghost use Rattle.control.specs.Objects.{objectsMax, answerMax, widthOf, span, formed, crobAt, crobs, crobsBy, countBy, listOf, earlierOf};
+ghost use Rattle.control.specs.Objects.{objectsMax, answerMax, widthOf, span, formed, crobAt, crobs, crobsBy, listOf, Holding, earlierOf};
 ghost use Rattle.control.specs.Status.{knownCode, statusOf, statuses, allZero, echoed, echoWith, chosen};
 use application::Fault;
 
@@ -123,7 +123,7 @@ fn take_crob(b: &[u8], w: usize) -> Crob
 
 // No objects.
 pub fn none() -> Crobs
-    ensures { λ r. ⌜ (listOf r ≡ []) × (r .count ≡ 0) ⌝ }
+    ensures { λ r. ⌜ Holding r [] ⌝ }
 {
     let c = Crob {
         index: 0,
@@ -143,7 +143,7 @@ pub fn none() -> Crobs
 // The n objects at the front of the bytes.
 fn taken(b: &[u8], w: usize, n: usize) -> Crobs
     requires { ⌜ (span w n ≤ length (now b)) × (w ≤ 2) × (n ≤ objectsMax) ⌝ }
-    ensures { λ r. ⌜ (listOf r ≡ crobs w n (now (b .entry))) × (r .count ≡ n) ⌝ }
+    ensures { λ r. ⌜ Holding r (crobs w n (now (b .entry))) ⌝ }
 {
     let mut next = none();
     let mut at: usize = 0;
@@ -159,7 +159,7 @@ fn taken(b: &[u8], w: usize, n: usize) -> Crobs
 
 // The objects of a control request; none where the header is wrong.
 pub fn objects(o: &[u8]) -> Crobs
-    ensures { λ r. ⌜ (listOf r ≡ crobsBy (formed (now (o .entry))) (now (o .entry))) × (r .count ≡ countBy (formed (now (o .entry)))) ⌝ }
+    ensures { λ r. ⌜ Holding r (crobsBy (formed (now (o .entry))) (now (o .entry))) ⌝ }
 {
     match header(o) {
         Form::Wrong(_) => none(),
@@ -267,7 +267,7 @@ pub fn all_zero(ss: [u8; OBJECTS_MAX], count: usize) -> bool
 
 // The objects whose status is 0.
 pub fn with_zero(cs: Crobs, ss: [u8; OBJECTS_MAX]) -> Crobs
-    ensures { λ r. ⌜ listOf r ≡ chosen (listOf cs) (take (cs .count) ss) ⌝ }
+    ensures { λ r. ⌜ Holding r (chosen (listOf cs) (take (cs .count) ss)) ⌝ }
 {
     let n = filled(cs.count);
     let mut next = none();

@@ -3,6 +3,7 @@ ghost use mathlib.Core.Path.{_≡_};
 ghost use mathlib.Core.Bool.{false, _||_};
 ghost use mathlib.Core.List.{[]};
 ghost use Prim.Native.Nat.{min, _≤_};
+ghost use Rattle.laws.specs.Limits.{eventsMax};
 ghost use Rattle.laws.specs.Lists.{some};
 ghost use Rattle.events.specs.Placing.{kindOf, sizeOf, asked, emptyPack, costOf, turnOf};
 ghost use Rattle.events.specs.Queue.{queue, marked, edited, carry, selected, released, cleared, isCarried, leftOf, leftBehind};
@@ -68,7 +69,7 @@ fn blank() -> Held {
 
 // No event held, none dropped.
 pub fn empty() -> Buffer
-    ensures { λ r. ⌜ queue r ≡ record { held = []; overflow = false } ⌝ }
+    ensures { λ r. ⌜ (queue r ≡ record { held = []; overflow = false }) × (r .count ≡ 0) ⌝ }
 {
     let h = blank();
     let a = [h; 256];
@@ -98,7 +99,7 @@ fn with_mark(h: Held, carried: bool) -> Held
 
 // A new request: no event is carried any more.
 pub fn clear(b: Buffer) -> Buffer
-    ensures { λ r. ⌜ queue r ≡ cleared (queue b) ⌝ }
+    ensures { λ r. ⌜ (queue r ≡ cleared (queue b)) × (r .count ≡ b .count) ⌝ }
 {
     let n = filled(b.count);
     let mut next = b;
@@ -113,7 +114,7 @@ pub fn clear(b: Buffer) -> Buffer
 
 // An accepted confirmation: exactly the carried events go.
 pub fn release(b: Buffer) -> Buffer
-    ensures { λ r. ⌜ queue r ≡ released (queue b) ⌝ }
+    ensures { λ r. ⌜ (queue r ≡ released (queue b)) × (r .count ≤ eventsMax) ⌝ }
 {
     let n = filled(b.count);
     let mut next = b;
@@ -210,7 +211,7 @@ fn weigh(m: Classes, k: Pack, e: Event) -> Turn
 
 // Marks the events that a response carries, none being marked yet.
 fn mark(b: Buffer, m: Classes, room: usize) -> Buffer
-    ensures { λ r. ⌜ queue r ≡ edited (carry m (emptyPack room)) (queue b) ⌝ }
+    ensures { λ r. ⌜ (queue r ≡ edited (carry m (emptyPack room)) (queue b)) × (r .count ≡ b .count) ⌝ }
 {
     let n = filled(b.count);
     let mut next = b;
@@ -248,7 +249,7 @@ fn mark(b: Buffer, m: Classes, room: usize) -> Buffer
 
 // A READ's response carries the events of the asked classes, oldest first, up to the first that does not fit in the room.
 pub fn select(b: Buffer, m: Classes, room: usize) -> Buffer
-    ensures { λ r. ⌜ queue r ≡ selected m room (queue b) ⌝ }
+    ensures { λ r. ⌜ (queue r ≡ selected m room (queue b)) × (r .count ≡ b .count) ⌝ }
 {
     mark(clear(b), m, room)
 }

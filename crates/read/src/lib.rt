@@ -36,8 +36,9 @@ fn classes(plan: Plan) -> Classes
 // Marks the events that fit beside the static part.
 fn select(plan: Plan, p: Points, b: Buffer) -> Buffer
     requires { ⌜ length (staticBytes (inputs p) (take (plan .count) (plan .headers))) + 4 ≤ 2048 ⌝ }
-    ensures { λ r. ⌜ queue r ≡
-        selected (classesOf (take (plan .count) (plan .headers))) (roomBeside (inputs p) (take (plan .count) (plan .headers))) (queue b) ⌝ }
+    ensures { λ r. ⌜
+        (queue r ≡ selected (classesOf (take (plan .count) (plan .headers))) (roomBeside (inputs p) (take (plan .count) (plan .headers))) (queue b))
+        × (r .count ≡ b .count) ⌝ }
 {
     let size = static_objects::static_size(plan, p);
     let m = classes(plan);
@@ -62,7 +63,8 @@ pub fn respond(out: &mut [u8], s: &[u8], p: Points, b: Buffer) -> Reply
         (plannedOf (r .plan) ≡ readOf (inputs p) (now (s .entry)))
         × (queue (r .buffer) ≡ queueAfter (inputs p) (readOf (inputs p) (now (s .entry))) (queue b))
         × (r .size ≡ 4 + length (responseObjects (inputs p) (readOf (inputs p) (now (s .entry))) (queue b)))
-        × (now (out .exit) ≡ splice (now (out .entry)) 4 (responseObjects (inputs p) (readOf (inputs p) (now (s .entry))) (queue b))) ⌝ }
+        × (now (out .exit) ≡ splice (now (out .entry)) 4 (responseObjects (inputs p) (readOf (inputs p) (now (s .entry))) (queue b)))
+        × (r .buffer .count ≡ b .count) ⌝ }
 {
     let plan = static_objects::asked(s, p);
     let v = plan.verdict;

@@ -20,7 +20,7 @@ pub struct Last {
 
 // After a restart there is no last request.
 pub fn none() -> Last
-    ensures { λ r. ⌜ lastOf r ≡ nothing ⌝ }
+    ensures { λ r. ⌜ (lastOf r ≡ nothing) × (r .«request_len» ≤ fragmentMax) × (r .«answer_len» ≤ answerMax) ⌝ }
 {
     let request = [0u8; FRAGMENT_MAX];
     let answer = [0u8; ANSWER_MAX];
@@ -36,7 +36,7 @@ pub fn none() -> Last
 // Keeps an accepted request and its answer.
 pub fn remember(f: &[u8], a: &[u8]) -> Last
     requires { ⌜ (length (now f) ≤ fragmentMax) × (length (now a) ≤ answerMax) ⌝ }
-    ensures { λ r. ⌜ lastOf r ≡ kept (now (f .entry)) (now (a .entry)) ⌝ }
+    ensures { λ r. ⌜ (lastOf r ≡ kept (now (f .entry)) (now (a .entry))) × (r .«request_len» ≤ fragmentMax) × (r .«answer_len» ≤ answerMax) ⌝ }
 {
     let mut request = [0u8; FRAGMENT_MAX];
     octets::copy(&mut request, 0, f);

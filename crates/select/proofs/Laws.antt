@@ -4,25 +4,16 @@ use mathlib.Core.Path.{_≡_, refl}
 use mathlib.Core.Bool.{true, false}
 use mathlib.Core.List.{List, []}
 use Prim.Native.Nat.{ℕ, _+_, _-_, _≤_, _<_}
-use native.Mathlib.Omega.{arith}
 use borrow.Author.Tests.{eq-eqb, ne-eqb, le-leb, lt-leb}
-use lib.ListN.{length, take, drop}
-use lib.Seq.{length-take-le}
+use lib.ListN.{take, drop}
 use Rattle.laws.specs.Lists.{same}
 use Rattle.application.specs.Fragment.{nextOf}
 use Rattle.application.specs.declared.Fault.{Fault}
-use Rattle.control.specs.declared.Crobs.{Crobs}
 use Rattle.control.specs.declared.Form.the-variants.{Wrong, Objects}
-use Rattle.control.specs.Objects.{objectsMax, formed, crobs, listOf}
+use Rattle.control.specs.Objects.{formed, crobs}
 use Rattle.select.specs.declared.Latch.{Latch}
 use Rattle.select.specs.declared.ControlFunction.{ControlFunction}
 use Rattle.select.specs.Select.{Selection, noSelect, selected, latchOf, operateStatus, statusesBy, effectWith, effectOf}
-
--- ---- lists
-
-pub length-listOf : (c : Crobs) → length (c .items) ≡ objectsMax → c .count ≤ objectsMax → length (listOf c) ≡ c .count
-unfolding listOf
-length-listOf c h k = length-take-le (c .count) (c .items) (omega arith)
 
 -- ---- the latch and OPERATE's status
 

@@ -1,7 +1,7 @@
 -- The select latch, and what a control request does: "SELECT, OPERATE, DIRECT OPERATE, and the last with no response (3 to 6)".
 -- Assumes nothing.
 use mathlib.Core.Path.{_≡_}
-use Prim.Native.Nat.{ℕ, _+_, _-_}
+use Prim.Native.Nat.{ℕ, _+_, _-_, _≤_}
 use mathlib.Core.Bool.{Bool, true, false, cond}
 use mathlib.Core.List.{List, [], _∷_}
 use lib.ListN.{length, take, drop, replicate}
@@ -14,7 +14,7 @@ use Rattle.application.specs.declared.Fault.the-variants.{Faultless}
 use Rattle.control.specs.declared.Crob.{Crob}
 use Rattle.control.specs.declared.Form.{Form}
 use Rattle.control.specs.declared.Form.the-variants.{Wrong, Objects}
-use Rattle.control.specs.Objects.{formed, crobs, listOf}
+use Rattle.control.specs.Objects.{echoMax, formed, crobs, Holding}
 use Rattle.control.specs.Status.{statuses, allZero, echoOf, chosen}
 use Rattle.select.specs.declared.Latch.{Latch}
 use Rattle.select.specs.declared.Controlled.{Controlled}
@@ -104,5 +104,6 @@ pub record Done (r : Controlled) (before after : List ℕ) (e : Effect) : Type 0
   pub fault : r .fault ≡ e .fault
   pub len : r .len ≡ length (e .echo)
   pub lent : after ≡ splice before 4 (e .echo)
-  pub carried : listOf (r .carried) ≡ e .carried
+  pub carried : Holding (r .carried) (e .carried)
   pub latch : latchOf (r .latch) ≡ e .latch
+  pub counted : r .latch .len ≤ echoMax

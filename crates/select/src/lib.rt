@@ -3,7 +3,7 @@ ghost use mathlib.Core.Path.{_≡_};
 ghost use Prim.Native.Nat.{_-_, _≤_, _<_};
 ghost use lib.ListN.{length, take};
 ghost use Rattle.octets.specs.Bytes.{splice};
-ghost use Rattle.control.specs.Objects.{objectsMax, echoMax, answerMax, formed, listOf};
+ghost use Rattle.control.specs.Objects.{objectsMax, echoMax, answerMax, formed, listOf, Holding};
 ghost use Rattle.control.specs.Status.{echoWith};
 ghost use Rattle.select.specs.Select.{
   noSelect,
@@ -61,7 +61,7 @@ pub fn elapsed(from: u64, to: u64) -> u64
 
 // No select.
 pub fn empty() -> Latch
-    ensures { λ r. ⌜ latchOf r ≡ noSelect ⌝ }
+    ensures { λ r. ⌜ (latchOf r ≡ noSelect) × (r .len ≤ echoMax) ⌝ }
 {
     let objects = [0u8; ECHO_MAX];
     Latch {
@@ -76,7 +76,7 @@ pub fn empty() -> Latch
 // Armed by a SELECT with these object bytes.
 fn arm(sequence: ApplicationSequence, time: u64, o: &[u8]) -> Latch
     requires { ⌜ length (now o) ≤ echoMax ⌝ }
-    ensures { λ r. ⌜ latchOf r ≡ selected (sequence .0) time (now (o .entry)) ⌝ }
+    ensures { λ r. ⌜ (latchOf r ≡ selected (sequence .0) time (now (o .entry))) × (r .len ≤ echoMax) ⌝ }
 {
     let mut objects = [0u8; ECHO_MAX];
     octets::copy(&mut objects, 0, o);
@@ -166,7 +166,7 @@ fn statuses(f: ControlFunction, cs: Crobs, outputs: u16, s: u8) -> [u8; OBJECTS_
 
 // The objects to hand to the host.
 fn carry(f: ControlFunction, cs: Crobs, ss: [u8; OBJECTS_MAX]) -> Crobs
-    ensures { λ r. ⌜ listOf r ≡ carriedBy f (listOf cs) (take (cs .count) ss) ⌝ }
+    ensures { λ r. ⌜ Holding r (carriedBy f (listOf cs) (take (cs .count) ss)) ⌝ }
 {
     if is_select(f) {
         control::none()
@@ -185,7 +185,7 @@ fn latch_after(
     o: &[u8],
 ) -> Latch
     requires { ⌜ length (now o) ≤ echoMax ⌝ }
-    ensures { λ r. ⌜ latchOf r ≡ latchBy f (take n ss) (sequence .0) time (now (o .entry)) ⌝ }
+    ensures { λ r. ⌜ (latchOf r ≡ latchBy f (take n ss) (sequence .0) time (now (o .entry))) × (r .len ≤ echoMax) ⌝ }
 {
     if is_select(f) {
         if control::all_zero(ss, n) {

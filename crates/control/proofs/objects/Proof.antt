@@ -68,7 +68,7 @@ returns-2 c =
     let a = hd .before .before .args in
     let w = wd .width .given .0 .0 in
     let n = wd .width .given .0 .1 .0 in
-    rw (sym (hd .header .ensures) ∙ wd .width .given .1) (c .taken .ensures .0 ∙ ap (crobs w n) (to-end (a .o .now) (3 + w)), c .taken .ensures .1)
+    rw (sym (hd .header .ensures) ∙ wd .width .given .1, ← to-end (a .o .now) (3 + w)) (c .taken .ensures)
 
 pub objects-spec : {M : Type 1} → statement M
 objects-spec =

@@ -10,7 +10,7 @@ use Rattle.control.specs.Objects.{span, crobAt, crobs, listOf}
 use Rattle.control.specs.declared.Crob.{Crob}
 use Rattle.laws.proofs.Loops.{long}
 use Rattle.laws.proofs.Filling.{stored, finished, to-end}
-use Rattle.control.proofs.ObjectLaws.{span-step, crobs-step, crobs-none}
+use Rattle.control.proofs.ObjectLaws.{span-step, crobs-step, crobs-none, holding}
 use Rattle.control.proofs.taken.Statement.{statement}
 use Rattle.control.proofs.taken.Tie as tie
 
@@ -89,11 +89,10 @@ unfolding listOf
 returns c =
     let l = c .before in
     let a = l .before .before .before .args in
-    let e : l .loop .i ≡ a .n = omega arith in (
-      ap (λ (k : ℕ). take k (l .loop .next .items)) (sym e)
-          ∙ finished (take (l .loop .i) (l .loop .next .items)) (crobs (a .w) (a .n - l .loop .i) (drop (l .loop .at) (a .b .now))) _ (crobs-none (a .w) _ _ (omega arith)) (l .loop .inv .0),
-      refl,
-    )
+    let e : l .loop .i ≡ a .n = omega arith in
+    holding _ (crobs (a .w) (a .n) (a .b .now)) (l .loop .inv .1) (omega arith)
+    (ap (λ (k : ℕ). take k (l .loop .next .items)) (sym e)
+    ∙ finished (take (l .loop .i) (l .loop .next .items)) (crobs (a .w) (a .n - l .loop .i) (drop (l .loop .at) (a .b .now))) _ (crobs-none (a .w) _ _ (omega arith)) (l .loop .inv .0))
 
 pub taken-spec : {M : Type 1} → statement M
 taken-spec =

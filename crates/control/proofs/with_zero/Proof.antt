@@ -11,6 +11,7 @@ use Rattle.control.specs.declared.Crob.{Crob}
 use Rattle.control.specs.Status.{chosen}
 use Rattle.laws.proofs.Loops.{long}
 use Rattle.laws.proofs.Filling.{stored, finished, clamped}
+use Rattle.control.proofs.ObjectLaws.{holding}
 use Rattle.control.proofs.StatusLaws.{chosen-yes, chosen-no, chosen-end}
 use Rattle.control.proofs.with_zero.Statement.{statement}
 use Rattle.control.proofs.with_zero.Tie as tie
@@ -100,10 +101,11 @@ returns c =
     let a = l .before .before .before .args in
     let h : length (a .t1 .items) ≡ 8 = search (long, needs) in
     let k : length (a .t2) ≡ 8 = search needs in
-    finished (take (l .loop .j) (l .loop .next .items)) _ _
+    holding _ _ (l .loop .inv .1) (omega arith)
+    (finished (take (l .loop .j) (l .loop .next .items)) _ _
     (chosen-end (a .t1 .items) (drop (l .loop .i) (take n (a .t2))) n (l .loop .i) (omega arith) (omega arith))
     (l .loop .inv .0)
-    ∙ ap₂ chosen (clamped (a .t1 .items) 8 (a .t1 .count) n h few) (clamped (a .t2) 8 (a .t1 .count) n k few)
+    ∙ ap₂ chosen (clamped (a .t1 .items) 8 (a .t1 .count) n h few) (clamped (a .t2) 8 (a .t1 .count) n k few))
 
 pub with-zero-spec : {M : Type 1} → statement M
 with-zero-spec =

@@ -64,7 +64,7 @@ loop-again c =
 returns : tie.Need-returns Inv-loop μ-loop
 returns c =
     let h : length (c .before .before .before .args .b .held) ≡ 256 = search (long, needs) in
-    rewritten _ _ _ _ _ _ h (c .before .before .filled .ensures) (c .before .loop .inv) (c .loop-test .left) refl
+    (rewritten _ _ _ _ _ _ h (c .before .before .filled .ensures) (c .before .loop .inv) (c .loop-test .left) refl, c .before .loop .inv .count)
 
 pub clear-spec : {M : Type 1} → statement M
 clear-spec =

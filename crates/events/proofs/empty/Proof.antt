@@ -11,7 +11,7 @@ blank-requires c κs = search needs
 
 returns : tie.Need-returns
 unfolding queue
-returns c = refl
+returns c = (refl, refl)
 
 pub empty-spec : {M : Type 1} → statement M
 empty-spec = tie.close (tie.spec blank-requires returns)

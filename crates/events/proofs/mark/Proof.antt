@@ -48,7 +48,7 @@ returns c =
     let at = c .before .before .before .before .before .before in
     let least = c .before .before .before .before .before .before .before .filled .ensures in
     let h : length (start .args .b .held) ≡ 256 = search (long, needs) in
-    stopped _ _ _ _ _ _ _ _ (omega (arith, least)) (at .loop .inv) h least (c .before .before .before .before .before .loop-test .taken) (sym (c .before .before .weigh .ensures) ∙ c .enum-told .given .1)
+    (stopped _ _ _ _ _ _ _ _ (omega (arith, least)) (at .loop .inv) h least (c .before .before .before .before .before .loop-test .taken) (sym (c .before .before .weigh .ensures) ∙ c .enum-told .given .1), at .loop .inv .count)
 
 enum-told-2 : tie.Need-enum-told-2 Inv-loop μ-loop
 enum-told-2 c = search needs
@@ -88,7 +88,7 @@ returns-2 c =
     let start = c .before .before .before in
     let least = c .before .before .filled .ensures in
     let h : length (start .args .b .held) ≡ 256 = search (long, needs) in
-    finished _ _ _ _ _ _ _ _ (omega (arith, least)) (c .before .loop .inv) h least (c .loop-test .left)
+    (finished _ _ _ _ _ _ _ _ (omega (arith, least)) (c .before .loop .inv) h least (c .loop-test .left), c .before .loop .inv .count)
 
 pub mark-spec : {M : Type 1} → statement M
 mark-spec =

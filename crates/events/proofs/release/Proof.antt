@@ -69,7 +69,9 @@ loop-again-2 c =
 returns : tie.Need-returns Inv-loop μ-loop
 returns c =
     let h : length (c .before .before .before .args .b .held) ≡ 256 = search (long, needs) in
-    shortened _ _ _ _ _ _ _ h (c .before .before .filled .ensures) (c .loop-test .left) (filter-nil waits) (c .before .loop .inv)
+    let least = c .before .before .filled .ensures in
+    let g = c .before .loop .inv in
+    (shortened _ _ _ _ _ _ _ h least (c .loop-test .left) (filter-nil waits) g, omega (arith, least, g .read, g .written))
 
 pub release-spec : {M : Type 1} → statement M
 release-spec =

@@ -15,8 +15,10 @@ mark-requires c κs = search needs
 
 returns : tie.Need-returns
 returns c =
-    let a = c .before .before .args in
-    c .mark .ensures ∙ ap (λ (q : Queue). edited (carry (a .m) (emptyPack (a .room))) q) (c .before .clear .ensures)
+    let a = c .before .before .args in (
+      c .mark .ensures .0 ∙ ap (λ (q : Queue). edited (carry (a .m) (emptyPack (a .room))) q) (c .before .clear .ensures .0),
+      c .mark .ensures .1 ∙ c .before .clear .ensures .1,
+    )
 
 pub select-spec : {M : Type 1} → statement M
 select-spec = tie.close (tie.spec clear-requires mark-requires returns)

@@ -20,7 +20,10 @@ select-requires : tie.Need-select-requires
 select-requires c κs = search needs
 
 returns : tie.Need-returns
-returns c = c .select .ensures ∙ chosen (queue (c .before .before .before .args .b)) (c .before .classes .ensures) (c .before .before .static-size .ensures .0)
+returns c = (
+  c .select .ensures .0 ∙ chosen (queue (c .before .before .before .args .b)) (c .before .classes .ensures) (c .before .before .static-size .ensures .0),
+  c .select .ensures .1,
+)
 
 pub select-spec : {M : Type 1} → statement M
 select-spec =

@@ -24,10 +24,14 @@ copy-requires-2 c κs = search needs
 returns : tie.Need-returns
 unfolding lastOf
 returns c =
-    let a = c .before .before .before .before .before .before .before .before .args in
-    ap₂ kept
-    (ap (take (length (a .f .now))) (c .before .before .before .before .copy .ensures) ∙ stored-splice _ 0 (a .f .now) (omega arith))
-    (ap (take (length (a .a .now))) (c .before .copy2 .ensures) ∙ stored-splice _ 0 (a .a .now) (omega arith))
+    let s = c .before .before .before .before .before .before .before .before in
+    let a = s .args in (
+      ap₂ kept
+          (ap (take (length (a .f .now))) (c .before .before .before .before .copy .ensures) ∙ stored-splice _ 0 (a .f .now) (omega arith))
+          (ap (take (length (a .a .now))) (c .before .copy2 .ensures) ∙ stored-splice _ 0 (a .a .now) (omega arith)),
+      s .pre .0,
+      s .pre .1,
+    )
 
 pub remember-spec : {M : Type 1} → statement M
 remember-spec =

@@ -18,8 +18,10 @@ copy-requires c κs = search needs
 returns : tie.Need-returns
 unfolding latchOf
 returns c =
-    let a = c .before .before .before .before .args in
-    ap (selected (a .sequence .0) (a .time)) (ap (take (length (a .o .now))) (c .before .copy .ensures) ∙ stored-splice _ 0 (a .o .now) (omega arith))
+    let a = c .before .before .before .before .args in (
+      ap (selected (a .sequence .0) (a .time)) (ap (take (length (a .o .now))) (c .before .copy .ensures) ∙ stored-splice _ 0 (a .o .now) (omega arith)),
+      c .before .before .before .before .pre,
+    )
 
 pub arm-spec : {M : Type 1} → statement M
 arm-spec = tie.close (tie.spec slice-aggregate-copy copy-requires returns)

@@ -1,21 +1,28 @@
 -- `select::control` meets its contract: by the form of the object bytes.
 -- Assumes nothing.
-use mathlib.Core.Path.{refl, sym, ap, ap₂, _∙_}
+use mathlib.Core.Path.{_≡_, refl, sym, ap, ap₂, _∙_}
 use mathlib.Core.List.{List}
-use Prim.Native.Nat.{ℕ}
+use Prim.Native.Nat.{ℕ, _+_}
 use native.Mathlib.Omega.{arith}
 use borrow.Author.Needs.{needs}
-use lib.ListN.{length, take}
+use lib.ListN.{length, take, drop}
 use Rattle.octets.specs.Bytes.{splice}
 use Rattle.octets.proofs.Splice.{splice-nil}
+use Rattle.control.specs.declared.Crobs.{Crobs}
 use Rattle.control.specs.declared.Form.{Form}
-use Rattle.control.specs.Objects.{crobsBy, countBy}
+use Rattle.control.specs.declared.Form.the-variants.{Objects}
+use Rattle.control.specs.Objects.{Holding, crobsBy}
 use Rattle.control.specs.Status.{echoOf, echoWith}
 use Rattle.control.proofs.FormLaws.{formed-fits}
+use Rattle.control.proofs.ObjectLaws.{crobs-length}
 use Rattle.select.specs.Select.{latchOf, statusesBy, echoBy, carriedBy, latchBy}
 use Rattle.select.proofs.Laws.{effect-wrong, effect-objects}
 use Rattle.select.proofs.control.Statement.{statement}
 use Rattle.select.proofs.control.Tie as tie
+
+-- as many objects as a faultless form says
+held-count : {c : Crobs} {x : Form} (w n : ℕ) (o : List ℕ) → x ≡ Objects w n → Holding c (crobsBy x o) → c .count ≡ n
+held-count w n o e h = h .count ∙ ap (λ (y : Form). length (crobsBy y o)) e ∙ crobs-length w n (drop (3 + w) o)
 
 header-requires : tie.Need-header-requires
 header-requires c κs = search needs
@@ -45,8 +52,10 @@ statuses-requires c κs =
     let s = hd .before .before .before in
     let a = s .args in
     let form = sym (hd .header .ensures) ∙ wd .count .given .1 in
-    let fit = formed-fits (a .o .now) (wd .count .given .0 .0) (wd .count .given .0 .1 .0) form in
-    let count = c .before .objects .ensures .1 ∙ ap countBy form in
+    let w = wd .count .given .0 .0 in
+    let n = wd .count .given .0 .1 .0 in
+    let fit = formed-fits (a .o .now) w n form in
+    let count = held-count w n (a .o .now) form (c .before .objects .ensures) in
     omega (arith, count, fit .few)
 
 answer-requires : tie.Need-answer-requires
@@ -73,7 +82,7 @@ returns c =
     rw
     (effect-wrong (a .outputs) (a .arm-time) (latchOf (a .latch)) (a .f) (a .sequence .0) (a .time) (a .o .now) (fl .fault .given .0 .0)
     (sym (hd .header .ensures) ∙ fl .fault .given .1))
-    (record { fault = refl; len = refl; lent = sym (splice-nil (a .out .now) 4); carried = c .before .none .ensures .0; latch = c .empty .ensures })
+    (record { fault = refl; len = refl; lent = sym (splice-nil (a .out .now) 4); carried = c .before .none .ensures; latch = c .empty .ensures .0; counted = c .empty .ensures .1 })
 
 same-length : tie.Need-same-length
 same-length c = search needs
@@ -90,9 +99,9 @@ returns-2 c =
     let w = wd .count .given .0 .0 in
     let n = wd .count .given .0 .1 .0 in
     let form = sym (hd .header .ensures) ∙ wd .count .given .1 in
-    let cs = ob .ensures .0 ∙ ap (λ (x : Form). crobsBy x (a .o .now)) form in
+    let cs = ob .ensures .objects ∙ ap (λ (x : Form). crobsBy x (a .o .now)) form in
     let by = st .ensures .0 ∙ ap₂ (statusesBy (a .f) (a .outputs)) (op .ensures) cs in
-    let ss = ap (λ (k : ℕ). take k (st .result)) (sym (ob .ensures .1 ∙ ap countBy form)) ∙ by in
+    let ss = ap (λ (k : ℕ). take k (st .result)) (sym (held-count w n (a .o .now) form (ob .ensures))) ∙ by in
     rw (effect-objects (a .outputs) (a .arm-time) (latchOf (a .latch)) (a .f) (a .sequence .0) (a .time) (a .o .now) w n form)
     (record {
       fault = refl;
@@ -102,8 +111,9 @@ returns-2 c =
       lent =
           an .ensures .0 ∙ ap (λ (x : Form). splice (a .out .now) 4 (echoBy (a .f) (echoWith x (st .result) (a .o .now)))) form
           ∙ ap (λ (x : List ℕ). splice (a .out .now) 4 (echoBy (a .f) (echoOf w x (a .o .now)))) ss;
-      carried = c .before .carry .ensures ∙ ap₂ (carriedBy (a .f)) cs by;
-      latch = c .latch-after .ensures ∙ ap (λ (x : List ℕ). latchBy (a .f) x (a .sequence .0) (a .time) (a .o .now)) ss;
+      carried = rw (← ap₂ (carriedBy (a .f)) cs by) (c .before .carry .ensures);
+      latch = c .latch-after .ensures .0 ∙ ap (λ (x : List ℕ). latchBy (a .f) x (a .sequence .0) (a .time) (a .o .now)) ss;
+      counted = c .latch-after .ensures .1;
     })
 
 pub control-spec : {M : Type 1} → statement M

@@ -6,7 +6,7 @@ use Prim.Native.Nat.{ℕ}
 use lib.ListN.{length, replicate}
 use Rattle.laws.proofs.Loops.{long}
 use Rattle.laws.proofs.Filling.{take-replicate}
-use Rattle.select.proofs.Laws.{length-listOf}
+use Rattle.control.proofs.ObjectLaws.{length-listOf}
 use Rattle.select.proofs.statuses.Statement.{statement}
 use Rattle.select.proofs.statuses.Tie as tie
 
