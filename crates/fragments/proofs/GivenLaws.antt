@@ -132,12 +132,12 @@ module _ (q : ℕ) (r : Deed) (b a₁ a₂ : List ℕ) (d : S.Deed) (w : Worked 
 
 pub counted-left : (o s : Outstation) (b : Buffer) (x : Session) → s .points ≡ o .points → s .buffer ≡ b → s .session ≡ x
     → (Counted o → b .count ≤ eventsMax) → (Counted o → SessionCounted x) → Counted o → Counted s
-counted-left o s b x points buffer session events kept c =
+counted-left o s b x points buffer session events keeps c =
     record {
       binaries = rw points (c .binaries);
       analogs = rw points (c .analogs);
       events = rw buffer (events c);
-      session = rw session (kept c);
+      session = rw session (keeps c);
     }
 
 pub counted-kept : (x : Session) (m : Last) (l : Latch) → x .last ≡ m → x .latch ≡ l → m .«request_len» ≤ fragmentMax → m .«answer_len» ≤ answerMax

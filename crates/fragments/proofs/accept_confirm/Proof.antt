@@ -34,9 +34,9 @@ returns c =
       operated = c .before .before .before .none .ensures;
       lent = refl;
       counted =
-          counted-left (a .o) _ _ _ (left .1 .0) (left .1 .1 .0) (left .1 .1 .1)
+          counted-left (a .o) _ _ _ (left .1) (left .2) (left .3)
           (λ k. c .before .before .release .ensures .1)
-          (λ k. counted-kept _ _ _ (idle .1 .0) (idle .1 .1) (k .session .request) (k .session .answer) (k .session .objects));
+          (λ k. counted-kept _ _ _ (idle .1) (idle .2) (k .session .request) (k .session .answer) (k .session .objects));
     }
 
 pub accept-confirm-spec : {M : Type 1} → statement M

@@ -77,14 +77,14 @@ returns c =
     let size = worked .size in
     let room : rd .result .size ≤ length (a .out .now) = omega (arith, most, size, c .before .before .before .before .before .before .before .before .before .before .before .before .before .before .before .before .before .before .before .before .before .before .before .pre) in
     let left = c .left-with .ensures in
-    let kept = c .before .session-of .ensures in
+    let keeps = c .before .session-of .ensures in
     let last = c .before .before .before .remember .ensures in
     let counts =
-    counted-left (a .o) (c .left-with .result) _ _ (left .1 .0) (left .1 .1 .0) (left .1 .1 .1)
+    counted-left (a .o) (c .left-with .result) _ _ (left .1) (left .2) (left .3)
     (λ k. omega (arith, re .ensures .4, k .events))
-    (λ k. counted-kept _ _ _ (kept .1 .0) (kept .1 .1) (last .1 .0) (last .1 .1) (worked .counted)) in
+    (λ k. counted-kept _ _ _ (keeps .1) (keeps .2) (last .1) (last .2) (worked .counted)) in
     read-given (a .o) (c .left-with .result) (a .q .0) (a .time) (a .f .now) (rd .result) (a .out .now) _ _ worked _ marked _ _ (left .0)
-    (kept .0) counts _ (c .before .before .before .before .before .before .before .put-header .ensures) room (c .before .before .none .result) (c .before .before .none .ensures) (last .0)
+    (keeps .0) counts _ (c .before .before .before .before .before .before .before .put-header .ensures) room (c .before .before .none .result) (c .before .before .none .ensures) (last .0)
 
 pub answer-read-spec : {M : Type 1} → statement M
 answer-read-spec =

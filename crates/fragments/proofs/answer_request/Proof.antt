@@ -107,9 +107,9 @@ returns c =
     let keeps = c .before .before .session-of .ensures in
     let last = c .before .before .before .remember .ensures in
     let counts =
-    counted-left (a .o) (c .left-with .result) _ _ (leaves .1 .0) (leaves .1 .1 .0) (leaves .1 .1 .1)
+    counted-left (a .o) (c .left-with .result) _ _ (leaves .1) (leaves .2) (leaves .3)
     (λ k. omega (arith, c .before .before .before .before .before .before .before .before .before .clear .ensures .1, k .events))
-    (λ k. counted-kept _ _ _ (keeps .1 .0) (keeps .1 .1) (last .1 .0) (last .1 .1) (worked .counted)) in
+    (λ k. counted-kept _ _ _ (keeps .1) (keeps .2) (last .1) (last .2) (worked .counted)) in
     request-any (a .o) (c .left-with .result) (a .q .0) (a .time) (a .f .now) (dd .result) (a .out .now) _ _ worked _ left _ _ (leaves .0)
     (keeps .0) counts _ (pa .result) _ (a .function) (silent-objects w (a .q .0) (a .function) (a .time) (objectsOf (a .f .now)))
     (pa .ensures .0) (pa .ensures .1) room (c .before .answer-as .ensures) (last .0)

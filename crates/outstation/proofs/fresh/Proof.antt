@@ -25,9 +25,10 @@ returns c =
     let u = c .before .before .before .before .before .args .u in
     let points = c .before .before .before .before .fresh-points .ensures in
     let none = c .before .before .before .empty .ensures in
-    let session = c .before .before .fresh-session .ensures in
-    (set-up u _ _ _ (points .0) (none .0) (session .0),
-     λ bs an. record { binaries = omega (arith, bs, points .1 .0); analogs = omega (arith, an, points .1 .1); events = omega (arith, none .1); session = session .1 })
+    let session = c .before .before .fresh-session .ensures in (
+      set-up u _ _ _ (points .0) (none .0) (session .0),
+      λ bs an. record { binaries = omega (arith, bs, points .1); analogs = omega (arith, an, points .2); events = omega (arith, none .1); session = session .1 },
+    )
 
 pub fresh-spec : {M : Type 1} → statement M
 fresh-spec = tie.close (tie.spec fresh-points-requires empty-requires fresh-session-requires cast-t5 cast-t6 returns)

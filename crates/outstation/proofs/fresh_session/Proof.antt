@@ -16,9 +16,10 @@ returns : tie.Need-returns
 unfolding exchangeOf
 returns c =
     let last = c .before .none .ensures in
-    let latch = c .empty .ensures in
-    (λ k. record { restarted = true; wait = Idle; last = last .0 k; latch = latch .0 k },
-     record { request = last .1 .0; answer = last .1 .1; objects = latch .1 })
+    let latch = c .empty .ensures in (
+      λ k. record { restarted = true; wait = Idle; last = last .0 k; latch = latch .0 k },
+      record { request = last .1; answer = last .2; objects = latch .1 },
+    )
 
 pub fresh-session-spec : {M : Type 1} → statement M
 fresh-session-spec = tie.close (tie.spec none-requires empty-requires returns)
