@@ -436,7 +436,7 @@ pub fn buffer_image(b: Buffer) -> BufferImage
 
 // No event held, none dropped.
 pub fn no_events() -> BufferImage
-    ensures { λ r. ⌜ queue (bufferOf r) ≡ record { held = []; overflow = false } ⌝ }
+    ensures { λ r. ⌜ (queue (bufferOf r) ≡ record { held = []; overflow = false }) × (r .count ≡ 0) ⌝ }
 {
     let v = value_image(Value::Long(0));
     let s = ShownImage {

@@ -1,14 +1,16 @@
 -- Laws of a setup: what its limits tell, and the outstation that it gives.
 -- Assumes nothing.
 use mathlib.Core.Path.{_≡_, refl, sym, ap, _∙_}
-use mathlib.Core.Bool.{Bool, true, false, not, _&&_}
+use mathlib.Core.Bool.{Bool, true, false, not, cond, _&&_}
 use mathlib.Core.List.{List, [], map}
 use Prim.Native.Nat.{ℕ, _≤_}
 use native.Mathlib.Omega.{arith}
 use borrow.Author.Tests.{le-leb, leb-true, ne-eqb, eq-eqb}
 use lib.Dec.{leb, eqb}
 use lib.ListN.{take}
+use Rattle.laws.specs.Limits.{pointsMax}
 use Rattle.laws.specs.Lists.{all}
+use Rattle.laws.proofs.Choices.{split}
 use Rattle.laws.proofs.AllLaws.{refuted}
 use Rattle.points.specs.Setup.{classOk, analogOk, freshBinary, freshAnalog}
 use Rattle.points.specs.declared.AnalogPoint.{AnalogPoint}
@@ -20,7 +22,7 @@ use Rattle.events.specs.Queue.{queue}
 use Rattle.outstation.specs.declared.Setup.{Setup}
 use Rattle.outstation.specs.declared.Session.{Session}
 use Rattle.outstation.specs.Setup.{binaryClasses, analogSetups, setupOk}
-use Rattle.outstation.specs.World.{exchangeOf, freshExchange, world, restarted}
+use Rattle.outstation.specs.World.{exchangeOf, freshExchange, world, restarted, bareSetup}
 use Rattle.laws.proofs.AllLoop.{map-take}
 
 -- the limits that are tests of numbers
@@ -68,6 +70,13 @@ bounds u h =
       some = leb-true _ _ (j .0);
       confirm = leb-true _ _ (k .0);
     }
+
+-- the setup that a restart keeps has no more points than there is room for
+pub kept-within : (u : Setup) → (cond (setupOk u) u bareSetup .«binary_count» ≤ pointsMax) × (cond (setupOk u) u bareSetup .«analog_count» ≤ pointsMax)
+kept-within u =
+    split (λ (v : Setup). (v .«binary_count» ≤ pointsMax) × (v .«analog_count» ≤ pointsMax)) (setupOk u)
+    (λ h. let b = bounds u h in (b .binaries, b .analogs))
+    (λ h. (omega arith, omega arith))
 
 -- a setup that breaks one is not accepted
 pub broken : (u : Setup) → (Bounds u → ⊥) → false ≡ setupOk u

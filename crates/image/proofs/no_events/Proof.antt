@@ -11,7 +11,7 @@ value-image-requires c κs = search needs
 
 returns : tie.Need-returns
 unfolding queue bufferOf
-returns c = refl
+returns c = (refl, refl)
 
 pub no-events-spec : {M : Type 1} → statement M
 no-events-spec = tie.close (tie.spec value-image-requires returns)
