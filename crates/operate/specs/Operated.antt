@@ -98,7 +98,7 @@ pub record HandsNone (a : Answer) (over : List Crob) : Type 0 where
 -- a call that is the accepted request r, answered a
 pub record Hands (outputs arm : ℕ) (h : List Request) (r : Request) (a : Answer) (over : List Crob) : Type 0 where
   pub reply : isReply a ≡ true
-  -- it came no earlier than the request before it
+  -- no request came earlier than the one before it
   pub ordered : InOrder (r ∷ h)
   -- what the list of requests says
   pub hands : over ≡ Q.handed outputs arm h r
