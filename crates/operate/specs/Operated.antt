@@ -1,4 +1,4 @@
--- What is handed to the host over every list of calls: on OPERATE only what was selected, on a repeat nothing.
+-- What is handed to the host over every list of calls: on OPERATE only what was selected, on a repeat or by any other call nothing.
 -- Assumes nothing.
 use Prim.Native.Nat.{ℕ, _+_}
 use mathlib.Core.Path.{_≡_}

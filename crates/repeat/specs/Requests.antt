@@ -26,7 +26,7 @@ functionIn r = functionOf (r .bytes)
 abbrev pub objectsIn : Request → List ℕ
 objectsIn r = objectsOf (r .bytes)
 
--- their times never fall: each request is no earlier than the one before it
+-- the times of a list of requests never fall: none came earlier than the one before it
 abbrev pub InOrder : List Request → Type 0
 InOrder [] = Unit {0}
 InOrder (r ∷ []) = Unit {0}
