@@ -1,2 +1,4 @@
+pub mod Times
 pub mod Steps
+pub mod Gives
 pub mod Theorem

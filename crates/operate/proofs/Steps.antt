@@ -1,6 +1,6 @@
 -- One call: the outstation keeps the last request and the latch that the list of requests leaves, and hands over what that list says.
 -- Assumes nothing.
-use Prim.Native.Nat.{ℕ, suc}
+use Prim.Native.Nat.{ℕ, suc, _≤_}
 use mathlib.Core.Path.{_≡_, refl, sym, ap, _∙_}
 use mathlib.Core.Bool.{Bool, true, false, cond}
 use mathlib.Core.List.{List, [], _∷_, _++_}
@@ -20,7 +20,7 @@ use Rattle.request.specs.Parse.{Parsed, headers, fault}
 use Rattle.static_objects.specs.Static.{readOf}
 use Rattle.repeat.specs.Repeat.{Memory, nothing, kept, isRepeat}
 use Rattle.repeat.specs.Requests as Q
-use Rattle.repeat.specs.Requests.{Request, Acted, sequenceIn, functionIn, objectsIn, byFunction, acted, after, repeated}
+use Rattle.repeat.specs.Requests.{Request, Acted, sequenceIn, functionIn, objectsIn, InOrder, byFunction, acted, after, repeated}
 use Rattle.repeat.proofs.Controls.{controls-safe}
 use Rattle.outstation.specs.declared.Reading.{Reading}
 use Rattle.outstation.specs.declared.Wait.{Wait}
@@ -33,6 +33,7 @@ use Rattle.outstation.specs.Step as S
 use Rattle.outstation.specs.Step.{Call, reading, table, fragment, Answer, Result, Deed, onHeard, handed}
 use Rattle.laws.proofs.Choices.{by, both, split}
 use Rattle.operate.specs.Operated.{one, requestBy, requestOf, isReply, Hands, Handing}
+use Rattle.operate.proofs.Times.{time-ok, heard-time, Since, since-start, since-later, since-next, since-request}
 
 -- ---- a deed hands over what the list of requests says, and leaves the latch that it says
 
@@ -72,13 +73,15 @@ module _ (outputs arm : ℕ) where
   latest-again p h n =
       by (isRepeat (after outputs arm h .last) (p .bytes)) (λ t. rw t t) (λ t. rw t (kept-again (p .bytes) (p .answer) n))
 
-  hands-of : (h : List Request) (r : Request) (a : Answer) → isReply a ≡ true → handed a ≡ Q.handed outputs arm h r → Hands outputs arm h r a
-  hands-of h r a p e =
+  hands-of : (h : List Request) (r : Request) (a : Answer) → isReply a ≡ true → InOrder (r ∷ h) → handed a ≡ Q.handed outputs arm h r
+      → Hands outputs arm h r a (handed a)
+  hands-of h r a p i e =
       let safe = controls-safe outputs arm in
       record {
         reply = p;
+        ordered = i;
         hands = e;
-        selected = λ f n. safe .selected h r f (λ z. n (e ∙ z));
+        selected = λ f n. safe .selected h r i f (λ z. n (e ∙ z));
         whole = λ f x s. e ∙ safe .whole h r f x s;
         again =
             λ q earlier b s n.
@@ -101,8 +104,8 @@ pub record Extra : Type 0 where
 
 -- what holds of both cases of a reading
 on-heard {ℓ} : {A : Type 0} (P : A → Type ℓ) (v : Outcome Heard) {x : Heard → A} {y : ℕ → A}
-    → ((a : Heard) → P (x a)) → ((n : ℕ) → P (y n)) → P (onHeard v x y)
-on-heard P (accepted a) p q = p a
+    → ((a : Heard) → v ≡ accepted a → P (x a)) → ((n : ℕ) → P (y n)) → P (onHeard v x y)
+on-heard P (accepted a) p q = p a refl
 on-heard P (refused n) p q = q n
 
 -- what holds of every case of a fragment
@@ -136,14 +139,17 @@ module _ (outputs arm : ℕ) where
   pub record Sim (w : World) (h : List Request) : Type 0 where
     pub extra : Extra
     pub is : w ≡ view h extra
+    -- the latest of them came no later than the clock
+    pub since : Since (extra .clock) h
 
   -- a call that is the requests rs leaves what they leave, and hands over what they say
   pub record Does (h rs : List Request) (x : Result) : Type 0 where
     pub sim : Sim (x .state) (rs ++ h)
-    pub handing : Handing outputs arm h rs (x .answer)
+    pub handing : Handing outputs arm h rs (x .answer) (handed (x .answer))
 
-  none-ok : (h : List Request) (x : Extra) (a : Answer) → isReply a ≡ false → handed a ≡ [] → Does h [] (record { state = view h x; answer = a })
-  none-ok h x a p e = record { sim = record { extra = x; is = refl }; handing = record { reply = p; none = e } }
+  none-ok : (h : List Request) (x : Extra) → Since (x .clock) h → (a : Answer) → isReply a ≡ false → handed a ≡ []
+      → Does h [] (record { state = view h x; answer = a })
+  none-ok h x k a p e = record { sim = record { extra = x; is = refl; since = k }; handing = record { reply = p; none = e } }
 
   -- ---- readings
 
@@ -155,41 +161,44 @@ module _ (outputs arm : ℕ) where
   raisedTo x k v =
       record { confirmTime = x .confirmTime; clock = x .clock; inputs = x .inputs; queue = k; restarted = x .restarted; wait = v }
 
-  raise-ok : (h : List Request) (x : Extra) (e : Event) → Sim (S.raise e (view h x)) h
+  raise-ok : (h : List Request) (x : Extra) → Since (x .clock) h → (e : Event) → Sim (S.raise e (view h x)) h
   unfolding S.raise
-  raise-ok h x e =
+  raise-ok h x k e =
       by (ltb (length (x .queue .held)) eventsMax)
-      (λ t. rw t (record { extra = raisedTo x (pushed e (x .queue)) (x .wait); is = refl }))
-      (λ t. rw t (record { extra = raisedTo x (pushed e (x .queue)) (S.noted (x .wait)); is = refl }))
+      (λ t. rw t (record { extra = raisedTo x (pushed e (x .queue)) (x .wait); is = refl; since = k }))
+      (λ t. rw t (record { extra = raisedTo x (pushed e (x .queue)) (S.noted (x .wait)); is = refl; since = k }))
 
-  taken-ok : (h : List Request) (x : Extra) (r : Reading) (a : Heard) → Sim (S.taken (view h x) r a) h
+  taken-ok : (h : List Request) (x : Extra) → Since (x .clock) h → (r : Reading) (a : Heard) → hear (x .clock) (x .inputs) r ≡ accepted a
+      → Sim (S.taken (view h x) r a) h
   unfolding S.takenWith
-  taken-ok h x r a =
+  taken-ok h x k r a e =
+      let l = since-later h (x .clock) (r .time) (heard-time (x .clock) (x .inputs) r a e) k in
       split (λ (w : World). Sim w h) (a .raised)
-      (λ _. raise-ok h (heardAt x (r .time) (a .inputs)) (a .event))
-      (λ _. record { extra = heardAt x (r .time) (a .inputs); is = refl })
+      (λ _. raise-ok h (heardAt x (r .time) (a .inputs)) l (a .event))
+      (λ _. record { extra = heardAt x (r .time) (a .inputs); is = refl; since = l })
 
-  reading-ok : (h : List Request) (r : Reading) (x : Extra) → Does h [] (S.readingStep r (view h x))
+  reading-ok : (h : List Request) (r : Reading) (x : Extra) → Since (x .clock) h → Does h [] (S.readingStep r (view h x))
   unfolding S.readingStep
-  reading-ok h r x =
+  reading-ok h r x k =
       on-heard (Does h []) (hear (x .clock) (x .inputs) r)
-      (λ a. record { sim = taken-ok h x r a; handing = record { reply = refl; none = refl } })
-      (λ n. none-ok h x (S.took 0 n) refl refl)
+      (λ a e. record { sim = taken-ok h x k r a e; handing = record { reply = refl; none = refl } })
+      (λ n. none-ok h x k (S.took 0 n) refl refl)
 
-  table-ok : (h : List Request) (rs : List Reading) (k : ℕ) (x : Extra) → Does h [] (S.tableFrom rs k (view h x))
+  table-ok : (h : List Request) (rs : List Reading) (n : ℕ) (x : Extra) → Since (x .clock) h → Does h [] (S.tableFrom rs n (view h x))
   unfolding S.tableFrom
-  table-ok h [] k x = none-ok h x (S.took k 0) refl refl
-  table-ok h (r ∷ rs) k x =
+  table-ok h [] n x k = none-ok h x k (S.took n 0) refl refl
+  table-ok h (r ∷ rs) n x k =
       on-heard (Does h []) (hear (x .clock) (x .inputs) r)
-      (λ a. let m = taken-ok h x r a in rw (m .is) (table-ok h rs (suc k) (m .extra)))
-      (λ n. none-ok h x (S.took k n) refl refl)
+      (λ a e. let m = taken-ok h x k r a e in rw (m .is) (table-ok h rs (suc n) (m .extra) (m .since)))
+      (λ y. none-ok h x k (S.took n y) refl refl)
 
   -- ---- CONFIRM: neither the last request nor the latch changes
 
-  confirm-ok : (h : List Request) (x : Extra) (v : Wait) (q : ℕ) (uns : Bool) (time : ℕ) → Does h [] (S.confirmStep (view h x) v q uns time)
+  confirm-ok : (h : List Request) (x : Extra) → Since (x .clock) h → (v : Wait) (q : ℕ) (uns : Bool) (time : ℕ) → x .clock ≤ time
+      → Does h [] (S.confirmStep (view h x) v q uns time)
   unfolding S.confirmStep S.confirmedStep
-  confirm-ok h x Idle q uns time = none-ok h x (S.refuses 32) refl refl
-  confirm-ok h x (Awaiting awaited sent shown since) q uns time =
+  confirm-ok h x k Idle q uns time l = none-ok h x k (S.refuses 32) refl refl
+  confirm-ok h x k (Awaiting awaited sent shown since) q uns time l =
       split (Does h []) (confirmed (x .confirmTime) q uns time (awaited .0) sent)
       (λ _. none-ok h
       (record {
@@ -200,17 +209,18 @@ module _ (outputs arm : ℕ) where
         restarted = x .restarted;
         wait = Idle;
       })
-      S.accepts refl refl)
-      (λ _. none-ok h x (S.refuses 32) refl refl)
+      (since-later h (x .clock) time l k) S.accepts refl refl)
+      (λ _. none-ok h x k (S.refuses 32) refl refl)
 
   -- ---- requests
 
   -- one that is no repeat
-  module _ (h : List Request) (x : Extra) (time : ℕ) (f : List ℕ) (d : Deed) (new : isRepeat (after outputs arm h .last) f ≡ false) where
-    new-ok : (r : Request) (a : Answer) → r .bytes ≡ f → actedOf d ≡ acted outputs arm (after outputs arm h .latch) r → isReply a ≡ true
+  module _ (h : List Request) (x : Extra) (k : Since (x .clock) h) (time : ℕ) (in-time : x .clock ≤ time) (f : List ℕ) (d : Deed) (new : isRepeat (after outputs arm h .last) f ≡ false) where
+    new-ok : (r : Request) (a : Answer) → r .bytes ≡ f → r .time ≡ time → actedOf d ≡ acted outputs arm (after outputs arm h .latch) r → isReply a ≡ true
         → handed a ≡ d .operated → Does h (r ∷ []) (record { state = S.done (view h x) time f (r .answer) d; answer = a })
     unfolding after
-    new-ok r a b e p q =
+    new-ok r a b y e p q =
+        let l₂ : x .clock ≤ r .time = rw y in-time in
         let t : repeated outputs arm h r ≡ false = rw b new in
         let l : d .latch ≡ acted outputs arm (after outputs arm h .latch) r .latch = ap (λ (y : Acted). y .latch) e in
         let c : d .operated ≡ acted outputs arm (after outputs arm h .latch) r .carried = ap (λ (y : Acted). y .carried) e in
@@ -227,15 +237,16 @@ module _ (outputs arm : ℕ) where
                       wait = d .wait;
                     };
                 is = rw (t, l, b);
+                since = rw (← y) (since-request h (x .clock) r l₂ k);
               };
-          handing = hands-of outputs arm h r a p (q ∙ c ∙ rw t refl);
+          handing = hands-of outputs arm h r a p (since-next h (x .clock) r l₂ k) (q ∙ c ∙ rw t refl);
         }
 
     read-ok : (q : ℕ) → functionOf f ≡ 1 → actedOf d ≡ record { carried = []; latch = noSelect } → Does h (one f time []) (S.readStep (view h x) q time f d)
     unfolding S.readStep
     read-ok q n e =
         let r : Request = record { bytes = f; time = time; answer = [] } in
-        new-ok r (S.answers (S.responseBytes q d) []) refl (e ∙ sym (read-acts outputs arm (after outputs arm h .latch) r n)) refl
+        new-ok r (S.answers (S.responseBytes q d) []) refl refl (e ∙ sym (read-acts outputs arm (after outputs arm h .latch) r n)) refl
         (sym (ap (λ (y : Acted). y .carried) e))
 
     request-ok : (q function : ℕ)
@@ -244,31 +255,31 @@ module _ (outputs arm : ℕ) where
     unfolding S.requestStep
     request-ok q function e =
         by (eqb function 6)
-        (λ t. rw t (new-ok (record { bytes = f; time = time; answer = [] }) (S.silent (d .operated)) refl (e []) refl refl))
-        (λ t. rw t (new-ok (record { bytes = f; time = time; answer = S.responseBytes q d }) (S.answers (S.responseBytes q d) (d .operated)) refl
+        (λ t. rw t (new-ok (record { bytes = f; time = time; answer = [] }) (S.silent (d .operated)) refl refl (e []) refl refl))
+        (λ t. rw t (new-ok (record { bytes = f; time = time; answer = S.responseBytes q d }) (S.answers (S.responseBytes q d) (d .operated)) refl refl
         (e (S.responseBytes q d)) refl refl))
 
   -- a repeat moves the clock
-  repeat-ok : (h : List Request) (x : Extra) (function time : ℕ) (r : Request) → repeated outputs arm h r ≡ true
-      → Does h (r ∷ []) (S.repeatStep (view h x) function time)
+  repeat-ok : (h : List Request) (x : Extra) → Since (x .clock) h → (function : ℕ) (r : Request) → x .clock ≤ r .time → repeated outputs arm h r ≡ true
+      → Does h (r ∷ []) (S.repeatStep (view h x) function (r .time))
   unfolding S.repeatStep after
-  repeat-ok h x function time r t =
+  repeat-ok h x k function r l t =
       record {
-        sim = record { extra = heardAt x time (x .inputs); is = rw t };
+        sim = record { extra = heardAt x (r .time) (x .inputs); is = rw t; since = since-request h (x .clock) r l k };
         handing =
-            hands-of outputs arm h r _ (by (eqb function 6) (λ s. rw s) (λ s. rw s))
+            hands-of outputs arm h r _ (by (eqb function 6) (λ s. rw s) (λ s. rw s)) (since-next h (x .clock) r l k)
             (by (eqb function 6) (λ s. rw (s, t)) (λ s. rw (s, t)));
       }
 
   -- ---- fragments
 
-  module _ (h : List Request) (x : Extra) (time : ℕ) (f : List ℕ) where
+  module _ (h : List Request) (x : Extra) (k : Since (x .clock) h) (time : ℕ) (in-time : x .clock ≤ time) (f : List ℕ) where
     reads-ok : eqb (functionOf f) 1 ≡ true → (q : ℕ) (p : Parsed)
         → Does h (requestBy (readAsk q p) (view h x) time f) (S.onAsk (readAsk q p) (view h x) time f)
     reads-ok e q (headers hs) =
-        read-ok h x time f (S.readDeed (view h x) q time hs) (read-new (after outputs arm h .last) f e) q (eqb-true (functionOf f) 1 e) refl
+        read-ok h x k time in-time f (S.readDeed (view h x) q time hs) (read-new (after outputs arm h .last) f e) q (eqb-true (functionOf f) 1 e) refl
     reads-ok e q (fault n) =
-        read-ok h x time f (S.plainDeed (view h x) (S.readFault n) (x .restarted)) (read-new (after outputs arm h .last) f e) q
+        read-ok h x k time in-time f (S.plainDeed (view h x) (S.readFault n) (x .restarted)) (read-new (after outputs arm h .last) f e) q
         (eqb-true (functionOf f) 1 e) refl
 
     abbrev deed : Deed
@@ -284,29 +295,30 @@ module _ (outputs arm : ℕ) where
         (cond (isRepeat (after outputs arm h .last) f) (S.repeatStep (view h x) function time) (S.requestStep (view h x) q function time f d))
     asks-ok q function d e =
         split (Does h (one f time (cond (eqb function 6) [] (S.responseBytes q d)))) (isRepeat (after outputs arm h .last) f)
-        (λ t. repeat-ok h x function time (record { bytes = f; time = time; answer = cond (eqb function 6) [] (S.responseBytes q d) }) t)
-        (λ t. request-ok h x time f d t q function e)
+        (λ t. repeat-ok h x k function (record { bytes = f; time = time; answer = cond (eqb function 6) [] (S.responseBytes q d) }) in-time t)
+        (λ t. request-ok h x k time in-time f d t q function e)
 
     ask-ok : Does h (requestBy (ask (x .inputs) f) (view h x) time f) (S.onAsk (ask (x .inputs) f) (view h x) time f)
     ask-ok =
         ask-split (λ (k : Ask). Does h (requestBy k (view h x) time f) (S.onAsk k (view h x) time f)) (x .inputs) f
-        (none-ok h x (S.refuses 31) refl refl)
-        (λ q uns. confirm-ok h x (x .wait) q uns time)
+        (none-ok h x k (S.refuses 31) refl refl)
+        (λ q uns. confirm-ok h x k (x .wait) q uns time in-time)
         reads-ok
         (asks-ok (sequenceOf (controlOf f)) (functionOf f) deed deed-is)
 
-  step-view : (h : List Request) (x : Extra) (c : Call) → Does h (requestOf c (view h x)) (S.step c (view h x))
+  step-view : (h : List Request) (x : Extra) → Since (x .clock) h → (c : Call) → Does h (requestOf c (view h x)) (S.step c (view h x))
   unfolding requestOf S.step S.fragmentStep
-  step-view h x (reading r) = reading-ok h r x
-  step-view h x (table rs) = table-ok h rs 0 x
-  step-view h x (fragment time f room) =
+  step-view h x k (reading r) = reading-ok h r x k
+  step-view h x k (table rs) = table-ok h rs 0 x k
+  step-view h x k (fragment time f room) =
       both (Does h) (badTime (x .clock) time)
-      (λ _. none-ok h x (S.refuses 1) refl refl)
-      (λ _. both (Does h) (ltb room fragmentMax) (λ _. none-ok h x (S.refuses 33) refl refl) (λ _. ask-ok h x time f))
+      (λ _. none-ok h x k (S.refuses 1) refl refl)
+      (λ t. both (Does h) (ltb room fragmentMax) (λ _. none-ok h x k (S.refuses 33) refl refl)
+      (λ _. ask-ok h x k time (time-ok (x .clock) time t) f))
 
   -- one call, from any outstation that the requests h leave
   pub step-ok : (c : Call) (w : World) (h : List Request) → Sim w h → Does h (requestOf c w) (S.step c w)
-  step-ok c w h m = rw (m .is) (step-view h (m .extra) c)
+  step-ok c w h m = rw (m .is) (step-view h (m .extra) (m .since) c)
 
 pub start-ok : (u : Setup) → Sim (u .outputs) (u .«arm_time») (restarted u) []
 unfolding restarted after
@@ -322,4 +334,5 @@ start-ok u =
             wait = Idle;
           };
       is = refl;
+      since = since-start 0;
     }

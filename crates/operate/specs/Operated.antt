@@ -1,27 +1,30 @@
--- What is handed to the host over every list of calls: on OPERATE only what was selected, on a repeat nothing.
+-- What is handed to the host over every list of calls: on OPERATE only what was selected, on a repeat or by any other call nothing.
 -- Assumes nothing.
 use Prim.Native.Nat.{ℕ, _+_}
 use mathlib.Core.Path.{_≡_}
 use mathlib.Core.Bool.{Bool, true, false, cond}
 use mathlib.Core.List.{List, [], _∷_, _++_}
 use lib.Dec.{eqb, ltb}
-use lib.ListN.{drop}
+use lib.ListN.{length, drop}
 use Rattle.laws.specs.Limits.{fragmentMax}
 use Rattle.application.specs.Fragment.{objectsOf}
 use Rattle.control.specs.declared.Crob.{Crob}
-use Rattle.control.specs.Objects.{crobs}
+use Rattle.control.specs.Objects.{crobs, listOf}
 use Rattle.repeat.specs.Requests as Q
-use Rattle.repeat.specs.Requests.{Request, functionIn, objectsIn, repeated, outcome, news}
+use Rattle.repeat.specs.Requests.{Request, functionIn, objectsIn, InOrder, repeated, outcome, news}
 use Rattle.repeat.specs.Operates.{Allowed}
 use Rattle.outstation.specs.declared.Outstation.{Outstation}
+use Rattle.outstation.specs.declared.Reading.{Reading}
 use Rattle.outstation.specs.declared.Setup.{Setup}
 use Rattle.outstation.specs.Setup.{setupOk}
 use Rattle.outstation.specs.World.{World, world, restarted}
 use Rattle.outstation.specs.Readings.{badTime}
 use Rattle.outstation.specs.Requests.{Ask, malformed, confirms, reads, misreads, asks, ask}
-use Rattle.outstation.specs.Step.{Call, reading, table, fragment, Answer, took, answers, silent, accepts, refuses, handed, responseBytes, deedBy, step}
+use Rattle.outstation.specs.Step.{Call, reading, table, fragment, Answer, took, answers, silent, accepts, refuses, responseBytes, deedBy, step}
 use Rattle.outstation.specs.Contracts.{Did}
-use Rattle.book.specs.Demand3.{Ran}
+use Rattle.fragments.specs.declared.Answered.{Answered}
+use Rattle.fragments.specs.Given.{fragmentAnswer, Given}
+use Rattle.book.specs.Demand3.{Ran, none, more}
 
 -- ---- the accepted request that a call is, if it is one
 
@@ -56,7 +59,28 @@ requestsAfter (c ∷ cs) w h = requestsAfter cs (step c w .state) (requestOf c w
 abbrev pub requestsOf : Setup → List Call → List Request
 requestsOf u cs = requestsAfter cs (restarted u) []
 
--- ---- what a call hands to the host, h the accepted requests before it
+-- ---- what a call's contract gives, and what of it is handed to the host
+
+-- of a reading or a table, whose results hold no objects; of a fragment, its result r with the lent bytes before and after
+pub data Gives : Outstation → Call → Answer → Outstation → Type 0 where
+  gaveReading : {o o₁ : Outstation} {r : Reading} {a : Answer} → Did o (reading r) a o₁ → Gives o (reading r) a o₁
+  gaveTable : {o o₁ : Outstation} {rs : List Reading} {a : Answer} → Did o (table rs) a o₁ → Gives o (table rs) a o₁
+  gaveFragment : {o : Outstation} {time : ℕ} {f : List ℕ} (r : Answered) (lent after : List ℕ)
+      → Given r lent after (step (fragment time f (length lent)) (world o))
+      → Gives o (fragment time f (length lent)) (fragmentAnswer r after) (r .state)
+
+-- "To carry out is to hand the objects to the host in the call's result, in the order asked"
+abbrev pub handedOver : {o o₁ : Outstation} {c : Call} {a : Answer} → Gives o c a o₁ → List Crob
+handedOver (gaveReading d) = []
+handedOver (gaveTable d) = []
+handedOver (gaveFragment r lent after g) = listOf (r .operated)
+
+-- all that a list of calls handed over
+abbrev pub allHanded : {o o₂ : Outstation} {cs : List Call} {ans : List Answer} → Ran Outstation Gives o cs ans o₂ → List Crob
+allHanded none = []
+allHanded (more g rest) = handedOver g ++ allHanded rest
+
+-- ---- what a call may hand over, h the accepted requests before it
 
 -- a fragment taken as a request is answered, or is silent
 abbrev pub isReply : Answer → Bool
@@ -66,49 +90,46 @@ isReply (silent operated) = true
 isReply accepts = false
 isReply (refuses n) = false
 
--- a call that is no accepted request: "no other call hands it any"
-pub record HandsNone (a : Answer) : Type 0 where
+-- a call that is no accepted request (a reading, a table, a CONFIRM, every refused fragment), answered a: "no other call hands it any"
+pub record HandsNone (a : Answer) (over : List Crob) : Type 0 where
   pub reply : isReply a ≡ false
-  pub none : handed a ≡ []
+  pub none : over ≡ []
 
--- a call that is the accepted request r
-pub record Hands (outputs arm : ℕ) (h : List Request) (r : Request) (a : Answer) : Type 0 where
+-- a call that is the accepted request r, answered a
+pub record Hands (outputs arm : ℕ) (h : List Request) (r : Request) (a : Answer) (over : List Crob) : Type 0 where
   pub reply : isReply a ≡ true
+  -- no request came earlier than the one before it
+  pub ordered : InOrder (r ∷ h)
   -- what the list of requests says
-  pub hands : handed a ≡ Q.handed outputs arm h r
+  pub hands : over ≡ Q.handed outputs arm h r
   -- an OPERATE that hands over anything: the request before it, repeats aside, was a SELECT with all statuses 0, equal objects
   -- and the preceding sequence, in time
-  pub selected : functionIn r ≡ 4 → (handed a ≡ [] → ⊥) → Allowed outputs arm h r
+  pub selected : functionIn r ≡ 4 → (over ≡ [] → ⊥) → Allowed outputs arm h r
   -- and then, where it is no repeat, it hands over all its objects in the order asked
   pub whole : functionIn r ≡ 4 → repeated outputs arm h r ≡ false → (s : Allowed outputs arm h r)
-      → handed a ≡ crobs (s .selects .width) (s .selects .count) (drop (3 + s .selects .width) (objectsIn r))
+      → over ≡ crobs (s .selects .width) (s .selects .count) (drop (3 + s .selects .width) (objectsIn r))
   -- a request equal in every byte to the one before it, not a READ, hands over nothing
-  pub again : (p : Request) (earlier : List Request) → h ≡ p ∷ earlier → r .bytes ≡ p .bytes → (functionIn r ≡ 1 → ⊥) → handed a ≡ []
-  pub repeats : repeated outputs arm h r ≡ true → handed a ≡ []
+  pub again : (p : Request) (earlier : List Request) → h ≡ p ∷ earlier → r .bytes ≡ p .bytes → (functionIn r ≡ 1 → ⊥) → over ≡ []
+  pub repeats : repeated outputs arm h r ≡ true → over ≡ []
   -- nor does any function but 4 to 6
-  pub others : (functionIn r ≡ 4 → ⊥) → (functionIn r ≡ 5 → ⊥) → (functionIn r ≡ 6 → ⊥) → handed a ≡ []
+  pub others : (functionIn r ≡ 4 → ⊥) → (functionIn r ≡ 5 → ⊥) → (functionIn r ≡ 6 → ⊥) → over ≡ []
 
 -- by the requests that the call is: none or one
-abbrev pub Handing : (outputs arm : ℕ) → List Request → List Request → Answer → Type 0
-Handing outputs arm h [] a = HandsNone a
-Handing outputs arm h (r ∷ []) a = Hands outputs arm h r a
-Handing outputs arm h (r ∷ s ∷ rs) a = ⊥
-
--- all that a list of answers handed to the host, in the order asked
-abbrev pub allHanded : List Answer → List Crob
-allHanded [] = []
-allHanded (a ∷ ans) = handed a ++ allHanded ans
+abbrev pub Handing : (outputs arm : ℕ) → List Request → List Request → Answer → List Crob → Type 0
+Handing outputs arm h [] a over = HandsNone a over
+Handing outputs arm h (r ∷ []) a over = Hands outputs arm h r a over
+Handing outputs arm h (r ∷ s ∷ rs) a over = ⊥
 
 -- what is said after a list of calls that left o₂
-pub record Operated (u : Setup) (cs : List Call) (ans : List Answer) (o₂ : Outstation) : Type 0 where
-  -- of any further call c, answered a
-  pub next : (c : Call) (a : Answer) (o₃ : Outstation) → Did o₂ c a o₃
-      → Handing (u .outputs) (u .«arm_time») (requestsOf u cs) (requestOf c (world o₂)) a
+pub record Operated (u : Setup) (o o₂ : Outstation) (cs : List Call) (ans : List Answer) (run : Ran Outstation Gives o cs ans o₂) : Type 0 where
+  -- of any further call c
+  pub next : (c : Call) (a : Answer) (o₃ : Outstation) (g : Gives o₂ c a o₃)
+      → Handing (u .outputs) (u .«arm_time») (requestsOf u cs) (requestOf c (world o₂)) a (handedOver g)
   -- all that was handed over is what the requests without their repeats hand over: nothing is carried out twice
-  pub once : allHanded ans ≡ outcome (u .outputs) (u .«arm_time») (news (u .outputs) (u .«arm_time») (requestsOf u cs))
+  pub once : allHanded run ≡ outcome (u .outputs) (u .«arm_time») (news (u .outputs) (u .«arm_time») (requestsOf u cs))
 
 -- demand 2: from any accepted setup's restart, over every list of calls of the outstation's functions
 abbrev pub OperatedOnlySelected : Type 0
 OperatedOnlySelected =
-    (u : Setup) (o o₂ : Outstation) (cs : List Call) (ans : List Answer) → setupOk u ≡ true → world o ≡ restarted u → Ran Outstation Did o cs ans o₂
-    → Operated u cs ans o₂
+    (u : Setup) (o o₂ : Outstation) (cs : List Call) (ans : List Answer) → setupOk u ≡ true → world o ≡ restarted u
+    → (run : Ran Outstation Gives o cs ans o₂) → Operated u o o₂ cs ans run

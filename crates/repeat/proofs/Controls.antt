@@ -23,7 +23,7 @@ use Rattle.select.specs.declared.ControlFunction.the-variants.{Select, Operate,
 use Rattle.select.specs.Select.{Selection, noSelect, selected, operateStatus, effectOf, byForm}
 use Rattle.select.proofs.Laws.{operate-good}
 use Rattle.repeat.specs.Repeat.{kept}
-use Rattle.repeat.specs.Requests.{Request, sequenceIn, functionIn, objectsIn, controls, acted, after, repeated, outcome, news}
+use Rattle.repeat.specs.Requests.{Request, sequenceIn, functionIn, objectsIn, InOrder, controls, acted, after, repeated, outcome, news}
 use Rattle.repeat.specs.Operates.{
   Selects,
   Allowed,
@@ -160,7 +160,19 @@ module _ (outputs arm : ℕ) (l : Selection) (r : Request) where
 
 -- ---- histories
 
+head-is : (a b : Request) (x y : List Request) → a ∷ x ≡ b ∷ y → b ≡ a
+head-is a b x y e = cc
+
 module _ (outputs arm : ℕ) where
+  -- where times never fall, the latest request that is no repeat came no later than the next request
+  latest-earlier : (h : List Request) (r s : Request) (e : List Request) → InOrder (r ∷ h) → news outputs arm h ≡ s ∷ e → s .time ≤ r .time
+  unfolding news
+  latest-earlier [] r s e i n = let z : _≡_ {A = ℕ} 0 1 = cc in absurd (omega arith)
+  latest-earlier (q ∷ h) r s e i n = go (repeated outputs arm h q) (latest-earlier h q s e (i .1)) n where
+    go : (b : Bool) → (news outputs arm h ≡ s ∷ e → s .time ≤ q .time) → cond b (news outputs arm h) (q ∷ news outputs arm h) ≡ s ∷ e → s .time ≤ r .time
+    go true ih k = let x = ih k in let y = i .0 in omega arith
+    go false ih k = rw (head-is q s (news outputs arm h) e k) (i .0)
+
   -- an armed latch was armed by the latest request that is no repeat
   pub record ArmedBy (h : List Request) (q t : ℕ) (o : List ℕ) : Type 0 where
     pub select : Request
@@ -183,7 +195,7 @@ module _ (outputs arm : ℕ) where
 
   -- objects are carried out on OPERATE only when it is allowed
   pub operates-only-selected : OperatesOnlySelected outputs arm
-  operates-only-selected h r f n = go (repeated outputs arm h r) refl n where
+  operates-only-selected h r i f n = go (repeated outputs arm h r) refl n where
     go : (b : Bool) → repeated outputs arm h r ≡ b → (cond b [] (acted outputs arm (after outputs arm h .latch) r .carried) ≡ [] → ⊥) → Allowed outputs arm h r
     go true x k = absurd (k refl)
     go false x k =
@@ -197,6 +209,7 @@ module _ (outputs arm : ℕ) where
           selects = s .arms .selects;
           objects = s .arms .objects;
           sequence = a .next ∙ ap nextOf (s .arms .sequence);
+          ordered = latest-earlier h r (s .select) (s .earlier) i (s .before);
           timely = rw (← s .arms .time) timely;
         }
 
@@ -225,9 +238,6 @@ module _ (outputs arm : ℕ) where
     go false x ih k = rw (ih, k) refl
 
 -- ---- the other way: an OPERATE that is allowed, and no repeat, carries out all its objects
-
-head-is : (a b : Request) (x y : List Request) → a ∷ x ≡ b ∷ y → b ≡ a
-head-is a b x y e = cc
 
 module _ (outputs arm : ℕ) where
   selects-arms : (l : Selection) (r : Request) → Selects outputs r → acted outputs arm l r .latch ≡ selected (sequenceIn r) (r .time) (objectsIn r)

@@ -10,7 +10,7 @@ use Rattle.control.specs.declared.Form.the-variants.{Objects}
 use Rattle.control.specs.Objects.{formed, crobs}
 use Rattle.control.specs.Status.{statuses, allZero}
 use Rattle.repeat.specs.Repeat.{answerOf}
-use Rattle.repeat.specs.Requests.{Request, sequenceIn, functionIn, objectsIn, after, repeated, handed, answered, outcome, news}
+use Rattle.repeat.specs.Requests.{Request, sequenceIn, functionIn, objectsIn, InOrder, after, repeated, handed, answered, outcome, news}
 
 -- the request is a SELECT with all statuses 0
 pub record Selects (outputs : ℕ) (s : Request) : Type 0 where
@@ -28,12 +28,14 @@ pub record Allowed (outputs arm : ℕ) (h : List Request) (r : Request) : Type 0
   pub selects : Selects outputs select
   pub objects : objectsIn r ≡ objectsIn select
   pub sequence : sequenceIn r ≡ nextOf (sequenceIn select)
+  -- the SELECT came no later than the OPERATE, and the OPERATE no later than the arm time after it
+  pub ordered : select .time ≤ r .time
   pub timely : r .time - select .time ≤ arm
 
--- an OPERATE that hands anything to the host is allowed
+-- an OPERATE that hands anything to the host is allowed, where times never fall
 abbrev pub OperatesOnlySelected : ℕ → ℕ → Type 0
 OperatesOnlySelected outputs arm =
-    (h : List Request) (r : Request) → functionIn r ≡ 4 → (handed outputs arm h r ≡ [] → ⊥) → Allowed outputs arm h r
+    (h : List Request) (r : Request) → InOrder (r ∷ h) → functionIn r ≡ 4 → (handed outputs arm h r ≡ [] → ⊥) → Allowed outputs arm h r
 
 -- an OPERATE that is allowed, and no repeat, hands over all its objects in the order asked
 abbrev pub OperatesWhole : ℕ → ℕ → Type 0

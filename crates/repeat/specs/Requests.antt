@@ -1,6 +1,6 @@
 -- A list of accepted requests, the latest first: which are repeats, what each carries out, and what it leaves behind.
 -- Assumes nothing.
-use Prim.Native.Nat.{ℕ}
+use Prim.Native.Nat.{ℕ, _≤_}
 use mathlib.Core.Bool.{Bool, cond}
 use mathlib.Core.List.{List, [], _∷_, _++_}
 use lib.Dec.{eqb}
@@ -25,6 +25,12 @@ functionIn r = functionOf (r .bytes)
 
 abbrev pub objectsIn : Request → List ℕ
 objectsIn r = objectsOf (r .bytes)
+
+-- the times of a list of requests never fall: none came earlier than the one before it
+abbrev pub InOrder : List Request → Type 0
+InOrder [] = Unit {0}
+InOrder (r ∷ []) = Unit {0}
+InOrder (r ∷ s ∷ h) = (s .time ≤ r .time) × InOrder (s ∷ h)
 
 -- what a request hands to the host, and the latch after it
 pub record Acted : Type 0 where

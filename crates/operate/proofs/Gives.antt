@@ -1,0 +1,51 @@
+-- What a call's contract gives is the step of its call, and what it hands over is what that step's answer has.
+-- Assumes nothing.
+use Prim.Native.Nat.{ℕ}
+use mathlib.Core.Path.{_≡_, refl, sym, ap, subst, _∙_}
+use mathlib.Core.List.{List}
+use lib.ListN.{length}
+use Rattle.control.specs.declared.Crob.{Crob}
+use Rattle.control.specs.Objects.{listOf}
+use Rattle.repeat.specs.Requests.{Request}
+use Rattle.outstation.specs.declared.Outstation.{Outstation}
+use Rattle.outstation.specs.World.{world}
+use Rattle.outstation.specs.Step.{Call, fragment, Answer, Result, handed, step}
+use Rattle.outstation.specs.Contracts.{Did}
+use Rattle.fragments.specs.declared.Answered.{Answered}
+use Rattle.fragments.specs.Given.{fragmentAnswer, Given}
+use Rattle.fragments.proofs.DidLaws.{given-did}
+use Rattle.operate.specs.Operated.{requestOf, Gives, gaveReading, gaveTable, gaveFragment, handedOver, Handing}
+
+-- ---- the only places that open the contracts' own records
+
+did-step : (o o₁ : Outstation) (c : Call) (a : Answer) → Did o c a o₁ → _≡_ {A = Result} (record { state = world o₁; answer = a }) (step c (world o))
+unfolding Did
+did-step o o₁ c a d = d
+
+module _ (o : Outstation) (time : ℕ) (f lent after : List ℕ) (r : Answered) (g : Given r lent after (step (fragment time f (length lent)) (world o))) where
+  given-step : _≡_ {A = Result} (record { state = world (r .state); answer = fragmentAnswer r after }) (step (fragment time f (length lent)) (world o))
+  given-step = did-step o (r .state) (fragment time f (length lent)) (fragmentAnswer r after) (given-did o time f lent after r g)
+
+  given-handed : listOf (r .operated) ≡ handed (step (fragment time f (length lent)) (world o) .answer)
+  given-handed = g .operated
+
+  -- what the struct holds is what the answer hands over
+  given-over : listOf (r .operated) ≡ handed (fragmentAnswer r after)
+  given-over = given-handed ∙ sym (ap (λ (x : Result). handed (x .answer)) given-step)
+
+-- ---- any call
+
+pub gives-step : (o o₁ : Outstation) (c : Call) (a : Answer) → Gives o c a o₁
+    → _≡_ {A = Result} (record { state = world o₁; answer = a }) (step c (world o))
+gives-step o o₁ c a (gaveReading d) = did-step o o₁ c a d
+gives-step o o₁ c a (gaveTable d) = did-step o o₁ c a d
+gives-step o o₁ c a (gaveFragment {time} {f} r lent after g) = given-step o time f lent after r g
+
+-- what is told of the answer's objects holds of those handed over
+pub gives-handing : (outputs arm : ℕ) (h : List Request) (o o₁ : Outstation) (c : Call) (a : Answer) (g : Gives o c a o₁)
+    → Handing outputs arm h (requestOf c (world o)) a (handed a) → Handing outputs arm h (requestOf c (world o)) a (handedOver g)
+unfolding requestOf
+gives-handing outputs arm h o o₁ c a (gaveReading d) x = record { reply = x .reply; none = refl }
+gives-handing outputs arm h o o₁ c a (gaveTable d) x = record { reply = x .reply; none = refl }
+gives-handing outputs arm h o o₁ c a (gaveFragment {time} {f} r lent after g) x =
+    subst (Handing outputs arm h (requestOf (fragment time f (length lent)) (world o)) a) (sym (given-over o time f lent after r g)) x
