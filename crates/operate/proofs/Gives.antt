@@ -14,20 +14,22 @@ use Rattle.outstation.specs.Contracts.{Did}
 use Rattle.fragments.specs.declared.Answered.{Answered}
 use Rattle.fragments.specs.Given.{fragmentAnswer, Given}
 use Rattle.fragments.proofs.DidLaws.{given-did}
-use Rattle.operate.specs.Operated.{requestOf, Gives, gaveReading, gaveTable, gaveFragment, handedOver, Handing}
+use Rattle.operate.specs.Operated.{requestOf, Gives, gaveReading, gaveTable, gaveFragment, handedOver, handedCount, Handing}
 
 -- ---- the only places that open the contracts' own records
 
 did-step : (o o₁ : Outstation) (c : Call) (a : Answer) → Did o c a o₁ → _≡_ {A = Result} (record { state = world o₁; answer = a }) (step c (world o))
-unfolding Did
-did-step o o₁ c a d = d
+did-step o o₁ c a d = d .result
 
-module _ (o : Outstation) (time : ℕ) (f lent after : List ℕ) (r : Answered) (g : Given r lent after (step (fragment time f (length lent)) (world o))) where
+module _ (o : Outstation) (time : ℕ) (f lent after : List ℕ) (r : Answered) (g : Given o r lent after (step (fragment time f (length lent)) (world o))) where
   given-step : _≡_ {A = Result} (record { state = world (r .state); answer = fragmentAnswer r after }) (step (fragment time f (length lent)) (world o))
   given-step = did-step o (r .state) (fragment time f (length lent)) (fragmentAnswer r after) (given-did o time f lent after r g)
 
   given-handed : listOf (r .operated) ≡ handed (step (fragment time f (length lent)) (world o) .answer)
-  given-handed = g .operated
+  given-handed = g .operated .objects
+
+  given-counted : r .operated .count ≡ length (listOf (r .operated))
+  given-counted = g .operated .count ∙ sym (ap (λ (l : List Crob). length l) (g .operated .objects))
 
   -- what the struct holds is what the answer hands over
   given-over : listOf (r .operated) ≡ handed (fragmentAnswer r after)
@@ -49,3 +51,8 @@ gives-handing outputs arm h o o₁ c a (gaveReading d) x = record { reply = x .r
 gives-handing outputs arm h o o₁ c a (gaveTable d) x = record { reply = x .reply; none = refl }
 gives-handing outputs arm h o o₁ c a (gaveFragment {time} {f} r lent after g) x =
     subst (Handing outputs arm h (requestOf (fragment time f (length lent)) (world o)) a) (sym (given-over o time f lent after r g)) x
+
+pub gives-counted : (o o₁ : Outstation) (c : Call) (a : Answer) (g : Gives o c a o₁) → handedCount g ≡ length (handedOver g)
+gives-counted o o₁ c a (gaveReading d) = refl
+gives-counted o o₁ c a (gaveTable d) = refl
+gives-counted o o₁ c a (gaveFragment {time} {f} r lent after g) = given-counted _ time f lent after r g

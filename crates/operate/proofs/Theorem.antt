@@ -12,7 +12,7 @@ use Rattle.outstation.specs.Step.{Call, Answer, Result, step}
 use Rattle.book.specs.Demand3.{Ran, none, more}
 use Rattle.operate.specs.Operated.{requestOf, requestsAfter, requestsOf, Gives, handedOver, allHanded, Handing, OperatedOnlySelected}
 use Rattle.operate.proofs.Steps.{Sim, Does, step-ok, start-ok}
-use Rattle.operate.proofs.Gives.{gives-step, gives-handing}
+use Rattle.operate.proofs.Gives.{gives-step, gives-handing, gives-counted}
 
 module _ (outputs arm : ℕ) where
   -- what a call hands over is what its requests add
@@ -69,5 +69,6 @@ operated-only-selected u o o₂ cs ans f e run =
     let k = from-start (u .outputs) (u .«arm_time») (restarted u) (start-ok u) e run in
     record {
       next = λ c a o₃ g. next-hands (u .outputs) (u .«arm_time») o₂ o₃ c a (requestsOf u cs) (k .sim) g;
+      counted = λ c a o₃ g. gives-counted o₂ o₃ c a g;
       once = sym (k .total) ∙ sym (controls-safe (u .outputs) (u .«arm_time») .once (requestsOf u cs) .1);
     }

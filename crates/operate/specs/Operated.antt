@@ -66,7 +66,7 @@ pub data Gives : Outstation → Call → Answer → Outstation → Type 0 where
   gaveReading : {o o₁ : Outstation} {r : Reading} {a : Answer} → Did o (reading r) a o₁ → Gives o (reading r) a o₁
   gaveTable : {o o₁ : Outstation} {rs : List Reading} {a : Answer} → Did o (table rs) a o₁ → Gives o (table rs) a o₁
   gaveFragment : {o : Outstation} {time : ℕ} {f : List ℕ} (r : Answered) (lent after : List ℕ)
-      → Given r lent after (step (fragment time f (length lent)) (world o))
+      → Given o r lent after (step (fragment time f (length lent)) (world o))
       → Gives o (fragment time f (length lent)) (fragmentAnswer r after) (r .state)
 
 -- "To carry out is to hand the objects to the host in the call's result, in the order asked"
@@ -74,6 +74,12 @@ abbrev pub handedOver : {o o₁ : Outstation} {c : Call} {a : Answer} → Gives 
 handedOver (gaveReading d) = []
 handedOver (gaveTable d) = []
 handedOver (gaveFragment r lent after g) = listOf (r .operated)
+
+-- how many objects the result says that it holds
+abbrev pub handedCount : {o o₁ : Outstation} {c : Call} {a : Answer} → Gives o c a o₁ → ℕ
+handedCount (gaveReading d) = 0
+handedCount (gaveTable d) = 0
+handedCount (gaveFragment r lent after g) = r .operated .count
 
 -- all that a list of calls handed over
 abbrev pub allHanded : {o o₂ : Outstation} {cs : List Call} {ans : List Answer} → Ran Outstation Gives o cs ans o₂ → List Crob
@@ -125,6 +131,8 @@ pub record Operated (u : Setup) (o o₂ : Outstation) (cs : List Call) (ans : Li
   -- of any further call c
   pub next : (c : Call) (a : Answer) (o₃ : Outstation) (g : Gives o₂ c a o₃)
       → Handing (u .outputs) (u .«arm_time») (requestsOf u cs) (requestOf c (world o₂)) a (handedOver g)
+  -- and its result says how many it hands over
+  pub counted : (c : Call) (a : Answer) (o₃ : Outstation) (g : Gives o₂ c a o₃) → handedCount g ≡ length (handedOver g)
   -- all that was handed over is what the requests without their repeats hand over: nothing is carried out twice
   pub once : allHanded run ≡ outcome (u .outputs) (u .«arm_time») (news (u .outputs) (u .«arm_time») (requestsOf u cs))
 
