@@ -19,8 +19,9 @@ use mathlib.Core.Logic.{inl, inr}
 use Rattle.frame.specs.declared.Read.{Read}
 use Rattle.frame.specs.declared.Read.the-variants.{Frame, Short, Start, HeaderCheck, Length, BlockCheck, ReadLent}
 use Rattle.frame.proofs.Read as R
-use Rattle.laws.specs.Outcome.{accepted, refused}
-use Rattle.frame.specs.Frame.{readOf, checkedOf, lentAfterRead, bodyOf, decode, opened, sealOk, blocksOk, users, Parts, sealed, blocks, blockCount, frameSize, headerOf, encode, encodeInto}
+use Rattle.frame.specs.declared.Wrote.{Wrote}
+use Rattle.laws.specs.Outcome.{Outcome, accepted, refused}
+use Rattle.frame.specs.Frame.{wroteOf, sizeOf, lentAfterWrite, FrameWritten, readOf, fields, fieldsOf, checkedOf, lentAfterRead, FrameRead, Whole, bodyOf, decode, opened, sealOk, blocksOk, users, Parts, sealed, blocks, blockCount, frameSize, headerOf, encode, encodeInto}
 
 pub length-sealed : (s : List ℕ) → length (sealed s) ≡ length s + 2
 unfolding sealed
@@ -88,6 +89,11 @@ module _ (room : ℕ) (f : Parts) where
   pub into : 292 ≤ room → length (f .user) ≤ 250 → encodeInto room f ≡ accepted (encode f)
   unfolding encodeInto
   into h l = rw (le-ltb room 292 h, le-ltb 250 (length (f .user)) l)
+
+-- the contract from the outcome
+pub written-by : (w : Wrote) (f : Parts) (d d′ : List ℕ) (o : Outcome (List ℕ)) → encodeInto (length d) f ≡ o → wroteOf w ≡ sizeOf o
+    → d′ ≡ lentAfterWrite d o → FrameWritten w f d d′
+written-by w f d d′ o e a l = record { answer = a ∙ ap sizeOf (sym e); lent = l ∙ ap (lentAfterWrite d) (sym e) }
 
 -- ---- reading: a turn of a loop over sealed blocks
 
@@ -173,10 +179,25 @@ pub decode-room : (room : ℕ) (s : List ℕ) → 250 ≤ room → decode room s
 unfolding decode
 decode-room room s h = rw (le-ltb room 250 h)
 
--- a frame that was refused: no user data, and the lent bytes stay
-pub read-refused : (r : Read) (s d : List ℕ) → OneOf (1 ∷ 2 ∷ 3 ∷ 4 ∷ 5 ∷ 6 ∷ []) (tagOf R.the-type r)
-    → (readOf r d ≡ checkedOf r s) × (d ≡ lentAfterRead d (checkedOf r s))
-read-refused (Frame control destination source n) s d h = absurd (not-zero h)
+-- the contract from the outcome
+pub read-by : (r : Read) (s d d′ : List ℕ) (o : Outcome Parts) → decode (length d) s ≡ o → readOf r ≡ fieldsOf o → d′ ≡ lentAfterRead d o
+    → FrameRead r s d d′
+read-by r s d d′ o e a l = record { answer = a ∙ ap fieldsOf (sym e); lent = l ∙ ap (lentAfterRead d) (sym e) }
+
+-- a frame that was checked has its fields and so many user bytes
+pub fields-checked : (r : Read) (s : List ℕ) → Whole r s → readOf r ≡ fieldsOf (checkedOf r s)
+fields-checked (Frame control destination source n) s w =
+    ap (λ (k : ℕ). accepted (fields control destination source k)) (sym (length-user n s (w .1)))
+fields-checked Short s w = refl
+fields-checked Start s w = refl
+fields-checked HeaderCheck s w = refl
+fields-checked Length s w = refl
+fields-checked BlockCheck s w = refl
+fields-checked ReadLent s w = refl
+
+-- a frame that was refused leaves the lent bytes
+pub refused-lent : (r : Read) (s d : List ℕ) → OneOf (1 ∷ 2 ∷ 3 ∷ 4 ∷ 5 ∷ 6 ∷ []) (tagOf R.the-type r) → d ≡ lentAfterRead d (checkedOf r s)
+refused-lent (Frame control destination source n) s d h = absurd (not-zero h)
   where
     not-zero : OneOf (1 ∷ 2 ∷ 3 ∷ 4 ∷ 5 ∷ 6 ∷ []) 0 → ⊥
     not-zero (inl e) = omega arith
@@ -185,9 +206,9 @@ read-refused (Frame control destination source n) s d h = absurd (not-zero h)
     not-zero (inr (inr (inr (inl e)))) = omega arith
     not-zero (inr (inr (inr (inr (inl e))))) = omega arith
     not-zero (inr (inr (inr (inr (inr e))))) = omega arith
-read-refused Short s d h = (refl, refl)
-read-refused Start s d h = (refl, refl)
-read-refused HeaderCheck s d h = (refl, refl)
-read-refused Length s d h = (refl, refl)
-read-refused BlockCheck s d h = (refl, refl)
-read-refused ReadLent s d h = (refl, refl)
+refused-lent Short s d h = refl
+refused-lent Start s d h = refl
+refused-lent HeaderCheck s d h = refl
+refused-lent Length s d h = refl
+refused-lent BlockCheck s d h = refl
+refused-lent ReadLent s d h = refl
