@@ -10,7 +10,7 @@ use lib.Seq.{length-take-le, drop-drop, take-take}
 use mathlib.Core.Bool.{true, false, cond}
 use Rattle.laws.proofs.Parts.{part-is, part-length}
 use Rattle.octets.specs.Bytes.{splice, le}
-use Rattle.octets.proofs.Splice.{splice-append, stored-splice}
+use Rattle.octets.proofs.Splice.{splice-append}
 use Rattle.octets.proofs.Le.{length-le}
 use Rattle.crc.specs.Check.{checkOf}
 use denote.Enum.Declared.{tagOf}
@@ -153,7 +153,7 @@ length-users (suc k) b h l =
     let ih : length (users k (drop 18 b)) ≡ length (drop 18 b) - 2 * k = length-users k (drop 18 b) (simp length-drop (omega arith)) (simp length-drop (omega arith)) in
     simp (length-append, length-take) (omega (arith, length-drop 18 b))
 
--- the user bytes of a frame, and where they are once they are copied
+-- the user bytes of a frame
 module _ (n : ℕ) (s : List ℕ) (whole : frameSize n ≤ length s) where
   pub length-body : length (bodyOf n s) ≡ n + 2 * blockCount n
   length-body = length-take-le (frameSize n - 10) (drop 10 s) (simp length-drop (omega arith)) ∙ omega arith
@@ -162,12 +162,6 @@ module _ (n : ℕ) (s : List ℕ) (whole : frameSize n ≤ length s) where
   length-user =
       let l : length (bodyOf n s) ≡ n + 2 * blockCount n = length-body in
       length-users (blockCount n) (bodyOf n s) (omega arith) (omega arith) ∙ omega arith
-
-  pub user-front : (d : List ℕ) → n ≤ length d → take n (splice d 0 (users (blockCount n) (bodyOf n s))) ≡ users (blockCount n) (bodyOf n s)
-  user-front d h =
-      let u : List ℕ = users (blockCount n) (bodyOf n s) in
-      let l : length u ≡ n = length-user in
-      ap (λ (k : ℕ). take k (splice d 0 u)) (sym l) ∙ stored-splice d 0 u (omega arith)
 
 -- ---- checking first, copying after
 

@@ -344,8 +344,7 @@ read-is-written r w s out user lent written c d a n bytes got is room wrote =
         let u : take n user ≡ f .user = rw (m, l) (stored-splice out 0 (f .user) (omega arith)) in
         let g : parts c d a (take n user) ≡ f = λ k. parts (y k .control) (y k .destination) (y k .source) (u k) in
         let o = ap (encodeInto (length lent)) g ∙ into (length lent) f room most in
-        let z : length (encode f) ≡ frameSize n = length-encode f ∙ ap frameSize (sym m) in
-        (
+        let z : length (encode f) ≡ frameSize n = length-encode f ∙ ap frameSize (sym m) in (
           omega arith,
           size-is w (frameSize n) (wrote .answer ∙ ap sizeOf o ∙ ap accepted z),
           rw (wrote .lent, o, sym z) (front f lent room most ∙ encode-decode (length out) s f bytes e ∙ ap (λ (k : ℕ). take k s) (sym (length-encode f))),
