@@ -5,21 +5,27 @@ use mathlib.Core.Bool.{Bool, true, false, cond}
 use Prim.Native.Nat.{ℕ, zero, suc, _+_, _-_, _*_, _%_, _≤_, _<_}
 use native.Mathlib.Nat.{zero-add}
 use native.Mathlib.Omega.{arith}
-use mathlib.Core.List.{List, [], _∷_, _++_}
+use mathlib.Core.List.{List, [], _∷_, _++_, map}
 use lib.ListN.{length, getD, take, drop, length-take, length-drop, take-append-drop}
 use lib.Seq.{take-all, drop-drop}
-use lib.Dec.{eqb, eqb·suc-zero, eqb·suc-suc}
-use borrow.Author.Tests.{lt-ltb, le-leb, lt-leb, ne-eqb, eqb-false, eqb-true}
+use lib.Dec.{ltb, eqb, eqb·suc-zero, eqb·suc-suc}
+use borrow.Author.Tests.{lt-ltb, ltb-false, le-leb, lt-leb, leb-true, leb-false, ne-eqb, eqb-false, eqb-true}
 use Rattle.laws.proofs.Tests.{cond-same}
 use Rattle.octets.specs.Bytes.{splice}
-use Rattle.octets.proofs.Splice.{splice-append, length-splice}
-use Rattle.laws.specs.Outcome.{accepted}
-use Rattle.transport.specs.Segment.{headOf, sequence, dataOf, bitOf, headerOf, segment, segmentCount, cut, segmentsOf}
-use Rattle.transport.specs.Receive.{idle, receiving, more, Run, answered, receiveAll, goes}
-use Rattle.transport.specs.Send.{fromOf, lastAt, endOf, nextSegment, nextSender, Calls, wrote, calls}
+use Rattle.octets.proofs.Splice.{splice-append, length-splice, stored-splice}
+use Rattle.laws.specs.Outcome.{Outcome, accepted, refused}
+use Rattle.transport.specs.Segment.{headOf, fin, sequence, dataOf, bitOf, headerOf, segment, segmentCount, cut, segmentsOf}
+use Rattle.transport.specs.Receive.{idle, receiving, more, complete, receivedOf, Run, answered, receiveAll, goes}
+use Rattle.transport.specs.Send.{Written, fromOf, lastAt, endOf, nextSegment, nextSender, sending, writtenOf, answerSent, senderAfter, lentAfterSend, sentOf, SegmentSent, Calls, wrote, calls}
+use Rattle.transport.specs.RoundTrip.{Sends, Receives, none, next, completes, SentIsReceived}
+use Rattle.transport.specs.RoundTrip as Trip
 use Rattle.transport.specs.declared.Assembly.{Assembly}
+use Rattle.transport.specs.declared.Received.{Received}
+use Rattle.transport.specs.declared.Received.the-variants.{More, Fragment, SegmentLength, OutOfSequence, FragmentTooLong, AssemblyLent}
 use Rattle.transport.specs.declared.Sender.{Sender}
-use Rattle.transport.proofs.Laws.{got-first, got-next, place-at, fin-header, fir-header, sequence-header}
+use Rattle.transport.specs.declared.Sending.{Sending}
+use Rattle.transport.specs.declared.Sent.the-variants.{Segment}
+use Rattle.transport.proofs.Laws.{got-first, got-next, place-at, send-next, fin-header, fir-header, sequence-header}
 
 -- ---- the segments
 
@@ -180,3 +186,136 @@ round-trip a d f q room some fits =
 pub sent-received : (a : Assembly) (d f : List ℕ) (q : ℕ) → 2048 ≤ length d → 0 < length f → length f ≤ 2048
     → receiveAll a d (calls (segmentCount (length f)) (sender q 0) f .written) ≡ ended (segmentCount (length f) - 1) (length f) (splice d 0 f)
 sent-received a d f q room some fits = ap (λ (c : Calls). receiveAll a d (c .written)) (calls-whole q f some) ∙ round-trip a d f q room some fits
+
+-- ---- the same about the calls
+
+sent-tests : (a b c : Bool) (x : List ℕ) (y : Written)
+    → accepted y ≡ answerSent (cond a (refused 33) (cond b (refused 16) (cond c (refused 16) (accepted x)))) → (a ≡ false) × (b ≡ false) × (c ≡ false)
+sent-tests true b c x y e = (cc, cc, cc)
+sent-tests false true c x y e = (cc, cc, cc)
+sent-tests false false true x y e = (cc, cc, cc)
+sent-tests false false false x y e = (refl, refl, refl)
+
+-- what was sent had room, and a fragment of 1 to 2,048 bytes
+sent-fits : (room : ℕ) (p : Sender) (f : List ℕ) (y : Written) → accepted y ≡ answerSent (sending room p f)
+    → (250 ≤ room) × (1 ≤ length f) × (length f ≤ 2048)
+unfolding sending
+sent-fits room p f y e =
+    let t = sent-tests (ltb room 250) (ltb (length f) 1) (ltb 2048 (length f)) (nextSegment p f) y e in
+    (ltb-false _ _ (t .0), ltb-false _ _ (t .1), ltb-false _ _ (t .2))
+
+segment-most : (p : Sender) (f : List ℕ) → length (nextSegment p f) ≤ 250
+unfolding nextSegment
+segment-most p f = simp length-take (omega arith)
+
+-- one call of `send` that was accepted
+record Step (p p₁ : Sender) (f s : List ℕ) (last : Bool) : Type 0 where
+  some : 1 ≤ length f
+  fits : length f ≤ 2048
+  segment-sent : s ≡ nextSegment p f
+  sender-after : p₁ ≡ nextSender p f
+  ends : fin (headOf (nextSegment p f)) ≡ last
+
+step-of : {p : Sender} {r : Sending} {f lent written : List ℕ} (n : ℕ) (last : Bool) → SegmentSent r p f lent written → r .answer ≡ Segment n last
+    → Step p (r .sender) f (take n written) last
+step-of {p} {r} {f} {lent} {written} n last sent is =
+    let said : accepted (record { size = n; last = last }) ≡ answerSent (sending (length lent) p f) = ap sentOf (sym is) ∙ sent .answer in
+    let t = sent-fits (length lent) p f (record { size = n; last = last }) said in
+    let o = send-next (length lent) p f (t .0) (t .1) (t .2) in
+    let y : accepted (record { size = n; last = last }) ≡ writtenOf (nextSegment p f) = said ∙ ap answerSent o in
+    let z = written-eq _ _ y in
+    let l : written ≡ splice lent 0 (nextSegment p f) = sent .lent ∙ ap (lentAfterSend lent) o in
+    record {
+      some = t .1;
+      fits = t .2;
+      segment-sent = rw (ap (λ (w : Written). w .size) z, l) (stored-splice lent 0 (nextSegment p f) (omega (arith, segment-most p f)));
+      sender-after = sent .sender ∙ ap (senderAfter p f) o;
+      ends = sym (ap (λ (w : Written). w .last) z);
+    }
+  where
+    written-eq : (x y : Written) → _≡_ {A = Outcome Written} (accepted x) (accepted y) → x ≡ y
+    written-eq x y e = cc
+
+-- a sender inside the fragment: where its segment begins, and whether it is the last
+module _ (p : Sender) (f : List ℕ) (h : p .at < length f) where
+  ends-at : fin (headOf (nextSegment p f)) ≡ lastAt (p .at) (length f)
+  ends-at = ap (λ (s : List ℕ). fin (headOf s)) (segment-is (p .next .0) (p .at) f h) ∙ fin-header (eqb (p .at) 0) (lastAt (p .at) (length f)) (p .next .0)
+
+  after-at : nextSender p f .at ≡ endOf (p .at) (length f)
+  after-at = ap (λ (x : Sender). x .at) (sender-next (p .next .0) (p .at) f h)
+
+sends-some : {f : List ℕ} {p p₁ : Sender} {ss : List (List ℕ)} → Sends f p ss p₁ → (1 ≤ length f) × (length f ≤ 2048)
+sends-some (Trip.last {n = n} sent is) = let t = step-of n true sent is in (t .some, t .fits)
+sends-some (Trip.more {n = n} sent is rest) = let t = step-of n false sent is in (t .some, t .fits)
+
+-- the calls up to the last segment are as many as segments are left, and write them
+sends-are : {f : List ℕ} {p p₁ : Sender} {ss : List (List ℕ)} → Sends f p ss p₁ → p .at < length f
+    → (calls (length ss) p f ≡ record { written = ss; sender = p₁ }) × (length ss ≡ segmentCount (length f - p .at))
+unfolding calls
+sends-are {f} {p} (Trip.last {n = n} sent is) h =
+    let t = step-of n true sent is in
+    let e : length f ≤ p .at + 249 = leb-true _ _ (sym (ends-at p f h) ∙ t .ends) in
+    (rw (t .segment-sent, t .sender-after) refl, omega arith)
+sends-are {f} {p} (Trip.more {p₁ = p₁} {r = r} {n = n} {ss = ss} sent is rest) h =
+    let t = step-of n false sent is in
+    let l : lastAt (p .at) (length f) ≡ false = sym (ends-at p f h) ∙ t .ends in
+    let e : p .at + 249 < length f = leb-false _ _ l in
+    let k : r .sender .at ≡ p .at + 249 = ap (λ (x : Sender). x .at) (t .sender-after) ∙ after-at p f h ∙ ap (λ (b : Bool). cond b 0 (p .at + 249)) l in
+    let ih = sends-are rest (omega arith) in (
+      rw (sym (t .segment-sent), sym (t .sender-after)) (ap (wrote (take n _)) (ih .0)),
+      omega (arith, ih .1),
+    )
+
+-- the calls of `receive` are the run
+receives-are : {a a₁ : Assembly} {d d₁ : List ℕ} {ss : List (List ℕ)} {answers : List Received} → Receives a d ss answers a₁ d₁
+    → receiveAll a d ss ≡ record { answers = map receivedOf answers; assembly = a₁; lent = d₁ }
+unfolding receiveAll
+receives-are none = refl
+receives-are (next {r = r} got rest) =
+    rw (sym (got .answer), sym (got .assembly), sym (got .lent)) (ap (answered (receivedOf (r .answer))) (receives-are rest))
+
+more-is : (x : Received) → receivedOf x ≡ accepted more → x ≡ More
+more-is More e = refl
+more-is (Fragment n) e = cc
+more-is SegmentLength e = cc
+more-is OutOfSequence e = cc
+more-is FragmentTooLong e = cc
+more-is AssemblyLent e = cc
+
+complete-is : (x : Received) (n : ℕ) → receivedOf x ≡ accepted (complete n) → x ≡ Fragment n
+complete-is More n e = cc
+complete-is (Fragment m) n e = cc
+complete-is SegmentLength n e = cc
+complete-is OutOfSequence n e = cc
+complete-is FragmentTooLong n e = cc
+complete-is AssemblyLent n e = cc
+
+completes-is : (k n : ℕ) (answers : List Received) → map receivedOf answers ≡ goes k n → answers ≡ completes k n
+unfolding goes completes
+completes-is zero n [] e = cc
+completes-is zero n (x ∷ []) e = ap (λ (y : Received). y ∷ []) (complete-is x n cc)
+completes-is zero n (x ∷ y ∷ ys) e = cc
+completes-is (suc k) n [] e = cc
+completes-is (suc k) n (x ∷ xs) e = ap₂ (λ (y : Received) (ys : List Received). y ∷ ys) (more-is x cc) (completes-is k n xs cc)
+
+pub sent-is-received : SentIsReceived
+sent-is-received p p₁ a a₁ f d d₁ ss answers start sends room receives =
+    let q : ℕ = p .next .0 in
+    let t = sends-some sends in
+    let w = sends-are sends (omega arith) in
+    let whole : length f - p .at ≡ length f = omega arith in
+    let n : length ss ≡ segmentCount (length f) = w .1 ∙ ap segmentCount whole in
+    let here : p ≡ sender q 0 = ap (sender q) start in
+    let c : record { written = ss; sender = p₁ } ≡ called (segmentsOf q f) ((q + segmentCount (length f)) % 64) =
+    sym (w .0) ∙ ap₂ (λ (k : ℕ) (x : Sender). calls k x f) n here ∙ calls-whole q f (t .0) in
+    let z : ss ≡ segmentsOf q f = ap (λ (x : Calls). x .written) c in
+    let r = sym (receives-are receives) ∙ ap (receiveAll a d) z ∙ round-trip a d f q room (t .0) (t .1) in
+    record {
+      segments = z;
+      count = n;
+      most = omega arith;
+      sender = rw n (ap (λ (x : Calls). x .sender) c);
+      told = rw n (completes-is (segmentCount (length f) - 1) (length f) answers (ap (λ (x : Run). x .answers) r));
+      assembly = ap (λ (x : Run). x .assembly) r;
+      lent = ap (λ (x : Run). x .lent) r;
+    }
