@@ -439,7 +439,8 @@ struct pomarisco_frame pomarisco_frame_read(const uint8_t *bytes, size_t length,
  * lent bytes stay. Refusals 11 to 15, 17, and 33 when out_length is under 250 (not counted). */
 struct pomarisco_link pomarisco_link_receive(struct pomarisco_line line, uint16_t own, uint16_t master, const uint8_t *bytes, size_t length, uint8_t *out, size_t out_length);
 
-/* Writes the reply frame that link_receive asked for. Changes the lent bytes only. out_length at least 292, else 33. */
+/* Writes the reply frame that link_receive asked for: control 00 and 0B hex are sent as they are, any other control as NOT_SUPPORTED, 0F hex.
+ * Changes the lent bytes only. out_length at least 292, else 33. */
 struct pomarisco_wrote pomarisco_link_reply(uint8_t *out, size_t out_length, uint16_t own, uint16_t master, uint8_t control);
 
 /* Writes a frame of user data to the master (control 44 hex). As frame_write. */
