@@ -308,7 +308,7 @@ struct pomarisco_line {            /* the line record: accepted frames, then ref
     uint16_t not_taken;
 };
 
-struct pomarisco_taken {           /* kind 0: user data, the first `length` lent bytes; 1: reply with `control`; any other: refused */
+struct pomarisco_taken {           /* kind 0: user data, the first `length` lent bytes; 1: reply with `control`; 2: refused */
     size_t length;
     uint8_t control;
     uint8_t kind;
@@ -326,7 +326,7 @@ struct pomarisco_assembly {        /* kept between segments received; all 0: not
     uint8_t begun;
 };
 
-struct pomarisco_segment {         /* kind 0: the fragment goes on; 1: it is whole, the first `length` lent bytes; any other: refused */
+struct pomarisco_segment {         /* kind 0: the fragment goes on; 1: it is whole, the first `length` lent bytes; 2: refused */
     size_t length;
     uint8_t kind;
     uint8_t refusal;
