@@ -17,14 +17,15 @@ use Rattle.laws.specs.Outcome.{Outcome, accepted, refused}
 use Rattle.transport.specs.Segment.{headOf, fin, sequence, dataOf, bitOf, headerOf, segment, segmentCount, cut, segmentsOf}
 use Rattle.transport.specs.Receive.{idle, receiving, more, complete, receivedOf, Run, answered, receiveAll, goes}
 use Rattle.transport.specs.Send.{Written, fromOf, lastAt, endOf, nextSegment, nextSender, sending, writtenOf, answerSent, senderAfter, lentAfterSend, sentOf, SegmentSent, Calls, wrote, calls}
-use Rattle.transport.specs.RoundTrip.{Sends, Receives, none, next, completes, SentIsReceived}
+use Rattle.transport.specs.RoundTrip.{Sends, Receives, none, next, completes, SentIsReceived, SentWhole, SendsEnd}
 use Rattle.transport.specs.RoundTrip as Trip
 use Rattle.transport.specs.declared.Assembly.{Assembly}
 use Rattle.transport.specs.declared.Received.{Received}
 use Rattle.transport.specs.declared.Received.the-variants.{More, Fragment, SegmentLength, OutOfSequence, FragmentTooLong, AssemblyLent}
 use Rattle.transport.specs.declared.Sender.{Sender}
 use Rattle.transport.specs.declared.Sending.{Sending}
-use Rattle.transport.specs.declared.Sent.the-variants.{Segment}
+use Rattle.transport.specs.declared.Sent.{Sent}
+use Rattle.transport.specs.declared.Sent.the-variants.{Segment, FragmentLength, SegmentLent}
 use Rattle.transport.proofs.Laws.{got-first, got-next, place-at, send-next, fin-header, fir-header, sequence-header}
 
 -- ---- the segments
@@ -319,3 +320,57 @@ sent-is-received p p₁ a a₁ f d d₁ ss answers start sends room receives =
       assembly = ap (λ (x : Run). x .assembly) r;
       lent = ap (λ (x : Run). x .lent) r;
     }
+
+-- ---- the calls come to a last segment
+
+segment-told : (x : Sent) (y : Written) → sentOf x ≡ accepted y → x ≡ Segment (y .size) (y .last)
+segment-told (Segment n l) y e = cc
+segment-told FragmentLength y e = cc
+segment-told SegmentLent y e = cc
+
+fin-next : (p : Sender) (f : List ℕ) → fin (headOf (nextSegment p f)) ≡ lastAt (fromOf (p .at) (length f)) (length f)
+unfolding nextSegment
+fin-next p f = fin-header (eqb (fromOf (p .at) (length f)) 0) (lastAt (fromOf (p .at) (length f)) (length f)) (p .next .0)
+
+next-at : (p : Sender) (f : List ℕ) → nextSender p f .at ≡ endOf (fromOf (p .at) (length f)) (length f)
+unfolding nextSender
+next-at p f = refl
+
+module _ (f : List ℕ) (call : Sender → Sending) (lent written : Sender → List ℕ) (some : 1 ≤ length f) (fits : length f ≤ 2048)
+    (room : (p : Sender) → 250 ≤ length (lent p)) (meets : (p : Sender) → SegmentSent (call p) p f (lent p) (written p)) where
+  size : Sender → ℕ
+  size p = length (nextSegment p f)
+
+  told : (p : Sender) (last : Bool) → lastAt (fromOf (p .at) (length f)) (length f) ≡ last → call p .answer ≡ Segment (size p) last
+  unfolding size
+  told p last e =
+      segment-told (call p .answer) (record { size = length (nextSegment p f); last = last })
+      (meets p .answer ∙ ap answerSent (send-next (length (lent p)) p f (room p) some fits)
+      ∙ ap (λ (b : Bool). accepted (record { size = length (nextSegment p f); last = b })) (fin-next p f ∙ e))
+
+  after-is : (p : Sender) → call p .sender ≡ nextSender p f
+  after-is p = meets p .sender ∙ ap (senderAfter p f) (send-next (length (lent p)) p f (room p) some fits)
+
+  -- one call: its segment is the last, or the sender after it goes on
+  one-call : (p : Sender) (b : Bool) → lastAt (fromOf (p .at) (length f)) (length f) ≡ b
+      → (lastAt (fromOf (p .at) (length f)) (length f) ≡ false → SentWhole f (call p .sender)) → SentWhole f p
+  one-call p true e on = record { segments = take (size p) (written p) ∷ []; after = call p .sender; sends = Trip.last (meets p) (told p true e) }
+  one-call p false e on =
+      let w = on e in
+      record { segments = take (size p) (written p) ∷ w .segments; after = w .after; sends = Trip.more (meets p) (told p false e) (w .sends) }
+
+  -- where a call that goes on leaves the sender
+  goes-on : (p : Sender) → lastAt (fromOf (p .at) (length f)) (length f) ≡ false → fromOf (call p .sender .at) (length f) ≡ fromOf (p .at) (length f) + 249
+  goes-on p e =
+      let n : ℕ = fromOf (p .at) (length f) + 249 in
+      let g : n < length f = leb-false _ _ e in
+      let at : call p .sender .at ≡ n = ap (λ (x : Sender). x .at) (after-is p) ∙ next-at p f ∙ ap (λ (b : Bool). cond b 0 n) e in
+      ap (λ (x : ℕ). fromOf x (length f)) at ∙ ap (λ (b : Bool). cond b n 0) (lt-ltb n (length f) g)
+
+  -- k calls after the next are enough
+  ends-in : (k : ℕ) (p : Sender) → length f ≤ fromOf (p .at) (length f) + 249 * suc k → SentWhole f p
+  ends-in zero p h = one-call p true (le-leb (length f) (fromOf (p .at) (length f) + 249) (omega arith)) (λ e. let g : fromOf (p .at) (length f) + 249 < length f = leb-false _ _ e in absurd (omega arith))
+  ends-in (suc k) p h = one-call p _ refl (λ e. ends-in k (call p .sender) (omega (arith, goes-on p e)))
+
+pub sends-end : SendsEnd
+sends-end f call lent written some fits room meets p = ends-in f call lent written some fits room meets 8 p (omega arith)

@@ -56,3 +56,16 @@ SentIsReceived =
     (p p₁ : Sender) (a a₁ : Assembly) (f d d₁ : List ℕ) (ss : List (List ℕ)) (answers : List Received)
     → p .at ≡ 0 → Sends f p ss p₁ → 2048 ≤ length d → Receives a d ss answers a₁ d₁
     → Delivered p p₁ f d ss answers a₁ d₁
+
+-- a fragment that is sent whole from the sender p
+pub record SentWhole (f : List ℕ) (p : Sender) : Type 0 where
+  pub segments : List (List ℕ)
+  pub after : Sender
+  pub sends : Sends f p segments after
+
+-- The calls come to a last segment: a fragment of 1 to 2,048 bytes is sent whole from any sender, where each call is lent 250 bytes or more
+abbrev pub SendsEnd : Type 0
+SendsEnd =
+    (f : List ℕ) (call : Sender → Sending) (lent written : Sender → List ℕ)
+    → 1 ≤ length f → length f ≤ 2048 → ((p : Sender) → 250 ≤ length (lent p)) → ((p : Sender) → SegmentSent (call p) p f (lent p) (written p))
+    → (p : Sender) → SentWhole f p
