@@ -15,8 +15,8 @@ use Rattle.octets.specs.Bytes.{splice}
 use Rattle.octets.proofs.Splice.{splice-append, length-splice, stored-splice}
 use Rattle.laws.specs.Outcome.{Outcome, accepted, refused}
 use Rattle.transport.specs.Segment.{headOf, fin, sequence, dataOf, bitOf, headerOf, segment, segmentCount, cut, segmentsOf}
-use Rattle.transport.specs.Receive.{idle, receiving, more, complete, receivedOf, Run, answered, receiveAll, goes}
-use Rattle.transport.specs.Send.{Written, fromOf, lastAt, endOf, nextSegment, nextSender, sending, writtenOf, answerSent, senderAfter, lentAfterSend, sentOf, SegmentSent, Calls, wrote, calls}
+use Rattle.transport.specs.Receive.{idle, receiving, Taken, more, complete, answerOf, assemblyAfter, lentAfter, receivedOf}
+use Rattle.transport.specs.Send.{Written, fromOf, lastAt, endOf, nextSegment, nextSender, sending, writtenOf, answerSent, senderAfter, lentAfterSend, sentOf, SegmentSent}
 use Rattle.transport.specs.RoundTrip.{Sends, Receives, none, next, completes, SentIsReceived, SentWhole, SendsEnd}
 use Rattle.transport.specs.RoundTrip as Trip
 use Rattle.transport.specs.declared.Assembly.{Assembly}
@@ -90,6 +90,18 @@ last-size q f h =
 
 -- ---- sending them
 
+-- so many calls in order: the segments that they write, and the sender after them
+pub record Calls : Type 0 where
+  pub written : List (List ℕ)
+  pub sender : Sender
+
+abbrev pub wrote : List ℕ → Calls → Calls
+wrote s r = record { written = s ∷ r .written; sender = r .sender }
+
+unfoldable pub calls : ℕ → Sender → List ℕ → Calls
+calls zero p f = record { written = []; sender = p }
+calls (suc k) p f = wrote (nextSegment p f) (calls k (nextSender p f) f)
+
 abbrev sender : ℕ → ℕ → Sender
 sender q at = record { next = record { 0 = q }; at = at }
 
@@ -135,6 +147,26 @@ calls-whole q f h =
     ∙ ap (λ (m : ℕ). called (cut m true q f) ((q + m) % 64)) (sym e)
 
 -- ---- receiving them
+
+-- several segments in order
+pub record Run : Type 0 where
+  pub answers : List (Outcome Taken)
+  pub assembly : Assembly
+  pub lent : List ℕ
+
+abbrev pub answered : Outcome Taken → Run → Run
+answered o r = record { answers = o ∷ r .answers; assembly = r .assembly; lent = r .lent }
+
+unfoldable pub receiveAll : Assembly → List ℕ → List (List ℕ) → Run
+receiveAll a d [] = record { answers = []; assembly = a; lent = d }
+receiveAll a d (s ∷ ss) =
+    answered (answerOf s (receiving (length d) a s))
+    (receiveAll (assemblyAfter a s (receiving (length d) a s)) (lentAfter d s (receiving (length d) a s)) ss)
+
+-- k times more to come, then a complete fragment of n bytes
+unfoldable pub goes : ℕ → ℕ → List (Outcome Taken)
+goes zero n = accepted (complete n) ∷ []
+goes (suc k) n = accepted more ∷ goes k n
 
 abbrev ended : ℕ → ℕ → List ℕ → Run
 ended k n d = record { answers = goes k n; assembly = idle; lent = d }
@@ -182,11 +214,6 @@ round-trip a d f q room some fits =
     ap (λ (j : ℕ). receiveAll a d (cut j true q f)) e
     ∙ feeds k true q 0 a d f t room (omega arith) (omega arith) (omega arith)
     ∙ ap (λ (j : ℕ). ended k j (splice d 0 f)) (zero-add (length f))
-
--- what the sender's calls write, taken in order, is the fragment
-pub sent-received : (a : Assembly) (d f : List ℕ) (q : ℕ) → 2048 ≤ length d → 0 < length f → length f ≤ 2048
-    → receiveAll a d (calls (segmentCount (length f)) (sender q 0) f .written) ≡ ended (segmentCount (length f) - 1) (length f) (splice d 0 f)
-sent-received a d f q room some fits = ap (λ (c : Calls). receiveAll a d (c .written)) (calls-whole q f some) ∙ round-trip a d f q room some fits
 
 -- ---- the same about the calls
 

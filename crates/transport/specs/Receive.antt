@@ -1,9 +1,9 @@
 -- Receiving: what a segment comes to, in document 01's order of refusals.
 -- Assumes nothing.
-use Prim.Native.Nat.{ℕ, zero, suc, _+_}
+use Prim.Native.Nat.{ℕ, _+_}
 use mathlib.Core.Path.{_≡_}
 use mathlib.Core.Bool.{Bool, true, false, cond}
-use mathlib.Core.List.{List, [], _∷_}
+use mathlib.Core.List.{List}
 use lib.ListN.{length}
 use lib.Dec.{ltb, eqb}
 use Rattle.octets.specs.Bytes.{splice}
@@ -88,24 +88,3 @@ abbrev pub placeOf : Place → Outcome ℕ
 placeOf (At n) = accepted n
 placeOf NotNext = refused 22
 placeOf TooLong = refused 23
-
--- ---- several segments in order
-
-pub record Run : Type 0 where
-  pub answers : List (Outcome Taken)
-  pub assembly : Assembly
-  pub lent : List ℕ
-
-abbrev pub answered : Outcome Taken → Run → Run
-answered o r = record { answers = o ∷ r .answers; assembly = r .assembly; lent = r .lent }
-
-unfoldable pub receiveAll : Assembly → List ℕ → List (List ℕ) → Run
-receiveAll a d [] = record { answers = []; assembly = a; lent = d }
-receiveAll a d (s ∷ ss) =
-    answered (answerOf s (receiving (length d) a s))
-    (receiveAll (assemblyAfter a s (receiving (length d) a s)) (lentAfter d s (receiving (length d) a s)) ss)
-
--- k times more to come, then a complete fragment of n bytes
-unfoldable pub goes : ℕ → ℕ → List (Outcome Taken)
-goes zero n = accepted (complete n) ∷ []
-goes (suc k) n = accepted more ∷ goes k n

@@ -1,9 +1,9 @@
 -- Sending: one segment a call, and all calls of a fragment.
 -- Assumes nothing.
-use Prim.Native.Nat.{ℕ, zero, suc, _+_}
+use Prim.Native.Nat.{ℕ, _+_}
 use mathlib.Core.Path.{_≡_}
 use mathlib.Core.Bool.{Bool, cond}
-use mathlib.Core.List.{List, [], _∷_}
+use mathlib.Core.List.{List}
 use lib.ListN.{length, take, drop}
 use lib.Dec.{ltb, leb, eqb}
 use Rattle.octets.specs.Bytes.{splice}
@@ -78,16 +78,3 @@ pub record SegmentSent (r : Sending) (p : Sender) (f before after : List ℕ) : 
   pub answer : sentOf (r .answer) ≡ answerSent (sending (length before) p f)
   pub sender : r .sender ≡ senderAfter p f (sending (length before) p f)
   pub lent : after ≡ lentAfterSend before (sending (length before) p f)
-
--- ---- so many calls in order: the segments that they write, and the sender after them
-
-pub record Calls : Type 0 where
-  pub written : List (List ℕ)
-  pub sender : Sender
-
-abbrev pub wrote : List ℕ → Calls → Calls
-wrote s r = record { written = s ∷ r .written; sender = r .sender }
-
-unfoldable pub calls : ℕ → Sender → List ℕ → Calls
-calls zero p f = record { written = []; sender = p }
-calls (suc k) p f = wrote (nextSegment p f) (calls k (nextSender p f) f)
