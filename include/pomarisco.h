@@ -308,7 +308,7 @@ struct pomarisco_line {            /* the line record: accepted frames, then ref
     uint16_t not_taken;
 };
 
-struct pomarisco_taken {           /* kind 0: user data, the first `length` lent bytes; 1: reply with `control`; any other: refused */
+struct pomarisco_taken {           /* kind 0: user data, the first `length` lent bytes; 1: reply with `control`; 2: refused */
     size_t length;
     uint8_t control;
     uint8_t kind;
@@ -326,7 +326,7 @@ struct pomarisco_assembly {        /* kept between segments received; all 0: not
     uint8_t begun;
 };
 
-struct pomarisco_segment {         /* kind 0: the fragment goes on; 1: it is whole, the first `length` lent bytes; any other: refused */
+struct pomarisco_segment {         /* kind 0: the fragment goes on; 1: it is whole, the first `length` lent bytes; 2: refused */
     size_t length;
     uint8_t kind;
     uint8_t refusal;
@@ -439,7 +439,8 @@ struct pomarisco_frame pomarisco_frame_read(const uint8_t *bytes, size_t length,
  * lent bytes stay. Refusals 11 to 15, 17, and 33 when out_length is under 250 (not counted). */
 struct pomarisco_link pomarisco_link_receive(struct pomarisco_line line, uint16_t own, uint16_t master, const uint8_t *bytes, size_t length, uint8_t *out, size_t out_length);
 
-/* Writes the reply frame that link_receive asked for. Changes the lent bytes only. out_length at least 292, else 33. */
+/* Writes the reply frame that link_receive asked for: control 00 and 0B hex are sent as they are, any other control as NOT_SUPPORTED, 0F hex.
+ * Changes the lent bytes only. out_length at least 292, else 33. */
 struct pomarisco_wrote pomarisco_link_reply(uint8_t *out, size_t out_length, uint16_t own, uint16_t master, uint8_t control);
 
 /* Writes a frame of user data to the master (control 44 hex). As frame_write. */

@@ -10,7 +10,7 @@ use lib.Seq.{length-take-le, drop-drop, take-take}
 use mathlib.Core.Bool.{true, false, cond}
 use Rattle.laws.proofs.Parts.{part-is, part-length}
 use Rattle.octets.specs.Bytes.{splice, le}
-use Rattle.octets.proofs.Splice.{splice-append, stored-splice}
+use Rattle.octets.proofs.Splice.{splice-append}
 use Rattle.octets.proofs.Le.{length-le}
 use Rattle.crc.specs.Check.{checkOf}
 use denote.Enum.Declared.{tagOf}
@@ -19,8 +19,9 @@ use mathlib.Core.Logic.{inl, inr}
 use Rattle.frame.specs.declared.Read.{Read}
 use Rattle.frame.specs.declared.Read.the-variants.{Frame, Short, Start, HeaderCheck, Length, BlockCheck, ReadLent}
 use Rattle.frame.proofs.Read as R
-use Rattle.laws.specs.Outcome.{accepted, refused}
-use Rattle.frame.specs.Frame.{readOf, checkedOf, lentAfterRead, bodyOf, decode, opened, sealOk, blocksOk, users, Parts, sealed, blocks, blockCount, frameSize, headerOf, encode, encodeInto}
+use Rattle.frame.specs.declared.Wrote.{Wrote}
+use Rattle.laws.specs.Outcome.{Outcome, accepted, refused}
+use Rattle.frame.specs.Frame.{wroteOf, sizeOf, lentAfterWrite, FrameWritten, readOf, fields, fieldsOf, checkedOf, lentAfterRead, FrameRead, Whole, bodyOf, decode, opened, sealOk, blocksOk, users, Parts, sealed, blocks, blockCount, frameSize, headerOf, encode, encodeInto}
 
 pub length-sealed : (s : List ℕ) → length (sealed s) ≡ length s + 2
 unfolding sealed
@@ -89,6 +90,11 @@ module _ (room : ℕ) (f : Parts) where
   unfolding encodeInto
   into h l = rw (le-ltb room 292 h, le-ltb 250 (length (f .user)) l)
 
+-- the contract from the outcome
+pub written-by : (w : Wrote) (f : Parts) (d d′ : List ℕ) (o : Outcome (List ℕ)) → encodeInto (length d) f ≡ o → wroteOf w ≡ sizeOf o
+    → d′ ≡ lentAfterWrite d o → FrameWritten w f d d′
+written-by w f d d′ o e a l = record { answer = a ∙ ap sizeOf (sym e); lent = l ∙ ap (lentAfterWrite d) (sym e) }
+
 -- ---- reading: a turn of a loop over sealed blocks
 
 pub ok-more : (k : ℕ) (b : List ℕ) → 0 < k → blocksOk k b ≡ cond (sealOk (take 18 b)) (blocksOk (k - 1) (drop 18 b)) false
@@ -147,7 +153,7 @@ length-users (suc k) b h l =
     let ih : length (users k (drop 18 b)) ≡ length (drop 18 b) - 2 * k = length-users k (drop 18 b) (simp length-drop (omega arith)) (simp length-drop (omega arith)) in
     simp (length-append, length-take) (omega (arith, length-drop 18 b))
 
--- the user bytes of a frame, and where they are once they are copied
+-- the user bytes of a frame
 module _ (n : ℕ) (s : List ℕ) (whole : frameSize n ≤ length s) where
   pub length-body : length (bodyOf n s) ≡ n + 2 * blockCount n
   length-body = length-take-le (frameSize n - 10) (drop 10 s) (simp length-drop (omega arith)) ∙ omega arith
@@ -156,12 +162,6 @@ module _ (n : ℕ) (s : List ℕ) (whole : frameSize n ≤ length s) where
   length-user =
       let l : length (bodyOf n s) ≡ n + 2 * blockCount n = length-body in
       length-users (blockCount n) (bodyOf n s) (omega arith) (omega arith) ∙ omega arith
-
-  pub user-front : (d : List ℕ) → n ≤ length d → take n (splice d 0 (users (blockCount n) (bodyOf n s))) ≡ users (blockCount n) (bodyOf n s)
-  user-front d h =
-      let u : List ℕ = users (blockCount n) (bodyOf n s) in
-      let l : length u ≡ n = length-user in
-      ap (λ (k : ℕ). take k (splice d 0 u)) (sym l) ∙ stored-splice d 0 u (omega arith)
 
 -- ---- checking first, copying after
 
@@ -173,10 +173,25 @@ pub decode-room : (room : ℕ) (s : List ℕ) → 250 ≤ room → decode room s
 unfolding decode
 decode-room room s h = rw (le-ltb room 250 h)
 
--- a frame that was refused: no user data, and the lent bytes stay
-pub read-refused : (r : Read) (s d : List ℕ) → OneOf (1 ∷ 2 ∷ 3 ∷ 4 ∷ 5 ∷ 6 ∷ []) (tagOf R.the-type r)
-    → (readOf r d ≡ checkedOf r s) × (d ≡ lentAfterRead d (checkedOf r s))
-read-refused (Frame control destination source n) s d h = absurd (not-zero h)
+-- the contract from the outcome
+pub read-by : (r : Read) (s d d′ : List ℕ) (o : Outcome Parts) → decode (length d) s ≡ o → readOf r ≡ fieldsOf o → d′ ≡ lentAfterRead d o
+    → FrameRead r s d d′
+read-by r s d d′ o e a l = record { answer = a ∙ ap fieldsOf (sym e); lent = l ∙ ap (lentAfterRead d) (sym e) }
+
+-- a frame that was checked has its fields and so many user bytes
+pub fields-checked : (r : Read) (s : List ℕ) → Whole r s → readOf r ≡ fieldsOf (checkedOf r s)
+fields-checked (Frame control destination source n) s w =
+    ap (λ (k : ℕ). accepted (fields control destination source k)) (sym (length-user n s (w .1)))
+fields-checked Short s w = refl
+fields-checked Start s w = refl
+fields-checked HeaderCheck s w = refl
+fields-checked Length s w = refl
+fields-checked BlockCheck s w = refl
+fields-checked ReadLent s w = refl
+
+-- a frame that was refused leaves the lent bytes
+pub refused-lent : (r : Read) (s d : List ℕ) → OneOf (1 ∷ 2 ∷ 3 ∷ 4 ∷ 5 ∷ 6 ∷ []) (tagOf R.the-type r) → d ≡ lentAfterRead d (checkedOf r s)
+refused-lent (Frame control destination source n) s d h = absurd (not-zero h)
   where
     not-zero : OneOf (1 ∷ 2 ∷ 3 ∷ 4 ∷ 5 ∷ 6 ∷ []) 0 → ⊥
     not-zero (inl e) = omega arith
@@ -185,9 +200,9 @@ read-refused (Frame control destination source n) s d h = absurd (not-zero h)
     not-zero (inr (inr (inr (inl e)))) = omega arith
     not-zero (inr (inr (inr (inr (inl e))))) = omega arith
     not-zero (inr (inr (inr (inr (inr e))))) = omega arith
-read-refused Short s d h = (refl, refl)
-read-refused Start s d h = (refl, refl)
-read-refused HeaderCheck s d h = (refl, refl)
-read-refused Length s d h = (refl, refl)
-read-refused BlockCheck s d h = (refl, refl)
-read-refused ReadLent s d h = (refl, refl)
+refused-lent Short s d h = refl
+refused-lent Start s d h = refl
+refused-lent HeaderCheck s d h = refl
+refused-lent Length s d h = refl
+refused-lent BlockCheck s d h = refl
+refused-lent ReadLent s d h = refl

@@ -1,7 +1,7 @@
 -- Reading gives back what was written, and writing what was read gives back the bytes.
 -- Assumes nothing.
 use mathlib.Core.Path.{_≡_, refl, sym, ap, _∙_, subst}
-use mathlib.Core.Bool.{true}
+use mathlib.Core.Bool.{Bool, true, false, cond}
 use Prim.Native.Nat.{ℕ, zero, suc, _+_, _-_, _*_, _≤_, _<_}
 use native.Mathlib.Omega.{arith}
 use mathlib.Core.List.{List, [], _∷_, _++_, append-assoc, append-nil}
@@ -10,12 +10,18 @@ use borrow.Author.Tests.{le-ltb, ltb-false, eq-eqb, eqb-true}
 use lib.ListN.{length, getD, take, drop, length-append, length-take, length-drop, take-append-drop, drop-of-length-le}
 use lib.Seq.{length-take-le, take-take, take-all, take-at, drop-at, take-add, drop-append-seam}
 use Rattle.laws.proofs.Tests.{passed-no, passed-yes, both-true}
-use Rattle.octets.specs.Bytes.{le, value, valueAt, AreBytes}
+use Rattle.octets.specs.Bytes.{splice, le, value, valueAt, AreBytes}
+use Rattle.octets.proofs.Splice.{drop-splice, stored-splice}
 use Rattle.octets.proofs.Le.{length-le, value-le, le-value, take-bytes, drop-bytes}
 use Rattle.crc.specs.Check.{checkOf}
-use Rattle.laws.specs.Outcome.{accepted}
-use Rattle.frame.specs.Frame.{Parts, parts, sealed, blocks, blockCount, frameSize, headerOf, encode, opened, sealOk, blocksOk, users, bodyOf, decodeBody, decode}
-use Rattle.frame.proofs.Laws.{length-sealed, length-blocks, length-header, length-encode, length-body, length-user}
+use Rattle.laws.specs.Outcome.{Outcome, accepted, refused}
+use Rattle.frame.specs.declared.Read.{Read}
+use Rattle.frame.specs.declared.Read.the-variants.{Frame, Short, Start, HeaderCheck, Length, BlockCheck, ReadLent}
+use Rattle.frame.specs.declared.Wrote.{Wrote}
+use Rattle.frame.specs.declared.Wrote.the-variants.{Size, TooLong, WriteLent}
+use Rattle.frame.specs.Frame.{Parts, parts, sealed, blocks, blockCount, frameSize, headerOf, encode, opened, sealOk, blocksOk, users, bodyOf, decodeBody, decode, encodeInto, wroteOf, sizeOf, lentAfterWrite, Fields, fields, fieldsOf, readOf, lentAfterRead}
+use Rattle.frame.specs.RoundTrip.{WrittenIsRead, ReadIsWritten}
+use Rattle.frame.proofs.Laws.{length-sealed, length-blocks, length-header, length-encode, length-body, length-user, into}
 
 check-lt : (bs : List ℕ) → checkOf bs < 65536
 unfolding checkOf
@@ -224,9 +230,19 @@ encode-read n s bytes whole e0 e1 h en ok oks =
     let sum : 10 + (frameSize n - 10) ≡ frameSize n = omega arith in
     rw (u, hd, bl) (sym (take-add 10 (frameSize n - 10) s) ∙ ap (λ (k : ℕ). take k s) sum)
 
-pub encode-decode : (room : ℕ) (s : List ℕ) (f : Parts) → AreBytes s → decode room s ≡ accepted f → encode f ≡ take (frameSize (length (f .user))) s
+-- what was accepted passed every test
+record Passed (room : ℕ) (s : List ℕ) (f : Parts) : Type 0 where
+  lent : 250 ≤ room
+  start : (getD s 0 0 ≡ 5) × (getD s 1 0 ≡ 100)
+  header : sealOk (take 10 s) ≡ true
+  long : 5 ≤ getD s 2 0
+  whole : frameSize (getD s 2 0 - 5) ≤ length s
+  checks : blocksOk (blockCount (getD s 2 0 - 5)) (bodyOf (getD s 2 0 - 5) s) ≡ true
+  is : parts (getD s 3 0) (valueAt 2 4 s) (valueAt 2 6 s) (users (blockCount (getD s 2 0 - 5)) (bodyOf (getD s 2 0 - 5) s)) ≡ f
+
+passed : (room : ℕ) (s : List ℕ) (f : Parts) → decode room s ≡ accepted f → Passed room s f
 unfolding decode decodeBody
-encode-decode room s f bytes e =
+passed room s f e =
     let n : ℕ = getD s 2 0 - 5 in
     let a1 = passed-no (ltb room 250) 33 _ f e in
     let a2 = passed-no (ltb (length s) 10) 11 _ f (a1 .1) in
@@ -236,8 +252,100 @@ encode-decode room s f bytes e =
     let a6 = passed-no (ltb (getD s 2 0) 5) 14 _ f (a5 .1) in
     let a7 = passed-no (ltb (length s) (frameSize n)) 11 _ f (a6 .1) in
     let a8 = passed-yes (blocksOk (blockCount n) (bodyOf n s)) 15 _ f (a7 .1) in
-    let whole : frameSize n ≤ length s = ltb-false _ _ (a7 .0) in
-    let p : parts (getD s 3 0) (valueAt 2 4 s) (valueAt 2 6 s) (users (blockCount n) (bodyOf n s)) ≡ f = cc (a8 .1) in
-    subst (λ (g : Parts). encode g ≡ take (frameSize (length (g .user))) s) p
-    (encode-read n s bytes whole (eqb-true _ _ (a3 .0)) (eqb-true _ _ (a4 .0)) (ltb-false _ _ (a6 .0)) refl (a5 .0) (a8 .0)
-    ∙ ap (λ (k : ℕ). take (frameSize k) s) (sym (length-user n s whole)))
+    record {
+      lent = ltb-false _ _ (a1 .0);
+      start = (eqb-true _ _ (a3 .0), eqb-true _ _ (a4 .0));
+      header = a5 .0;
+      long = ltb-false _ _ (a6 .0);
+      whole = ltb-false _ _ (a7 .0);
+      checks = a8 .0;
+      is = cc (a8 .1);
+    }
+
+pub encode-decode : (room : ℕ) (s : List ℕ) (f : Parts) → AreBytes s → decode room s ≡ accepted f → encode f ≡ take (frameSize (length (f .user))) s
+encode-decode room s f bytes e =
+    let p = passed room s f e in
+    let n : ℕ = getD s 2 0 - 5 in
+    subst (λ (g : Parts). encode g ≡ take (frameSize (length (g .user))) s) (p .is)
+    (encode-read n s bytes (p .whole) (p .start .0) (p .start .1) (p .long) refl (p .header) (p .checks)
+    ∙ ap (λ (k : ℕ). take (frameSize k) s) (sym (length-user n s (p .whole))))
+
+-- the length byte is a byte
+read-most : (room : ℕ) (s : List ℕ) (f : Parts) → AreBytes s → decode room s ≡ accepted f → length (f .user) ≤ 250
+read-most room s f bytes e =
+    let p = passed room s f e in
+    let b : getD s 2 0 < 256 = bytes 2 in
+    let l : length (f .user) ≡ getD s 2 0 - 5 = ap (λ (g : Parts). length (g .user)) (sym (p .is)) ∙ length-user (getD s 2 0 - 5) s (p .whole) in
+    omega arith
+
+-- ---- the same about the calls
+
+-- the answer of a write that was accepted
+size-is : (w : Wrote) (n : ℕ) → wroteOf w ≡ accepted n → w ≡ Size n
+size-is (Size m) n e = cc
+size-is TooLong n e = cc
+size-is WriteLent n e = cc
+
+-- the answer of a read that was accepted
+frame-is : (r : Read) (x : Fields) → readOf r ≡ accepted x → r ≡ Frame (x .control) (x .destination) (x .source) (x .len)
+frame-is (Frame c d a n) x e = cc
+frame-is Short x e = cc
+frame-is Start x e = cc
+frame-is HeaderCheck x e = cc
+frame-is Length x e = cc
+frame-is BlockCheck x e = cc
+frame-is ReadLent x e = cc
+
+fits-by : (a b : Bool) (x : List ℕ) (n : ℕ) → accepted n ≡ sizeOf (cond a (refused 33) (cond b (refused 16) (accepted x))) → (a ≡ false) × (b ≡ false)
+fits-by true b x n e = (cc, cc)
+fits-by false true x n e = (cc, cc)
+fits-by false false x n e = (refl, refl)
+
+-- what was written had room, and at most 250 user bytes
+fits : (room n : ℕ) (f : Parts) → accepted n ≡ sizeOf (encodeInto room f) → (292 ≤ room) × (length (f .user) ≤ 250)
+unfolding encodeInto
+fits room n f e =
+    let p = fits-by (ltb room 292) (ltb 250 (length (f .user))) (encode f) n e in
+    (ltb-false _ _ (p .0), ltb-false _ _ (p .1))
+
+-- a frame in the lent bytes: its bytes, then those that were there
+module _ (f : Parts) (d : List ℕ) (room : 292 ≤ length d) (most : length (f .user) ≤ 250) where
+  room-for : 0 + length (encode f) ≤ length d
+  room-for = omega (arith, length-encode f)
+
+  in-lent : splice d 0 (encode f) ≡ encode f ++ drop (0 + length (encode f)) d
+  in-lent = drop-splice d 0 (encode f) room-for
+
+  front : take (length (encode f)) (splice d 0 (encode f)) ≡ encode f
+  front = stored-splice d 0 (encode f) room-for
+
+pub written-is-read : WrittenIsRead
+unfolding WrittenIsRead
+written-is-read w r f lent written out user n hd hs wrote size room got =
+    let p = fits (length lent) n f (ap wroteOf (sym size) ∙ wrote .answer) in
+    let o = into (length lent) f (p .0) (p .1) in
+    let b = wrote .lent ∙ ap (lentAfterWrite lent) o ∙ in-lent f lent (p .0) (p .1) in
+    let e = ap (decode (length out)) b ∙ decode-encode f (drop (0 + length (encode f)) lent) (length out) room hd hs in
+    (frame-is r _ (got .answer ∙ ap fieldsOf e), got .lent ∙ ap (lentAfterRead out) e)
+
+pub read-is-written : ReadIsWritten
+unfolding ReadIsWritten
+read-is-written r w s out user lent written c d a n bytes got is room wrote =
+    go (decode (length out) s) refl (ap readOf (sym is) ∙ got .answer) (got .lent)
+  where
+    go : (o : Outcome Parts) → decode (length out) s ≡ o → accepted (fields c d a n) ≡ fieldsOf o → user ≡ lentAfterRead out o
+        → (n ≤ 250) × (w ≡ Size (frameSize n)) × (take (frameSize n) written ≡ take (frameSize n) s)
+    go (refused k) e x l = let z : n ≡ suc n = cc in absurd (omega arith)
+    go (accepted f) e x l =
+        let most : length (f .user) ≤ 250 = read-most (length out) s f bytes e in
+        let h : 250 ≤ length out = passed (length out) s f e .lent in
+        let y : fields c d a n ≡ fields (f .control) (f .destination) (f .source) (length (f .user)) = cc in
+        let m : n ≡ length (f .user) = ap (λ (z : Fields). z .len) y in
+        let u : take n user ≡ f .user = rw (m, l) (stored-splice out 0 (f .user) (omega arith)) in
+        let g : parts c d a (take n user) ≡ f = λ k. parts (y k .control) (y k .destination) (y k .source) (u k) in
+        let o = ap (encodeInto (length lent)) g ∙ into (length lent) f room most in
+        let z : length (encode f) ≡ frameSize n = length-encode f ∙ ap frameSize (sym m) in (
+          omega arith,
+          size-is w (frameSize n) (wrote .answer ∙ ap sizeOf o ∙ ap accepted z),
+          rw (wrote .lent, o, sym z) (front f lent room most ∙ encode-decode (length out) s f bytes e ∙ ap (λ (k : ℕ). take k s) (sym (length-encode f))),
+        )

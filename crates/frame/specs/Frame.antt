@@ -1,6 +1,7 @@
 -- A link frame's bytes, written and read back (document 01, "Bytes on the line", rows 11 to 16 and 33).
 -- Assumes nothing.
 use Prim.Native.Nat.{ℕ, zero, suc, _+_, _-_, _*_, _/_, _≤_}
+use mathlib.Core.Path.{_≡_}
 use mathlib.Core.Bool.{Bool, true, false, cond}
 use mathlib.Core.List.{List, [], _∷_, _++_}
 use lib.ListN.{length, getD, take, drop}
@@ -107,7 +108,7 @@ decode room s =
     (refused 12))
     (refused 12)))
 
--- ---- what the answers mean, and what is left in the lent bytes: a refusal leaves them, and so do the bytes past the output
+-- ---- writing: what the answer means, and what is left in the lent bytes. A refusal leaves them, and so do the bytes past the output
 
 abbrev pub wroteOf : Wrote → Outcome ℕ
 wroteOf (Size n) = accepted n
@@ -122,19 +123,45 @@ abbrev pub lentAfterWrite : List ℕ → Outcome (List ℕ) → List ℕ
 lentAfterWrite d (accepted bs) = splice d 0 bs
 lentAfterWrite d (refused k) = d
 
--- the user data is the first bytes of the lent ones
-abbrev pub readOf : Read → List ℕ → Outcome Parts
-readOf (Frame control destination source n) d = accepted (parts control destination source (take n d))
-readOf Short d = refused 11
-readOf Start d = refused 12
-readOf HeaderCheck d = refused 13
-readOf Length d = refused 14
-readOf BlockCheck d = refused 15
-readOf ReadLent d = refused 33
+-- a call that wrote these parts, with these lent bytes before and after it, answers w
+pub record FrameWritten (w : Wrote) (f : Parts) (before after : List ℕ) : Type 0 where
+  pub answer : wroteOf w ≡ sizeOf (encodeInto (length before) f)
+  pub lent : after ≡ lentAfterWrite before (encodeInto (length before) f)
 
+-- ---- reading: what the answer means, and what is left in the lent bytes
+
+-- what reading a frame answers: its fields, and how many user bytes it has
+pub record Fields : Type 0 where
+  pub control : ℕ
+  pub destination : ℕ
+  pub source : ℕ
+  pub len : ℕ
+
+abbrev pub fields : ℕ → ℕ → ℕ → ℕ → Fields
+fields c d s n = record { control = c; destination = d; source = s; len = n }
+
+abbrev pub fieldsOf : Outcome Parts → Outcome Fields
+fieldsOf (accepted f) = accepted (fields (f .control) (f .destination) (f .source) (length (f .user)))
+fieldsOf (refused k) = refused k
+
+abbrev pub readOf : Read → Outcome Fields
+readOf (Frame control destination source n) = accepted (fields control destination source n)
+readOf Short = refused 11
+readOf Start = refused 12
+readOf HeaderCheck = refused 13
+readOf Length = refused 14
+readOf BlockCheck = refused 15
+readOf ReadLent = refused 33
+
+-- the user data goes to the front of the lent bytes
 abbrev pub lentAfterRead : List ℕ → Outcome Parts → List ℕ
 lentAfterRead d (accepted f) = splice d 0 (f .user)
 lentAfterRead d (refused k) = d
+
+-- a call that read the bytes s, with these lent bytes before and after it, answers r
+pub record FrameRead (r : Read) (s before after : List ℕ) : Type 0 where
+  pub answer : readOf r ≡ fieldsOf (decode (length before) s)
+  pub lent : after ≡ lentAfterRead before (decode (length before) s)
 
 -- ---- a frame that was checked and not yet copied: its user data is still in its blocks
 

@@ -8,17 +8,13 @@ ghost use Rattle.frame.specs.Frame.{
   sealed,
   blocks,
   headerOf,
-  encodeInto,
   sealOk,
   blocksOk,
   users,
   decodeBody,
   decode,
-  wroteOf,
-  sizeOf,
-  lentAfterWrite,
-  readOf,
-  lentAfterRead,
+  FrameWritten,
+  FrameRead,
   frameSize,
   userOf,
   checkedOf,
@@ -110,9 +106,7 @@ fn header(n: usize, control: u8, destination: u16, source: u16) -> [u8; 8]
 
 // Writes a frame at the front of the lent bytes; a refusal leaves them.
 pub fn write_frame(out: &mut [u8], control: u8, destination: u16, source: u16, user: &[u8]) -> Wrote
-    ensures { λ r. ⌜
-        (wroteOf r ≡ sizeOf (encodeInto (length (now (out .entry))) (parts control destination source (now (user .entry)))))
-        × (now (out .exit) ≡ lentAfterWrite (now (out .entry)) (encodeInto (length (now (out .entry))) (parts control destination source (now (user .entry))))) ⌝ }
+    ensures { λ r. ⌜ FrameWritten r (parts control destination source (now (user .entry))) (now (out .entry)) (now (out .exit)) ⌝ }
 {
     if out.len() < FRAME_MAX {
         return Wrote::WriteLent;
@@ -228,9 +222,7 @@ pub fn copy_user(out: &mut [u8], s: &[u8], n: usize)
 
 // Reads the frame at the front of the bytes; its user data goes to the front of the lent bytes. A refusal leaves them.
 pub fn read_frame(s: &[u8], out: &mut [u8]) -> Read
-    ensures { λ r. ⌜
-        (readOf r (now (out .exit)) ≡ decode (length (now (out .entry))) (now (s .entry)))
-        × (now (out .exit) ≡ lentAfterRead (now (out .entry)) (decode (length (now (out .entry))) (now (s .entry)))) ⌝ }
+    ensures { λ r. ⌜ FrameRead r (now (s .entry)) (now (out .entry)) (now (out .exit)) ⌝ }
 {
     if out.len() < USER_MAX {
         return Read::ReadLent;

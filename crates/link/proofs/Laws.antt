@@ -1,26 +1,26 @@
 -- Laws of the station: what a checked frame comes to.
 -- Assumes nothing.
 use mathlib.Core.Path.{_≡_, refl, sym, ap, _∙_, subst}
-use Prim.Native.Nat.{ℕ, _≤_, _<_}
+use Prim.Native.Nat.{ℕ, _-_, _/_, _%_, _≤_, _<_}
 use native.Mathlib.Omega.{arith}
 use mathlib.Core.List.{List, [], _∷_}
 use mathlib.Core.Logic.{inl, inr}
-use lib.ListN.{length, take}
+use lib.Dec.{ltb, eqb}
+use lib.ListN.{length, getD, take}
+use mathlib.Core.Bool.{Bool, true, false, cond}
 use denote.Enum.Declared.{tagOf}
 use types.Run.{OneOf}
-use Rattle.octets.specs.Bytes.{splice}
-use Rattle.laws.specs.Outcome.{Outcome, accepted, refused}
-use Rattle.frame.specs.Frame.{decode, checkedOf, Whole, userOf, frameSize}
-use Rattle.frame.proofs.Laws.{decode-lent, decode-room, length-user, user-front}
+use Rattle.octets.specs.Bytes.{splice, valueAt}
+use Rattle.laws.specs.Outcome.{Outcome, accepted, refused, numberOf}
+use Rattle.frame.specs.Frame.{Parts, sealOk, blocksOk, blockCount, bodyOf, decodeBody, decode, checkedOf, Whole, userOf, frameSize}
+use Rattle.frame.proofs.Laws.{decode-lent, decode-room, length-user}
 use Rattle.frame.specs.declared.Read.{Read}
 use Rattle.frame.specs.declared.Read.the-variants.{Frame, Short, Start, HeaderCheck, Length, BlockCheck, ReadLent}
 use Rattle.link.specs.declared.Station.{Station}
 use Rattle.link.specs.declared.Taken.{Taken}
 use Rattle.link.specs.declared.Taken.the-variants.{UserData, Reply}
-use Rattle.link.specs.Station.{Verdict, hands, replies, notTaken, judge, Action, userData, actionOf, takes, station, answerFor, takenOf, takenBy, settledOf, lentAfter}
-use Rattle.laws.specs.Outcome.{numberOf}
+use Rattle.link.specs.Station.{Verdict, hands, replies, notTaken, judge, Action, userData, actionOf, takes, asks, reply, station, answerFor, takenNumber, takenBy, settledOf, lentAfter, FrameTaken, replyControl}
 use Rattle.link.proofs.Taken as T
-use Rattle.link.specs.declared.Taken.the-variants as Case
 
 module _ (room : ℕ) (st : Station) (s : List ℕ) where
   pub station-lent : room < 250 → station room st s ≡ refused 33
@@ -48,22 +48,26 @@ not-zero (inr (inr (inr (inr (inr (inr (inr e))))))) = omega arith
 
 -- what the answer t promises of the outcome o, and of the lent bytes d before and d′ after
 abbrev pub Right : Taken → Outcome Action → List ℕ → List ℕ → Type 0
-Right t o d d′ = (t ≡ answerFor o) × ((takenOf (answerFor o) d′ ≡ o) × (d′ ≡ lentAfter d o))
+Right t o d d′ = (t ≡ answerFor o) × (d′ ≡ lentAfter d o)
+
+-- the contract from the outcome
+pub taken-by : (t : Taken) (st : Station) (s d d′ : List ℕ) (o : Outcome Action) → station (length d) st s ≡ o → Right t o d d′ → FrameTaken t st s d d′
+taken-by t st s d d′ o e r = record { answer = r .0 ∙ ap answerFor (sym e); lent = r .1 ∙ ap (lentAfter d) (sym e) }
 
 verdict-other : (v : Verdict) (n : ℕ) (u d : List ℕ) → NoData (takenBy v n) → Right (takenBy v n) (actionOf v u) d d
 verdict-other hands n u d h = absurd (not-zero h)
-verdict-other (replies c) n u d h = (refl, (refl, refl))
-verdict-other notTaken n u d h = (refl, (refl, refl))
+verdict-other (replies c) n u d h = (refl, refl)
+verdict-other notTaken n u d h = (refl, refl)
 
 pub settled-other : (st : Station) (r : Read) (s d : List ℕ) → Whole r s → NoData (settledOf st r) → Right (settledOf st r) (takes st (checkedOf r s)) d d
 settled-other st (Frame c e f n) s d w h =
     rw (length-user n s (w .1)) (verdict-other (judge st c e f n) n (userOf n s) d h)
-settled-other st Short s d w h = (refl, (refl, refl))
-settled-other st Start s d w h = (refl, (refl, refl))
-settled-other st HeaderCheck s d w h = (refl, (refl, refl))
-settled-other st Length s d w h = (refl, (refl, refl))
-settled-other st BlockCheck s d w h = (refl, (refl, refl))
-settled-other st ReadLent s d w h = (refl, (refl, refl))
+settled-other st Short s d w h = (refl, refl)
+settled-other st Start s d w h = (refl, refl)
+settled-other st HeaderCheck s d w h = (refl, refl)
+settled-other st Length s d w h = (refl, refl)
+settled-other st BlockCheck s d w h = (refl, refl)
+settled-other st ReadLent s d w h = (refl, refl)
 
 -- user data is handed on: where it is, and what is right once it is copied
 abbrev pub Handed : Outcome Action → List ℕ → ℕ → Type 0
@@ -85,19 +89,82 @@ settled-data st Length s n w h = let z : _≡_ {A = ℕ} 0 1 = cc in absurd (ome
 settled-data st BlockCheck s n w h = let z : _≡_ {A = ℕ} 0 1 = cc in absurd (omega arith)
 settled-data st ReadLent s n w h = let z : _≡_ {A = ℕ} 0 1 = cc in absurd (omega arith)
 
-pub handed-right : (n : ℕ) (s d : List ℕ) → frameSize n ≤ length s → n ≤ length d → Right (UserData n) (accepted (userData (userOf n s))) d (splice d 0 (userOf n s))
-handed-right n s d w l =
-    let k : n ≡ length (userOf n s) = sym (length-user n s w) in
-    (ap UserData k, (ap (λ (u : List ℕ). accepted (userData u)) (ap (λ (x : ℕ). take x (splice d 0 (userOf n s))) (sym k) ∙ user-front n s w d l), refl))
+pub handed-right : (n : ℕ) (s d : List ℕ) → frameSize n ≤ length s → Right (UserData n) (accepted (userData (userOf n s))) d (splice d 0 (userOf n s))
+handed-right n s d w = (ap UserData (sym (length-user n s w)), refl)
 
--- the number of an answer does not depend on the lent bytes
-pub number-same : (t : Taken) (d : List ℕ) → numberOf (takenOf t []) ≡ numberOf (takenOf t d)
-number-same (UserData n) d = refl
-number-same (Reply c) d = refl
-number-same Case.Short d = refl
-number-same Case.Start d = refl
-number-same Case.HeaderCheck d = refl
-number-same Case.Length d = refl
-number-same Case.BlockCheck d = refl
-number-same Case.NotTaken d = refl
-number-same Case.TakeLent d = refl
+-- ---- the number of the answer is the outcome's: `decode` refuses by 11 to 15 and 33, the station by 17
+
+abbrev Known : Outcome Action → Type 0
+Known o = takenNumber (answerFor o) ≡ numberOf o
+
+known-verdict : (v : Verdict) (u : List ℕ) → Known (actionOf v u)
+known-verdict hands u = refl
+known-verdict (replies c) u = refl
+known-verdict notTaken u = refl
+
+module _ (st : Station) where
+  known-either : (t : Bool) (x y : Outcome Parts) → Known (takes st x) → Known (takes st y) → Known (takes st (cond t x y))
+  known-either true x y p q = p
+  known-either false x y p q = q
+
+  pub answer-number : (room : ℕ) (s : List ℕ) → takenNumber (answerFor (station room st s)) ≡ numberOf (station room st s)
+  unfolding station decode decodeBody
+  answer-number room s =
+      known-either (ltb room 250) _ _ refl
+      (known-either (ltb (length s) 10) _ _ refl
+      (known-either (eqb (getD s 0 0) 5) _ _
+      (known-either (eqb (getD s 1 0) 100) _ _
+      (known-either (sealOk (take 10 s)) _ _
+      (known-either (ltb (getD s 2 0) 5) _ _ refl
+      (known-either (ltb (length s) (frameSize (getD s 2 0 - 5))) _ _ refl
+      (known-either (blocksOk (blockCount (getD s 2 0 - 5)) (bodyOf (getD s 2 0 - 5) s)) _ _
+      (known-verdict (judge st (getD s 3 0) (valueAt 2 4 s) (valueAt 2 6 s) (length (userOf (getD s 2 0 - 5) s))) (userOf (getD s 2 0 - 5) s))
+      refl))) refl) refl) refl))
+
+-- ---- replies
+
+-- a control byte that the station asks to reply with is one of the three
+abbrev Kept : Verdict → Type 0
+Kept v = (c : ℕ) → v ≡ replies c → replyControl c ≡ c
+
+kept-either : (t : Bool) (v w : Verdict) → Kept v → Kept w → Kept (cond t v w)
+kept-either true v w p q = p
+kept-either false v w p q = q
+
+kept-none : Kept notTaken
+kept-none c e = cc
+
+kept-hands : Kept hands
+kept-hands c e = cc
+
+kept-same : (k : ℕ) → replyControl k ≡ k → Kept (replies k)
+kept-same k h c e = let z : k ≡ c = cc in subst (λ (x : ℕ). replyControl x ≡ x) z h
+
+asks-kept : (control n : ℕ) → Kept (asks control n)
+unfolding asks replyControl
+asks-kept control n =
+    kept-either (eqb (control % 16) 4) _ _ (kept-either (eqb (control / 16 % 2) 0) _ _ (kept-either (eqb n 0) _ _ kept-none kept-hands) kept-none)
+    (kept-either (eqb (control % 16) 0) _ _ (kept-either (eqb (control / 16 % 2) 0) _ _ (kept-either (eqb n 0) _ _ (kept-same 0x00 refl) kept-none) kept-none)
+    (kept-either (eqb (control % 16) 9) _ _ (kept-either (eqb (control / 16 % 2) 0) _ _ (kept-either (eqb n 0) _ _ (kept-same 0x0B refl) kept-none) kept-none)
+    (kept-same 0x0F refl)))
+
+judge-kept : (st : Station) (control destination source n : ℕ) → Kept (judge st control destination source n)
+unfolding judge
+judge-kept st control destination source n =
+    kept-either (eqb source (st .master)) _ _
+    (kept-either (eqb destination (st .own)) _ _ (kept-either (eqb (control / 64) 3) _ _ (asks-kept control n) kept-none) kept-none)
+    kept-none
+
+action-kept : (v : Verdict) (u : List ℕ) (c : ℕ) → Kept v → actionOf v u ≡ accepted (reply c) → replyControl c ≡ c
+action-kept hands u c h e = cc
+action-kept (replies k) u c h e = h c (let z : k ≡ c = cc in ap replies z)
+action-kept notTaken u c h e = cc
+
+-- what the station asks to reply with is sent as it is
+pub reply-kept : (room : ℕ) (st : Station) (s : List ℕ) (c : ℕ) → station room st s ≡ accepted (reply c) → replyControl c ≡ c
+unfolding station
+reply-kept room st s c e = go (decode room s) e
+  where
+    go : (o : Outcome Parts) → takes st o ≡ accepted (reply c) → replyControl c ≡ c
+    go (accepted f) x = action-kept (judge st (f .control) (f .destination) (f .source) (length (f .user))) (f .user) c (judge-kept st (f .control) (f .destination) (f .source) (length (f .user))) x
+    go (refused k) x = cc

@@ -1,9 +1,10 @@
 -- The station on its link: which frames it takes, what it answers, and the line's record.
 -- Assumes nothing.
 use Prim.Native.Nat.{ℕ, _+_, _/_, _%_}
+use mathlib.Core.Path.{_≡_}
 use mathlib.Core.Bool.{Bool, true, false, cond}
 use mathlib.Core.List.{List}
-use lib.ListN.{length, take}
+use lib.ListN.{length}
 use lib.Dec.{ltb, eqb}
 use Rattle.octets.specs.Bytes.{splice}
 use Rattle.laws.specs.Limits.{countMax}
@@ -37,7 +38,8 @@ asks control n =
     (cond (eqb (control % 16) 9) (plainly (control / 16 % 2) (cond (eqb n 0) (replies 0x0B) notTaken))
     (replies 0x0F)))
 
--- frames from its master to itself, with DIR (80) and PRM (40) both 1
+-- frames from its master to itself, with DIR (80) and PRM (40) both 1. Any two numbers are a station's addresses here; that they are at
+-- most 65,519 and differ is the setup's to keep (refusal 5)
 unfoldable pub judge : Station → ℕ → ℕ → ℕ → ℕ → Verdict
 judge st control destination source n =
     cond (eqb source (st .master))
@@ -72,16 +74,17 @@ lentAfter d (refused k) = d
 
 -- ---- what the answers mean
 
-abbrev pub takenOf : Taken → List ℕ → Outcome Action
-takenOf (UserData n) d = accepted (userData (take n d))
-takenOf (Reply c) d = accepted (reply c)
-takenOf T.Short d = refused 11
-takenOf T.Start d = refused 12
-takenOf T.HeaderCheck d = refused 13
-takenOf T.Length d = refused 14
-takenOf T.BlockCheck d = refused 15
-takenOf NotTaken d = refused 17
-takenOf TakeLent d = refused 33
+-- the number of an answer, 0 for a frame that was accepted
+abbrev pub takenNumber : Taken → ℕ
+takenNumber (UserData n) = 0
+takenNumber (Reply c) = 0
+takenNumber T.Short = 11
+takenNumber T.Start = 12
+takenNumber T.HeaderCheck = 13
+takenNumber T.Length = 14
+takenNumber T.BlockCheck = 15
+takenNumber NotTaken = 17
+takenNumber TakeLent = 33
 
 -- the answer for each outcome
 abbrev pub refusalFor : ℕ → Taken
@@ -97,6 +100,11 @@ abbrev pub answerFor : Outcome Action → Taken
 answerFor (accepted (userData u)) = UserData (length u)
 answerFor (accepted (reply c)) = Reply c
 answerFor (refused k) = refusalFor k
+
+-- a call that took the frame at the front of the bytes s, with these lent bytes before and after it, answers t
+pub record FrameTaken (t : Taken) (st : Station) (s before after : List ℕ) : Type 0 where
+  pub answer : t ≡ answerFor (station (length before) st s)
+  pub lent : after ≡ lentAfter before (station (length before) st s)
 
 abbrev pub takenBy : Verdict → ℕ → Taken
 takenBy hands n = UserData n
@@ -133,6 +141,10 @@ countedOf l k =
     }
 
 -- ---- writing
+
+-- "These reply control bytes are 00, 0B, 0F": ACK and LINK_STATUS are themselves, and any other number is NOT_SUPPORTED
+unfoldable pub replyControl : ℕ → ℕ
+replyControl c = cond (eqb c 0x00) 0x00 (cond (eqb c 0x0B) 0x0B 0x0F)
 
 -- a frame from the station to its master
 abbrev pub toMaster : Station → ℕ → List ℕ → Parts

@@ -4,7 +4,7 @@ ghost use mathlib.Core.Bool.{cond};
 ghost use lib.ListN.{length};
 ghost use mathlib.Core.List.{[]};
 ghost use lib.Dec.{eqb};
-ghost use Rattle.frame.specs.Frame.{encodeInto, wroteOf, sizeOf, lentAfterWrite};
+ghost use Rattle.frame.specs.Frame.{FrameWritten};
 ghost use Rattle.laws.specs.Outcome.{numberOf};
 ghost use Rattle.link.specs.Station.{
   upIf,
@@ -18,9 +18,9 @@ ghost use Rattle.link.specs.Station.{
   takenBy,
   settledOf,
   station,
-  answerFor,
-  takenOf,
-  lentAfter,
+  takenNumber,
+  FrameTaken,
+  replyControl,
   toMaster,
 };
 
@@ -86,7 +86,7 @@ fn up_if(test: bool, n: u16) -> u16
 
 // Document 01's number of a refusal; 0 for a frame that was accepted.
 fn number(t: Taken) -> u8
-    ensures { λ r. ⌜ r ≡ numberOf (takenOf t []) ⌝ }
+    ensures { λ r. ⌜ r ≡ takenNumber t ⌝ }
 {
     match t {
         Taken::UserData(_) => 0,
@@ -103,7 +103,7 @@ fn number(t: Taken) -> u8
 
 // The record with this frame counted.
 pub fn counted(l: LineRecord, t: Taken) -> LineRecord
-    ensures { λ r. ⌜ r ≡ countedOf l (numberOf (takenOf t [])) ⌝ }
+    ensures { λ r. ⌜ r ≡ countedOf l (takenNumber t) ⌝ }
 {
     let k = number(t);
     LineRecord {
@@ -199,10 +199,7 @@ fn settled(st: Station, r: frame::Read) -> Taken
 
 // Takes the frame at the front of the bytes. Only user data that is handed on goes to the lent bytes.
 pub fn take_frame(st: Station, s: &[u8], out: &mut [u8]) -> Taken
-    ensures { λ r. ⌜
-        (r ≡ answerFor (station (length (now (out .entry))) st (now (s .entry))))
-        × ((takenOf (answerFor (station (length (now (out .entry))) st (now (s .entry)))) (now (out .exit)) ≡ station (length (now (out .entry))) st (now (s .entry)))
-        × (now (out .exit) ≡ lentAfter (now (out .entry)) (station (length (now (out .entry))) st (now (s .entry))))) ⌝ }
+    ensures { λ r. ⌜ FrameTaken r st (now (s .entry)) (now (out .entry)) (now (out .exit)) ⌝ }
 {
     if out.len() < frame::USER_MAX {
         return Taken::TakeLent;
@@ -219,10 +216,8 @@ pub fn take_frame(st: Station, s: &[u8], out: &mut [u8]) -> Taken
 // Takes a frame, and counts it in the line record, in place.
 pub fn receive(line: &mut LineRecord, st: Station, s: &[u8], out: &mut [u8]) -> Taken
     ensures { λ r. ⌜
-        (r ≡ answerFor (station (length (now (out .entry))) st (now (s .entry))))
-        × ((takenOf r (now (out .exit)) ≡ station (length (now (out .entry))) st (now (s .entry)))
-        × ((now (out .exit) ≡ lentAfter (now (out .entry)) (station (length (now (out .entry))) st (now (s .entry))))
-        × (now (line .exit) ≡ countedOf (now (line .entry)) (numberOf (station (length (now (out .entry))) st (now (s .entry))))))) ⌝ }
+        FrameTaken r st (now (s .entry)) (now (out .entry)) (now (out .exit))
+        × (now (line .exit) ≡ countedOf (now (line .entry)) (numberOf (station (length (now (out .entry))) st (now (s .entry))))) ⌝ }
 {
     let t = take_frame(st, s, out);
     *line = counted(*line, t);
@@ -238,31 +233,39 @@ pub struct Received {
 // `receive` for callers that keep the record in a local: it lends its own. Its parameters are plain, so a caller needs no walk.
 pub fn receive_by_value(line: LineRecord, st: Station, s: &[u8], out: &mut [u8]) -> Received
     ensures { λ r. ⌜
-        (r .taken ≡ answerFor (station (length (now (out .entry))) st (now (s .entry))))
-        × ((takenOf (r .taken) (now (out .exit)) ≡ station (length (now (out .entry))) st (now (s .entry)))
-        × ((now (out .exit) ≡ lentAfter (now (out .entry)) (station (length (now (out .entry))) st (now (s .entry))))
-        × (r .line ≡ countedOf line (numberOf (station (length (now (out .entry))) st (now (s .entry))))))) ⌝ }
+        FrameTaken (r .taken) st (now (s .entry)) (now (out .entry)) (now (out .exit))
+        × (r .line ≡ countedOf line (numberOf (station (length (now (out .entry))) st (now (s .entry))))) ⌝ }
 {
     let mut m = line;
     let t = receive(&mut m, st, s, out);
     Received { taken: t, line: m }
 }
 
-// Writes a reply to the master: a frame with this control byte and no user data.
+// The control byte of a reply: 00 and 0B are themselves, and any other is NOT_SUPPORTED.
+fn reply_control(control: u8) -> u8
+    ensures { λ r. ⌜ r ≡ replyControl control ⌝ }
+{
+    if control == ACK {
+        return ACK;
+    }
+    if control == LINK_STATUS {
+        return LINK_STATUS;
+    }
+    NOT_SUPPORTED
+}
+
+// Writes a reply to the master: a frame with one of the three reply control bytes and no user data.
 pub fn write_reply(out: &mut [u8], st: Station, control: u8) -> frame::Wrote
-    ensures { λ r. ⌜
-        (wroteOf r ≡ sizeOf (encodeInto (length (now (out .entry))) (toMaster st control [])))
-        × (now (out .exit) ≡ lentAfterWrite (now (out .entry)) (encodeInto (length (now (out .entry))) (toMaster st control []))) ⌝ }
+    ensures { λ r. ⌜ FrameWritten r (toMaster st (replyControl control) []) (now (out .entry)) (now (out .exit)) ⌝ }
 {
     let none = [0u8; 1];
-    frame::write_frame(out, control, st.master, st.own, &none[..0])
+    let c = reply_control(control);
+    frame::write_frame(out, c, st.master, st.own, &none[..0])
 }
 
 // Writes user data to the master, under control byte 44.
 pub fn write_data(out: &mut [u8], st: Station, user: &[u8]) -> frame::Wrote
-    ensures { λ r. ⌜
-        (wroteOf r ≡ sizeOf (encodeInto (length (now (out .entry))) (toMaster st 68 (now (user .entry)))))
-        × (now (out .exit) ≡ lentAfterWrite (now (out .entry)) (encodeInto (length (now (out .entry))) (toMaster st 68 (now (user .entry))))) ⌝ }
+    ensures { λ r. ⌜ FrameWritten r (toMaster st 68 (now (user .entry))) (now (out .entry)) (now (out .exit)) ⌝ }
 {
     frame::write_frame(out, USER_DATA, st.master, st.own, user)
 }

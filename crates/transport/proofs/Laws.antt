@@ -13,12 +13,14 @@ use Rattle.laws.proofs.Parts.{part-is}
 use Rattle.laws.proofs.Tests.{passed-no, passed-yes}
 use Rattle.octets.specs.Bytes.{splice}
 use Rattle.octets.proofs.Splice.{splice-cons}
-use Rattle.laws.specs.Outcome.{accepted, refused}
+use Rattle.laws.specs.Outcome.{Outcome, accepted, refused}
 use Rattle.transport.specs.Segment.{headOf, fin, fir, sequence, dataOf, nextOf, bitOf, headerOf, segment}
-use Rattle.transport.specs.Receive.{places, receiving}
-use Rattle.transport.specs.Send.{fromOf, lastAt, endOf, nextSegment, nextSender, sending, writtenOf}
+use Rattle.transport.specs.Receive.{places, receiving, receivedOf, answerOf, assemblyAfter, lentAfter, SegmentReceived}
+use Rattle.transport.specs.Send.{fromOf, lastAt, endOf, nextSegment, nextSender, sending, writtenOf, sentOf, answerSent, senderAfter, lentAfterSend, SegmentSent}
 use Rattle.transport.specs.declared.Assembly.{Assembly}
+use Rattle.transport.specs.declared.Reception.{Reception}
 use Rattle.transport.specs.declared.Sender.{Sender}
+use Rattle.transport.specs.declared.Sending.{Sending}
 use Rattle.transport.specs.declared.TransportSequence.{TransportSequence}
 
 -- ---- receiving
@@ -44,6 +46,12 @@ module _ (room : ℕ) (a : Assembly) (s : List ℕ) where
       → receiving room a s ≡ places a (sequence (headOf s)) (length (dataOf s))
   unfolding receiving
   got-next h l m e = rw (le-ltb room 2048 h, le-ltb (length s) 2 l, le-ltb 250 (length s) m, ne-eqb (headOf s / 64 % 2) 1 e)
+
+-- the contract from the outcome
+pub received-by : (r : Reception) (a : Assembly) (s d d′ : List ℕ) (o : Outcome ℕ) → receiving (length d) a s ≡ o → receivedOf (r .answer) ≡ answerOf s o
+    → r .assembly ≡ assemblyAfter a s o → d′ ≡ lentAfter d s o → SegmentReceived r a s d d′
+received-by r a s d d′ o e x y z =
+    record { answer = x ∙ ap (answerOf s) (sym e); assembly = y ∙ ap (assemblyAfter a s) (sym e); lent = z ∙ ap (lentAfter d s) (sym e) }
 
 module _ (a : Assembly) (q n : ℕ) where
   pub place-idle : a .begun ≡ false → places a q n ≡ refused 22
@@ -101,6 +109,12 @@ module _ (room : ℕ) (p : Sender) (f : List ℕ) where
   pub send-next : 250 ≤ room → 1 ≤ length f → length f ≤ 2048 → sending room p f ≡ accepted (nextSegment p f)
   unfolding sending
   send-next h l m = rw (le-ltb room 250 h, le-ltb (length f) 1 l, le-ltb 2048 (length f) m)
+
+-- the contract from the outcome
+pub sent-by : (r : Sending) (p : Sender) (f d d′ : List ℕ) (o : Outcome (List ℕ)) → sending (length d) p f ≡ o → sentOf (r .answer) ≡ answerSent o
+    → r .sender ≡ senderAfter p f o → d′ ≡ lentAfterSend d o → SegmentSent r p f d d′
+sent-by r p f d d′ o e x y z =
+    record { answer = x ∙ ap answerSent (sym e); sender = y ∙ ap (senderAfter p f) (sym e); lent = z ∙ ap (lentAfterSend d) (sym e) }
 
 pub bit-le : (b : Bool) → bitOf b ≤ 1
 bit-le true = omega arith

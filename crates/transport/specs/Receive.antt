@@ -1,8 +1,9 @@
 -- Receiving: what a segment comes to, in document 01's order of refusals.
 -- Assumes nothing.
-use Prim.Native.Nat.{ℕ, zero, suc, _+_}
+use Prim.Native.Nat.{ℕ, _+_}
+use mathlib.Core.Path.{_≡_}
 use mathlib.Core.Bool.{Bool, true, false, cond}
-use mathlib.Core.List.{List, [], _∷_}
+use mathlib.Core.List.{List}
 use lib.ListN.{length}
 use lib.Dec.{ltb, eqb}
 use Rattle.octets.specs.Bytes.{splice}
@@ -12,10 +13,11 @@ use Rattle.transport.specs.Segment.{headOf, fin, fir, sequence, dataOf, 
 use Rattle.transport.specs.declared.Assembly.{Assembly}
 use Rattle.transport.specs.declared.Received.{Received}
 use Rattle.transport.specs.declared.Received.the-variants.{More, Fragment, SegmentLength, OutOfSequence, FragmentTooLong, AssemblyLent}
+use Rattle.transport.specs.declared.Reception.{Reception}
 use Rattle.transport.specs.declared.Place.{Place}
 use Rattle.transport.specs.declared.Place.the-variants.{At, NotNext, TooLong}
 
--- nothing begun
+-- nothing begun: what a restart leaves. "A restart keeps only the setup": it empties the assembly and the sender
 abbrev pub idle : Assembly
 idle = record { begun = false; last = record { 0 = 0 }; len = 0 }
 
@@ -76,28 +78,13 @@ receivedOf OutOfSequence = refused 22
 receivedOf FragmentTooLong = refused 23
 receivedOf AssemblyLent = refused 33
 
+-- a call that took the segment s, with this assembly and these lent bytes before it, gives r and leaves these lent bytes
+pub record SegmentReceived (r : Reception) (a : Assembly) (s before after : List ℕ) : Type 0 where
+  pub answer : receivedOf (r .answer) ≡ answerOf s (receiving (length before) a s)
+  pub assembly : r .assembly ≡ assemblyAfter a s (receiving (length before) a s)
+  pub lent : after ≡ lentAfter before s (receiving (length before) a s)
+
 abbrev pub placeOf : Place → Outcome ℕ
 placeOf (At n) = accepted n
 placeOf NotNext = refused 22
 placeOf TooLong = refused 23
-
--- ---- several segments in order
-
-pub record Run : Type 0 where
-  pub answers : List (Outcome Taken)
-  pub assembly : Assembly
-  pub lent : List ℕ
-
-abbrev pub answered : Outcome Taken → Run → Run
-answered o r = record { answers = o ∷ r .answers; assembly = r .assembly; lent = r .lent }
-
-unfoldable pub receiveAll : Assembly → List ℕ → List (List ℕ) → Run
-receiveAll a d [] = record { answers = []; assembly = a; lent = d }
-receiveAll a d (s ∷ ss) =
-    answered (answerOf s (receiving (length d) a s))
-    (receiveAll (assemblyAfter a s (receiving (length d) a s)) (lentAfter d s (receiving (length d) a s)) ss)
-
--- k times more to come, then a complete fragment of n bytes
-unfoldable pub goes : ℕ → ℕ → List (Outcome Taken)
-goes zero n = accepted (complete n) ∷ []
-goes (suc k) n = accepted more ∷ goes k n

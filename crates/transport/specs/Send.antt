@@ -1,8 +1,9 @@
 -- Sending: one segment a call, and all calls of a fragment.
 -- Assumes nothing.
-use Prim.Native.Nat.{ℕ, zero, suc, _+_}
+use Prim.Native.Nat.{ℕ, _+_}
+use mathlib.Core.Path.{_≡_}
 use mathlib.Core.Bool.{Bool, cond}
-use mathlib.Core.List.{List, [], _∷_}
+use mathlib.Core.List.{List}
 use lib.ListN.{length, take, drop}
 use lib.Dec.{ltb, leb, eqb}
 use Rattle.octets.specs.Bytes.{splice}
@@ -10,8 +11,13 @@ use Rattle.laws.specs.Limits.{fragmentMax, segmentDataMax}
 use Rattle.laws.specs.Outcome.{Outcome, accepted, refused}
 use Rattle.transport.specs.Segment.{headOf, fin, segment, nextOf}
 use Rattle.transport.specs.declared.Sender.{Sender}
+use Rattle.transport.specs.declared.Sending.{Sending}
 use Rattle.transport.specs.declared.Sent.{Sent}
 use Rattle.transport.specs.declared.Sent.the-variants.{Segment, FragmentLength, SegmentLent}
+
+-- a sender that has sent nothing ("0 first"): what a restart leaves
+abbrev pub nothingSent : Sender
+nothingSent = record { next = record { 0 = 0 }; at = 0 }
 
 -- a segment that was written: its size, and whether it is the fragment's last
 pub record Written : Type 0 where
@@ -67,15 +73,8 @@ sentOf (Segment n l) = accepted (record { size = n; last = l })
 sentOf FragmentLength = refused 16
 sentOf SegmentLent = refused 33
 
--- ---- so many calls in order: the segments that they write, and the sender after them
-
-pub record Calls : Type 0 where
-  pub written : List (List ℕ)
-  pub sender : Sender
-
-abbrev pub wrote : List ℕ → Calls → Calls
-wrote s r = record { written = s ∷ r .written; sender = r .sender }
-
-unfoldable pub calls : ℕ → Sender → List ℕ → Calls
-calls zero p f = record { written = []; sender = p }
-calls (suc k) p f = wrote (nextSegment p f) (calls k (nextSender p f) f)
+-- a call that wrote the next segment of f, with this sender and these lent bytes before it, gives r and leaves these lent bytes
+pub record SegmentSent (r : Sending) (p : Sender) (f before after : List ℕ) : Type 0 where
+  pub answer : sentOf (r .answer) ≡ answerSent (sending (length before) p f)
+  pub sender : r .sender ≡ senderAfter p f (sending (length before) p f)
+  pub lent : after ≡ lentAfterSend before (sending (length before) p f)

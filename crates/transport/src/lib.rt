@@ -8,25 +8,20 @@ ghost use Rattle.transport.specs.Receive.{
   idle,
   places,
   placeOf,
-  receiving,
   receivedOf,
   keptOf,
   tellsOf,
-  answerOf,
-  assemblyAfter,
-  lentAfter,
+  SegmentReceived,
 };
 ghost use Rattle.transport.specs.Send.{
+  nothingSent,
   fromOf,
   endOf,
   nextSegment,
-  sending,
   sentOf,
   writtenOf,
-  answerSent,
   nextSender,
-  senderAfter,
-  lentAfterSend,
+  SegmentSent,
 };
 
 // The most data bytes of a segment, and the bytes of such a segment.
@@ -75,7 +70,7 @@ pub enum Place {
     TooLong,
 }
 
-// Nothing begun.
+// Nothing begun: what a restart leaves.
 pub fn nothing_begun() -> Assembly
     ensures { λ r. ⌜ r ≡ idle ⌝ }
 {
@@ -134,10 +129,7 @@ fn taken(header: u8, n: usize) -> Reception
 
 // Takes a segment into the fragment whose bytes so far are the first of the lent bytes.
 pub fn receive(a: Assembly, segment: &[u8], out: &mut [u8]) -> Reception
-    ensures { λ r. ⌜
-        (receivedOf (r .answer) ≡ answerOf (now (segment .entry)) (receiving (length (now (out .entry))) a (now (segment .entry))))
-        × (r .assembly ≡ assemblyAfter a (now (segment .entry)) (receiving (length (now (out .entry))) a (now (segment .entry))))
-        × (now (out .exit) ≡ lentAfter (now (out .entry)) (now (segment .entry)) (receiving (length (now (out .entry))) a (now (segment .entry)))) ⌝ }
+    ensures { λ r. ⌜ SegmentReceived r a (now (segment .entry)) (now (out .entry)) (now (out .exit)) ⌝ }
 {
     if out.len() < FRAGMENT_MAX {
         return Reception {
@@ -201,9 +193,9 @@ pub struct Sending {
     pub sender: Sender,
 }
 
-// A sender that has sent nothing.
+// A sender that has sent nothing: what a restart leaves.
 pub fn nothing_sent() -> Sender
-    ensures { λ r. ⌜ (r .next .0 ≡ 0) × (r .at ≡ 0) ⌝ }
+    ensures { λ r. ⌜ r ≡ nothingSent ⌝ }
 {
     Sender {
         next: TransportSequence(0),
@@ -273,10 +265,7 @@ fn write_segment(p: Sender, fragment: &[u8], out: &mut [u8]) -> Sending
 
 // Writes the next segment of the fragment at the front of the lent bytes.
 pub fn send(p: Sender, fragment: &[u8], out: &mut [u8]) -> Sending
-    ensures { λ r. ⌜
-        (sentOf (r .answer) ≡ answerSent (sending (length (now (out .entry))) p (now (fragment .entry))))
-        × (r .sender ≡ senderAfter p (now (fragment .entry)) (sending (length (now (out .entry))) p (now (fragment .entry))))
-        × (now (out .exit) ≡ lentAfterSend (now (out .entry)) (sending (length (now (out .entry))) p (now (fragment .entry)))) ⌝ }
+    ensures { λ r. ⌜ SegmentSent r p (now (fragment .entry)) (now (out .entry)) (now (out .exit)) ⌝ }
 {
     if out.len() < SEGMENT_MAX {
         return Sending {

@@ -3,21 +3,21 @@
 use mathlib.Core.Path.{refl, sym, ap}
 use native.Mathlib.Omega.{arith}
 use lib.ListN.{length}
-use Rattle.laws.specs.Outcome.{accepted}
-use Rattle.frame.specs.Frame.{Parts, parts}
-use Rattle.frame.proofs.Laws.{into-lent, into-long, into, length-encode, splice-encode}
+use Rattle.laws.specs.Outcome.{accepted, refused}
+use Rattle.frame.specs.Frame.{Parts, parts, encode}
+use Rattle.frame.proofs.Laws.{into-lent, into-long, into, length-encode, splice-encode, written-by}
 use Rattle.frame.proofs.write_frame.Statement.{statement}
 use Rattle.frame.proofs.write_frame.Tie as tie
 
 returns : tie.Need-returns
 returns c =
     let a = c .before .before .before .args in
-    rw (into-lent (length (a .out .now)) (parts (a .control) (a .destination) (a .source) (a .user .now)) (c .if1 .taken)) (refl, refl)
+    written-by _ _ (a .out .now) _ (refused 33) (into-lent (length (a .out .now)) (parts (a .control) (a .destination) (a .source) (a .user .now)) (c .if1 .taken)) refl refl
 
 returns-2 : tie.Need-returns-2
 returns-2 c =
     let a = c .before .before .before .before .args in
-    rw (into-long (length (a .out .now)) (parts (a .control) (a .destination) (a .source) (a .user .now)) (c .before .if1 .left) (c .if2 .taken)) (refl, refl)
+    written-by _ _ (a .out .now) _ (refused 16) (into-long (length (a .out .now)) (parts (a .control) (a .destination) (a .source) (a .user .now)) (c .before .if1 .left) (c .if2 .taken)) refl refl
 
 add-k : tie.Need-add-k
 add-k c = omega arith
@@ -50,7 +50,7 @@ returns-3 : tie.Need-returns-3
 returns-3 c =
     let a = c .before .before .before .before .before .before .before .before .before .before .before .before .before .before .args in
     let f : Parts = parts (a .control) (a .destination) (a .source) (a .user .now) in
-    rw (into (length (a .out .now)) f (omega arith) (omega arith)) (ap accepted (sym (length-encode f)), cc (splice-encode (a .out .now) f))
+    written-by _ _ (a .out .now) _ (accepted (encode f)) (into (length (a .out .now)) f (omega arith) (omega arith)) (ap accepted (sym (length-encode f))) (cc (splice-encode (a .out .now) f))
 
 pub write-frame-spec : {M : Type 1} → statement M
 write-frame-spec =

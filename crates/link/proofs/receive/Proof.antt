@@ -1,7 +1,7 @@
 -- `link::receive` meets its contract: a walk of its MIR, by hand. The addresses and the two slices go to `take_frame`, `out` for good; then the borrow of the record is opened, the record is copied out and passed to `counted` with the answer, the record returned is stored in its place, and the borrow is closed at it.
 -- All that the proof knows of `take_frame` and of `counted` is that each meets its contract.
 -- Assumes nothing.
-use mathlib.Core.Path.{_≡_, refl, ap, _∙_}
+use mathlib.Core.Path.{_≡_, refl, ap}
 use Prim.Native.Nat.{ℕ}
 use mathlib.Core.List.{[], _∷_, List}
 use lib.ListN.{length}
@@ -15,7 +15,7 @@ use prog.Memory.{Memory}
 use prog.Routine.{Routine}
 use prog.Wp.{Heap, Calls, Loops, WpFn, Tables}
 use ghost.Atoms.{Atoms}
-use contract.Monad.{Fun}
+use contract.Monad.{Fun, fact-use, factI}
 use contract.Running.{givenOf, tables, tablesOf}
 use types.Kit.{Given, Item, ‵, raw, _⊛_, ⋆, _$_, _∵_, !, qed, by, move, drop, use2, split, join, fsplit, fsplit3, fjoin, fjoin3, feqI, feqL, suffices, frame, done}
 use types.Part.{agg, whole, sub, look-in}
@@ -41,11 +41,10 @@ use denote.Triple.Walked.{says, Stays, stay-ref, stay-dropped, gave-slice, walkO
 use denote.Exit.{yes}
 use Rattle.link.specs.declared.LineRecord.{LineRecord}
 use Rattle.link.specs.declared.Taken.{Taken}
-use Rattle.link.specs.Station.{Action, station, answerFor, takenOf, countedOf, lentAfter}
-use Rattle.laws.specs.Outcome.{numberOf}
+use Rattle.link.specs.Station.{Action, station, answerFor, takenNumber, countedOf, lentAfter, FrameTaken}
 use Rattle.laws.specs.Outcome.{Outcome}
 use Rattle.link.specs.declared.Station.{Station}
-use Rattle.link.proofs.Laws.{number-same}
+use Rattle.link.proofs.Laws.{answer-number}
 use Rattle.link.proofs.Station as S
 use Rattle.link.proofs.Station.Laws as S′
 use Rattle.link.proofs.LineLaws.{valL, tellsL, makesL, typedL, valS, IsS, tellsS, typedS, valA, IsA, tellsA, makesA, typedA}
@@ -87,11 +86,11 @@ module _ {M : Type 1} (𝓤 : URA M) (H : Heap 𝓤) (A : Atoms 𝓤) (W : Given
   a = answerFor outcome
 
   abbrev h′ : LineRecord
-  h′ = countedOf h (numberOf (takenOf a []))
+  h′ = countedOf h (takenNumber a)
 
   -- what is right of the lent bytes afterwards
   abbrev Done : List ℕ → Type 0
-  Done d = (takenOf a d ≡ outcome) × (d ≡ lentAfter (z .now) outcome)
+  Done d = d ≡ lentAfter (z .now) outcome
 
   -- what is passed: the arguments, and their machine values
   abbrev args : RefT LineRecord × (Station × (RefT (List ℕ) × (RefT (List ℕ) × Unit {0})))
@@ -134,7 +133,7 @@ module _ {M : Type 1} (𝓤 : URA M) (H : Heap 𝓤) (A : Atoms 𝓤) (W : Given
       qed W (‵ (fobs γ (L.the-row .coded .code h′)) ∷ ‵ (fbor κ₀ (Body (mem L.the-row) b o γ)) ∷ ‵ (flft κ₀ q₀) ∷ Said ws ∷ Tokens ∷ []) ∵
       move ! (3 ∷ []) $ fsplit ! $ drop ! $ fsplit ! $ drop ! $ fsplit ! $ fsplit ! $ move ! (1 ∷ []) $ feqL ! (λ l.
       -- [out's last list; true; obs; the borrow; the tokens]
-      suffices ! _ (ends-at 𝓤 H A receive.ended stayed (receive.clauses 𝓤 H A at-mem run) W (((κ₀, (κ₁, (κ₂, tt))), (q₀, (q₁, (q₂, tt))), tt, args, at), tt) (valA a) a (h′, (tt, (tt, (ws .1 .1 .0, tt)))) (tt, (tt, (tt, (l, tt))))) $ says ! (refl, (e .0, (e .1, ap (countedOf h) (number-same a (ws .1 .1 .0) ∙ ap numberOf (e .0))))) $
+      suffices ! _ (ends-at 𝓤 H A receive.ended stayed (receive.clauses 𝓤 H A at-mem run) W (((κ₀, (κ₁, (κ₂, tt))), (q₀, (q₁, (q₂, tt))), tt, args, at), tt) (valA a) a (h′, (tt, (tt, (ws .1 .1 .0, tt)))) (tt, (tt, (tt, (l, tt))))) $ says ! (record { answer = refl; lent = e }, ap (countedOf h) (answer-number st (length (z .now)) (x .now))) $
       move ! (4 ∷ 5 ∷ []) $ join ! $ frame ! $ fjoin ! $ nothing ! $ fjoin ! $ nothing ! $ fjoin ! $ move ! (1 ∷ 2 ∷ []) $ feqI ! (List Val) (vptr b o ∷ []) (vptr b o ∷ []) refl $ fjoin3 ! $ fjoin ! $ frame ! $
       owned ! N.the-row (Is N.the-row) (makesA 𝓤 H A) a _ is $ done !)
 
@@ -150,7 +149,9 @@ module _ {M : Type 1} (𝓤 : URA M) (H : Heap 𝓤) (A : Atoms 𝓤) (W : Given
         move ! (21 ∷ []) $ fsplit ! $ fsplit3 ! $ drop ! $ move ! (23 ∷ 2 ∷ []) $ split ! $
         -- [the record's token; the slices' tokens; what the slices own; obs; the borrow; _9; …; _8; …; _7; …; _6; …; _5; …; _4; …; _3; …; _2; …; _1; …; _0; …]
         move ! (1 ∷ 2 ∷ []) $ use2 W (raw (Frame 𝓤 H A at-mem run .pre to-frame)) asked $
-        calls-lent ! fm frame′.ended (frame′.clauses 𝓤 H A at-mem run) known-frame to-frame valA tellsA a (λ ws. Done (ws .1 .1 .0)) (λ r ws. id⊢ 𝓤 _) (raw (Frame 𝓤 H A at-mem run .pre to-frame)) (id⊢ 𝓤 _)
+        calls-lent ! fm frame′.ended (frame′.clauses 𝓤 H A at-mem run) known-frame to-frame valA tellsA a (λ ws. Done (ws .1 .1 .0))
+        (λ r ws. fact-use 𝓤 (FrameTaken r st (x .now) (z .now) (ws .1 .1 .0)) (id⊢ 𝓤 _) (λ e. factI 𝓤 ((r ≡ a) × Done (ws .1 .1 .0)) _ (e .answer, e .lent)))
+        (raw (Frame 𝓤 H A at-mem run .pre to-frame)) (id⊢ 𝓤 _)
         (and-then ! (load ! (from ! (stop !)) (look ! 18 refl)) (and-then ! (load ! (from ! (stop !)) (look ! 16 refl)) (and-then ! (load ! (from ! (stop !)) (look ! 8 refl)) (no-more !)))) (λ ws e is.
         -- [the last list; the slices' tokens; the record's token; obs; the borrow; _9; …; _8; …]
         land ! (from ! (stop !)) (init ! 13 refl (typedA 𝓤 H A W a is)) $

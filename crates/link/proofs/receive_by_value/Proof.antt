@@ -43,7 +43,7 @@ use Rattle.link.specs.declared.LineRecord.{LineRecord}
 use Rattle.link.specs.declared.Station.{Station}
 use Rattle.link.specs.declared.Taken.{Taken}
 use Rattle.link.specs.declared.Received.{Received}
-use Rattle.link.specs.Station.{Action, station, answerFor, takenOf, countedOf, lentAfter}
+use Rattle.link.specs.Station.{Action, station, answerFor, countedOf, lentAfter, FrameTaken}
 use Rattle.link.proofs.LineLaws.{valL, IsL, tellsL, makesL, typedL, valS, IsS, tellsS, typedS, valA, tellsA, typedA, valD, IsD, makesD, typedD, of-fields}
 use Rattle.walk.proofs.Walking.{calls-lent, lies, lies-out}
 use Rattle.link.proofs.LineRecord as L
@@ -84,7 +84,7 @@ module _ {M : Type 1} (𝓤 : URA M) (H : Heap 𝓤) (A : Atoms 𝓤) (W : Given
 
   -- what is right of the lent bytes afterwards
   abbrev Done : List ℕ → Type 0
-  Done zs = (takenOf a zs ≡ outcome) × (zs ≡ lentAfter (z .now) outcome)
+  Done zs = zs ≡ lentAfter (z .now) outcome
 
   abbrev args : LineRecord × (Station × (RefT (List ℕ) × (RefT (List ℕ) × Unit {0})))
   args = (h, (st, (x, (z, tt))))
@@ -111,7 +111,7 @@ module _ {M : Type 1} (𝓤 : URA M) (H : Heap 𝓤) (A : Atoms 𝓤) (W : Given
   exits : (zs : List ℕ) → Done zs → IsD d → ent 𝓤 (⋆ 𝓤 H A (‵ (SlicesSaid zs) ∷ Tokens ∷ [])) (Post (valD d))
   exits zs e is =
       qed W (‵ (SlicesSaid zs) ∷ Tokens ∷ []) ∵ fsplit ! $ drop ! $ fsplit ! $ drop ! $ fsplit ! $ fsplit ! $ move ! (1 ∷ []) $ feqL ! (λ l.
-      suffices ! _ (ends-at 𝓤 H A f.ended stayed (f.clauses 𝓤 H A at-mem run) W (((κ₁, (κ₂, tt)), (q₁, (q₂, tt)), tt, args, at), tt) (valD d) d (tt, (tt, (tt, (zs, tt)))) (tt, (tt, (tt, (l, tt))))) $ says ! (refl, (e .0, (e .1, refl))) $
+      suffices ! _ (ends-at 𝓤 H A f.ended stayed (f.clauses 𝓤 H A at-mem run) W (((κ₁, (κ₂, tt)), (q₁, (q₂, tt)), tt, args, at), tt) (valD d) d (tt, (tt, (tt, (zs, tt)))) (tt, (tt, (tt, (l, tt))))) $ says ! (record { answer = refl; lent = e }, refl) $
       move ! (2 ∷ []) $ frame ! $ fjoin ! $ nothing ! $ fjoin ! $ nothing ! $ fjoin ! $ nothing ! $ fjoin ! $ frame ! $ owned ! D.the-row (Is D.the-row) (makesD 𝓤 H A) d _ is $ done !)
 
   -- the local at l is lent for ν, under the name γ
@@ -143,8 +143,8 @@ module _ {M : Type 1} (𝓤 : URA M) (H : Heap 𝓤) (A : Atoms 𝓤) (W : Given
         -- [what is lent; the lender's part; the token; _10; …; _9; …; _8; …; _7; …; _6; …; that _5 dies; _4; …; _3; …; _2; …; _1; …; _0; …; the slices' tokens; what is owned at entry]
         move ! (25 ∷ []) $ fsplit ! $ drop ! $ move ! (1 ∷ 0 ∷ []) $ fjoin ! $ move ! (2 ∷ 24 ∷ []) $ join ! $ use2 W (raw (Receive 𝓤 H A at-mem run .pre (to l₅ ν γ))) (asked l₅ ν γ) $
         calls-lent ! fm receive.ended (receive.clauses 𝓤 H A at-mem run) known (to l₅ ν γ) valA tellsA a (λ ws. Done (ws .1 .1 .1 .0) × (ws .0 ≡ h′))
-        (λ r ws. fact-use 𝓤 ((r ≡ a) × ((takenOf r (ws .1 .1 .1 .0) ≡ outcome) × ((ws .1 .1 .1 .0 ≡ lentAfter (z .now) outcome) × (ws .0 ≡ h′)))) (id⊢ 𝓤 _)
-        (λ e. factI 𝓤 ((r ≡ a) × (Done (ws .1 .1 .1 .0) × (ws .0 ≡ h′))) _ (e .0, ((rw (e .0) at (e .1 .0), e .1 .1 .0), e .1 .1 .1))))
+        (λ r ws. fact-use 𝓤 (FrameTaken r st (x .now) (z .now) (ws .1 .1 .1 .0) × (ws .0 ≡ h′)) (id⊢ 𝓤 _)
+        (λ e. factI 𝓤 ((r ≡ a) × (Done (ws .1 .1 .1 .0) × (ws .0 ≡ h′))) _ (e .0 .answer, (e .0 .lent, e .1))))
         (raw (Receive 𝓤 H A at-mem run .pre (to l₅ ν γ))) (id⊢ 𝓤 _)
         (and-then ! (load ! (from ! (stop !)) (look ! 8 refl)) (and-then ! (load ! (from ! (stop !)) (look ! 17 refl)) (and-then ! (load ! (from ! (stop !)) (look ! 15 refl)) (and-then ! (load ! (from ! (stop !)) (look ! 4 refl)) (no-more !))))) (λ ws e is.
         -- [the last values; the tokens; the lender's part; _10; …; _9; …; _8; …; _7; …; _6; …; that _5 dies; _4; …; _3; …; _2; …; _1; …; _0; …]

@@ -4,9 +4,9 @@ use mathlib.Core.Path.{_≡_, refl, sym, ap, _∙_}
 use Prim.Native.Nat.{ℕ, _-_, _%_}
 use native.Mathlib.Omega.{arith}
 use lib.ListN.{length, getD}
-use Rattle.laws.specs.Outcome.{accepted}
+use Rattle.laws.specs.Outcome.{accepted, refused}
 use Rattle.transport.specs.Receive.{receiving, places, placeOf}
-use Rattle.transport.proofs.Laws.{got-lent, got-short, got-long, got-first, got-next, place-fits, rest-is, rest-length, rest-length-0}
+use Rattle.transport.proofs.Laws.{received-by, got-lent, got-short, got-long, got-first, got-next, place-fits, rest-is, rest-length, rest-length-0}
 use Rattle.transport.proofs.receive.Statement.{statement}
 use Rattle.transport.proofs.receive.Tie as tie
 
@@ -23,17 +23,17 @@ went u = sym (u .before .before .placed .ensures) ∙ ap placeOf (u .p .given .1
 returns : tie.Need-returns
 returns c =
     let a = c .before .before .before .args in
-    rw (got-lent (length (a .out .now)) (a .a) (a .segment .now) (c .if1 .taken)) (refl, refl, refl)
+    received-by _ _ _ (a .out .now) _ (refused 33) (got-lent (length (a .out .now)) (a .a) (a .segment .now) (c .if1 .taken)) refl refl refl
 
 returns-2 : tie.Need-returns-2
 returns-2 c =
     let a = c .before .before .before .before .args in
-    rw (got-short (length (a .out .now)) (a .a) (a .segment .now) (c .before .if1 .left) (c .if2 .taken)) (refl, refl, refl)
+    received-by _ _ _ (a .out .now) _ (refused 21) (got-short (length (a .out .now)) (a .a) (a .segment .now) (c .before .if1 .left) (c .if2 .taken)) refl refl refl
 
 returns-3 : tie.Need-returns-3
 returns-3 c =
     let a = c .before .before .before .before .before .args in
-    rw (got-long (length (a .out .now)) (a .a) (a .segment .now) (c .before .before .if1 .left) (c .before .if2 .left) (c .if3 .taken)) (refl, refl, refl)
+    received-by _ _ _ (a .out .now) _ (refused 21) (got-long (length (a .out .now)) (a .a) (a .segment .now) (c .before .before .if1 .left) (c .before .if2 .left) (c .if3 .taken)) refl refl refl
 
 shared-slice-read-header : tie.Need-shared-slice-read-header
 shared-slice-read-header c = omega arith
@@ -64,8 +64,8 @@ returns-4 c =
     let t4 = c .before .before .before .before .before .before in
     let a = t4 .before .before .before .before .before .before .before .args in
     let s = a .segment .now in
-    rw (got-first (length (a .out .now)) (a .a) s (omega arith) (omega arith) (omega arith) (t4 .if4 .taken), rest-length-0 s)
-    (c .taken .ensures .1, c .taken .ensures .0, cc (rest-is s))
+    received-by _ _ s (a .out .now) _ (accepted 0) (got-first (length (a .out .now)) (a .a) s (omega arith) (omega arith) (omega arith) (t4 .if4 .taken))
+    (rw (rest-length-0 s) (c .taken .ensures .1)) (rw (rest-length-0 s) (c .taken .ensures .0)) (cc (rest-is s))
 
 placed-requires : tie.Need-placed-requires
 placed-requires c κs = omega arith
@@ -115,19 +115,20 @@ returns-5 : tie.Need-returns-5
 returns-5 c =
     let u = c .before .before .before .before .before .before .before in
     let s = u .before .before .before .before .before .before .before .before .before .before .args .segment .now in
-    rw (nexts (u .before .before .before), went u, rest-length s) (c .taken2 .ensures .1, c .taken2 .ensures .0, cc (rest-is s))
+    received-by _ _ s _ _ _ (nexts (u .before .before .before) ∙ went u)
+    (rw (rest-length s) (c .taken2 .ensures .1)) (rw (rest-length s) (c .taken2 .ensures .0)) (cc (rest-is s))
 
 returns-6 : tie.Need-returns-6
 returns-6 c =
     let u = c .before .before .before .before in
     let e = sym (c .before .before .before .placed .ensures) ∙ ap placeOf (c .before .enum-told .given .1) in
-    rw (nexts u, e) (refl, c .nothing-begun .ensures, refl)
+    received-by _ _ _ _ _ _ (nexts u ∙ e) refl (c .nothing-begun .ensures) refl
 
 returns-7 : tie.Need-returns-7
 returns-7 c =
     let u = c .before .before .before .before in
     let e = sym (c .before .before .before .placed .ensures) ∙ ap placeOf (c .before .enum-told2 .given .1) in
-    rw (nexts u, e) (refl, c .nothing-begun2 .ensures, refl)
+    received-by _ _ _ _ _ _ (nexts u ∙ e) refl (c .nothing-begun2 .ensures) refl
 
 pub receive-spec : {M : Type 1} → statement M
 receive-spec =
