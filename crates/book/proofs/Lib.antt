@@ -1,6 +1,7 @@
 pub mod Rows
 pub mod Walk
 pub mod Past
+pub mod Numbers
 pub mod Places
 pub mod Requests
 pub mod Step
