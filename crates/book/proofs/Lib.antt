@@ -7,3 +7,4 @@ pub mod Requests
 pub mod Step
 pub mod Theorem
 pub mod Example
+pub mod Witness
