@@ -7,4 +7,5 @@ pub mod Requests
 pub mod Step
 pub mod Theorem
 pub mod Example
+pub mod Run
 pub mod Witness
