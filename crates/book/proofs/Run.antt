@@ -1,21 +1,18 @@
 -- A run of the outstation, worked out by computation: 257 events of one binary, the last of them dropped, in a table that is stopped;
 -- READ, a late CONFIRM, READ again and its CONFIRM; WRITE and its repeat.
 -- Assumes nothing.
-use Prim.Native.Nat.{ℕ, zero, suc, _+_, _*_, _-_}
+use Prim.Native.Nat.{ℕ, zero, suc, _+_, _*_, _-_, _≤_}
 use mathlib.Core.Path.{_≡_, refl, sym, ap, _∙_}
-use mathlib.Core.Bool.{Bool, true, false, not, cond, or-true}
+use mathlib.Core.Bool.{Bool, true, false, not, or-true}
 use mathlib.Core.List.{List, [], _∷_, _++_, map, append-nil}
 use native.Mathlib.Omega.{arith}
-use lib.ListN.{length, replicate, getD}
+use lib.ListN.{length, replicate}
 use borrow.Author.Tests.{le-leb}
 use lib.Seq.{take-append-seam}
 use Rattle.laws.specs.Limits.{fragmentMax, eventsMax, pointsMax}
 use Rattle.laws.specs.Lists.{filter, some, same, count}
-use Rattle.octets.specs.Bytes as O
-use Rattle.points.specs.Setup.{freshAnalog}
 use Rattle.points.specs.Reading as P
 use Rattle.points.specs.Inputs.{Inputs, inputs, noBinary, noAnalog}
-use Rattle.events.specs.declared.Event.{Event}
 use Rattle.events.specs.declared.Classes.{Classes}
 use Rattle.events.specs.declared.Held.{Held}
 use Rattle.events.specs.declared.Shown.the-variants.{State}
@@ -28,21 +25,20 @@ use Rattle.application.specs.declared.Fault.the-variants.{Faultless}
 use Rattle.request.specs.Headers as H
 use Rattle.request.specs.Headers.{eventsOf}
 use Rattle.request.specs.Parse as A
-use Rattle.objects.specs.Runs.{encoded, runs, allBytes, objectBytes}
-use Rattle.event_objects.specs.Events.{eventsBytes, eventBytes, carriedEvents, carriedObjects, carriedBytes}
-use Rattle.static_objects.specs.Static.{staticBytes, rangeBytes, pointObjects, pointBytes}
+use Rattle.objects.specs.Runs.{encoded, runs, allBytes}
+use Rattle.event_objects.specs.Events.{eventsBytes, carriedBytes}
+use Rattle.static_objects.specs.Static.{staticBytes, rangeBytes, pointObjects}
 use Rattle.control.specs.Objects.{echoMax, answerMax}
 use Rattle.select.specs.declared.Latch.{Latch}
 use Rattle.select.specs.Select.{Selection, noSelect, selected, latchOf}
 use Rattle.repeat.specs.declared.Last.{Last}
-use Rattle.repeat.specs.Repeat.{Memory, nothing, kept, lastOf, isRepeat}
+use Rattle.repeat.specs.Repeat.{Memory, nothing, kept, lastOf, answerOf, isRepeat}
 use Rattle.outstation.specs.declared.Outstation.{Outstation}
 use Rattle.outstation.specs.declared.Reading.{Reading}
 use Rattle.outstation.specs.declared.Measured.the-variants as Ms
 use Rattle.outstation.specs.declared.Wait as D
 use Rattle.outstation.specs.declared.Wait.the-variants.{Idle, Awaiting}
 use Rattle.outstation.specs.Setup as U
-use Rattle.outstation.specs.Setup.{setupOk}
 use Rattle.outstation.specs.World.{World, Exchange, exchangeOf, world, restarted}
 use Rattle.outstation.specs.Readings as R
 use Rattle.outstation.specs.Requests as Q
@@ -111,10 +107,20 @@ world-for w =
       latch-for (w .exchange .latch),
     )
 
--- the call c of the outstation for w
-pub did-for : (w w₁ : World) (c : Call) (a : Answer) → step c w ≡ record { state = w₁; answer = a } → Did (outstationFor w) c a (outstationFor w₁)
+-- no count passes its array, so what is padded has the array's length
+pub record Within (o : Outstation) : Type 0 where
+  pub binaries : o .points .«binary_count» ≤ pointsMax
+  pub analogs : o .points .«analog_count» ≤ pointsMax
+  pub events : o .buffer .count ≤ eventsMax
+  pub request : o .session .last .«request_len» ≤ fragmentMax
+  pub answer : o .session .last .«answer_len» ≤ answerMax
+  pub objects : o .session .latch .len ≤ echoMax
+
+-- the call c of the outstation for w, which leaves one that is within its arrays
+pub did-for : (w w₁ : World) (c : Call) (a : Answer) → Within (outstationFor w₁) → step c w ≡ record { state = w₁; answer = a }
+    → Did (outstationFor w) c a (outstationFor w₁)
 unfolding Did
-did-for w w₁ c a e = rw (world-for w, world-for w₁) (sym e)
+did-for w w₁ c a n e = rw (world-for w, world-for w₁) (sym e)
 
 -- ---- the calls
 
@@ -192,6 +198,10 @@ exchangeWith restarted wait last = record { restarted = restarted; wait = wait; 
 abbrev pub awaits : ℕ → ℕ → D.Wait
 awaits q time = Awaiting (record { 0 = q }) time true false
 
+abbrev bytesOf : Memory → List ℕ
+bytesOf nothing = []
+bytesOf (kept f a) = f
+
 abbrev pub w₁ : World
 w₁ = stateAt 257 (all256 false) true (exchangeWith true Idle nothing)
 
@@ -209,6 +219,15 @@ w₆ = stateAt 9500 newest false (exchangeWith false Idle (kept write written))
 
 abbrev pub w₇ : World
 w₇ = stateAt 9600 newest false (exchangeWith false Idle (kept write written))
+
+-- within its arrays, by the numbers of the events and of the kept bytes
+pub within-at : (clock : ℕ) (held : List Held) (overflow restarted : Bool) (wait : D.Wait) (m : Memory) → length held ≤ eventsMax
+    → length (bytesOf m) ≤ fragmentMax → length (answerOf m) ≤ answerMax
+    → Within (outstationFor (stateAt clock held overflow (exchangeWith restarted wait m)))
+within-at clock held overflow restarted wait nothing e f a =
+    record { binaries = omega arith; analogs = omega arith; events = e; request = omega arith; answer = omega arith; objects = omega arith }
+within-at clock held overflow restarted wait (kept g b) e f a =
+    record { binaries = omega arith; analogs = omega arith; events = e; request = f; answer = a; objects = omega arith }
 
 -- ---- each step
 
@@ -279,7 +298,7 @@ carried-226 =
     ∙ ap (λ (l : List Held). events true 226 1 true ++ l) (carried-none 30 227 true)
     ∙ append-nil (events true 226 1 true)
 
-pub waiting-30 : filter K.waits (all256 true) ≡ newest
+waiting-30 : filter K.waits (all256 true) ≡ newest
 waiting-30 = waits-none 226 1 true newest ∙ waits-all 30 227 true
 
 -- ---- READ: IIN1.7, restarted; IIN1.1, events of class 1 are left; IIN2.3, events dropped
@@ -347,11 +366,16 @@ pub by-late : (held : List Held) (m : Memory) → let w = stateAt 2000 held true
 unfolding S.step S.fragmentStep S.confirmStep R.badTime Q.ask Q.confirmed F.classified F.malformed
 by-late held m = refl
 
-pub by-confirm : (held : List Held) (m : Memory)
+confirm-at : (held : List Held) (m : Memory)
     → step (fragment 9000 (confirm 0xC2) 2048) (stateAt 8000 held true (exchangeWith true (awaits 2 8000) m))
     ≡ record { state = stateAt 9000 (filter K.waits held) false (exchangeWith true Idle m); answer = accepts }
 unfolding S.step S.fragmentStep S.confirmStep S.confirmedStep R.badTime Q.ask Q.confirmed F.classified F.malformed
-by-confirm held m = refl
+confirm-at held m = refl
+
+pub by-confirm : step (fragment 9000 (confirm 0xC2) 2048) w₄ ≡ record { state = w₅; answer = accepts }
+by-confirm =
+    confirm-at (all256 true) (kept (read 0xC2) [])
+    ∙ ap (λ (l : List Held). record { state = stateAt 9000 l false (w₅ .exchange); answer = accepts }) waiting-30
 
 -- ---- WRITE, and its repeat
 
