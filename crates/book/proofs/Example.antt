@@ -23,12 +23,12 @@ use Rattle.outstation.specs.Readings as R
 use Rattle.outstation.specs.Requests as Q
 use Rattle.outstation.specs.Step.{Call, reading, fragment}
 use Rattle.book.specs.Book as B
-use Rattle.book.specs.Book.{Book, Said, takes, refuses, carries, accepts, built!, confirmed!, released, enter, opened}
+use Rattle.book.specs.Book.{Book, Said, takes, refuses, carries, accepts, hold!, built!, confirmed!, released, enter, opened}
 use Rattle.book.specs.Demand3.{bookAfter, historyAfter}
 
 -- one binary, of class 1
-abbrev u : Setup
-u =
+abbrev pub oneBinary : Setup
+oneBinary =
     record {
       own = 1;
       master = 2;
@@ -61,11 +61,11 @@ sayings (c ∷ cs) b = enter c b .said ∷ sayings cs (enter c b .book)
 
 -- one event was raised, carried and released; the wrong CONFIRM was refused
 run :
-    (bookAfter calls (opened u) .rows
+    (bookAfter calls (opened oneBinary) .rows
     ≡ record { event = record { point = 0; shown = State true; flags = 1; time = 1000; class = 1 }; mark = released } ∷ [])
-    × (sayings calls (opened u)
+    × (sayings calls (opened oneBinary)
     ≡ takes 1 0 ∷ takes 1 0 ∷ carries (0 ∷ []) [] ∷ refuses 32 ∷ accepts ∷ [])
-    × (historyAfter calls (opened u) [] ≡ confirmed! 0 ∷ built! 0 (0 ∷ []) ∷ [])
+    × (historyAfter calls (opened oneBinary) [] ≡ confirmed! 0 ∷ built! 0 (0 ∷ []) ∷ hold! 0 ∷ [])
 unfolding B.opened B.enter B.readingEntry B.enterReading B.readingNews B.enterEvent B.full B.fragmentEntry B.readEntry B.confirmEntry B.confirmedEntry
     U.binaryClasses U.analogSetups R.hear R.badTime P.binaryReading P.reports P.raises
     Q.ask Q.confirmed F.classified F.malformed A.headersOf H.headerOf H.objectOf H.classHeader A.asksFor

@@ -1,8 +1,11 @@
 pub mod Rows
 pub mod Walk
 pub mod Past
+pub mod Numbers
 pub mod Places
 pub mod Requests
 pub mod Step
 pub mod Theorem
 pub mod Example
+pub mod Run
+pub mod Witness

@@ -15,7 +15,7 @@ use Rattle.events.specs.declared.Event.{Event}
 use Rattle.outstation.specs.declared.Setup.{Setup}
 use Rattle.outstation.specs.Step.{Call}
 use Rattle.book.specs.Book as B
-use Rattle.book.specs.Book.{Book, Row, Happening, drop!, built!, confirmed!, dropSince, picks, release, idle, awaiting, Wait}
+use Rattle.book.specs.Book.{Book, Row, Happening, hold!, drop!, built!, confirmed!, dropSince, picks, release, idle, awaiting, Wait}
 use Rattle.book.specs.Demand3.{Has, Pending}
 use Rattle.laws.proofs.Choices.{by}
 use Rattle.book.proofs.Walk.{Steps, enter-on}
@@ -108,6 +108,34 @@ drop-built r k ws e = let z : _≡_ {A = ℕ} 0 1 = cc in omega arith
 drop-confirmed : (r k : ℕ) → drop! r ≡ confirmed! k → ⊥
 drop-confirmed r k e = let z : _≡_ {A = ℕ} 0 1 = cc in omega arith
 
+drop-hold : (r i : ℕ) → drop! r ≡ hold! i → ⊥
+drop-hold r i e = let z : _≡_ {A = ℕ} 0 1 = cc in omega arith
+
+confirmed-hold : (k i : ℕ) → confirmed! k ≡ hold! i → ⊥
+confirmed-hold k i e = let z : _≡_ {A = ℕ} 0 1 = cc in omega arith
+
+built-hold : (k : ℕ) (ws : List ℕ) (i : ℕ) → built! k ws ≡ hold! i → ⊥
+built-hold k ws i e = let z : _≡_ {A = ℕ} 0 1 = cc in omega arith
+
+-- an event held
+quiet-hold : (k i : ℕ) (h : List Happening) → Quiet k h → Quiet k (hold! i ∷ h)
+quiet-hold k i h q =
+    record {
+      later = hold! i ∷ q .later;
+      ws = q .ws;
+      earlier = q .earlier;
+      split = ap (λ z. hold! i ∷ z) (q .split);
+      quiet = quiet-more (hold! i) (λ r. drop-hold r i) (q .later) (q .quiet);
+    }
+
+before-hold : (k i : ℕ) (h : List Happening) → Before k h → Before k (hold! i ∷ h)
+before-hold k i h b later r earlier e n ws m =
+    let (l, f, s) = peel (hold! i) (λ r. drop-hold r i) h later r earlier e in
+    elim (List·Memᴰ·cases-cons (rw f at m)) [
+      | inl g ↦ built-hold k ws i g
+      | inr m′ ↦ b l r earlier s (λ r′ d. n r′ (rw f (List·Memᴰ·tail d))) ws m′
+    ]
+
 -- an older confirmation, where the newest happening is none
 older : (x : Happening) (k : ℕ) (h : List Happening) → (confirmed! k ≡ x → ⊥) → Has (confirmed! k) (x ∷ h) → Has (confirmed! k) h
 older x k h n m = elim (List·Memᴰ·cases-cons m) [ inl e ↦ absurd (n e) | inr m′ ↦ m′ ]
@@ -119,14 +147,14 @@ confirmed-built : (k j : ℕ) (ws : List ℕ) → confirmed! k ≡ built! j ws �
 confirmed-built k j ws e = let z : _≡_ {A = ℕ} 0 1 = cc in omega arith
 
 module _ (rows : List Row) (warning : Bool) (built : ℕ) (h : List Happening) where
-  awaited-held : (w : Wait) (e : Event) → Awaited w rows built h → Awaited w (rows ++ (heldRow e ∷ [])) built h
-  awaited-held idle e a = tt
-  awaited-held (awaiting q t ws n k) e a =
+  awaited-held : (w : Wait) (e : Event) (i : ℕ) → Awaited w rows built h → Awaited w (rows ++ (heldRow e ∷ [])) built (hold! i ∷ h)
+  awaited-held idle e i a = tt
+  awaited-held (awaiting q t ws n k) e i a =
       record {
         number = a .number;
         from = simp length-append (omega (arith, a .from));
-        before = rw (since-held n rows e (a .from)) (a .before);
-        quiet = rw (since-held n rows e (a .from)) (a .quiet);
+        before = rw (since-held n rows e (a .from)) (λ d. before-hold k i h (a .before d));
+        quiet = rw (since-held n rows e (a .from)) (λ d. quiet-hold k i h (a .quiet d));
       }
 
   awaited-drop : (w : Wait) (e : Event) (r : ℕ) → Awaited w rows built h → Awaited w (rows ++ (droppedRow e ∷ [])) built (drop! r ∷ h)
@@ -139,8 +167,19 @@ module _ (rows : List Row) (warning : Bool) (built : ℕ) (h : List Happening) w
         quiet = λ f. absurd (let g : true ≡ false = sym (since-dropped n rows e (a .from)) ∙ f in let z : _≡_ {A = ℕ} 0 1 = cc in omega arith);
       }
 
-  kept-held : (w : Wait) (e : Event) → Kept w rows warning built h → Kept w (rows ++ (heldRow e ∷ [])) warning built h
-  kept-held w e k = record { warned = k .warned; clear = k .clear; numbers = k .numbers; awaited = awaited-held w e (k .awaited) }
+  kept-held : (w : Wait) (e : Event) (i : ℕ) → Kept w rows warning built h → Kept w (rows ++ (heldRow e ∷ [])) warning built (hold! i ∷ h)
+  kept-held w e i k =
+      record {
+        warned = λ t. let p = k .warned t in
+            pending-on (hold! i) (λ r. drop-hold r i) h p
+            (λ j ws m c. elim (List·Memᴰ·cases-cons m) [
+              | inl g ↦ built-hold j ws i g
+              | inr m′ ↦ p .unconfirmed j ws m′ (older (hold! i) j h (confirmed-hold j i) c)
+            ]);
+        clear = λ f p. k .clear f (pending-back (hold! i) (λ r. drop-hold r i) h p);
+        numbers = λ j m. k .numbers j (older (hold! i) j h (confirmed-hold j i) m);
+        awaited = awaited-held w e i (k .awaited);
+      }
 
   kept-drop : (w : Wait) (e : Event) (r : ℕ) → Kept w rows warning built h → Kept w (rows ++ (droppedRow e ∷ [])) true built (drop! r ∷ h)
   kept-drop w e r k =
@@ -240,8 +279,8 @@ module _ (q t : ℕ) (ws : List ℕ) (n k : ℕ) (rows after : List Row) (warnin
 kept-steps : Steps Kept
 kept-steps =
     record {
-      held = λ w rows warning built h e k. kept-held rows warning built h w e k;
-      dropped = λ w rows warning built h e k. kept-drop rows warning built h w e (length rows) k;
+      held = λ w rows warning built h e f k. kept-held rows warning built h w e (length rows) k;
+      dropped = λ w rows warning built h e f k. kept-drop rows warning built h w e (length rows) k;
       ended = λ w rows warning built h k. kept-idle rows warning built h w k;
       built = λ w rows warning built h ws k. kept-built rows warning built h w ws k;
       awaited = λ w rows warning built h q t m p k.

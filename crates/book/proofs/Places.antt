@@ -4,7 +4,7 @@ use Prim.Native.Nat.{ℕ, zero, suc, _+_, _<_}
 use mathlib.Core.Path.{_≡_, refl, sym, ap, _∙_}
 use mathlib.Core.Logic.{_⊎_, inl, inr}
 use mathlib.Core.Bool.{Bool, true, false, cond}
-use mathlib.Core.List.{List, [], _∷_, _++_, List·Memᴰ·head, List·Memᴰ·tail, List·Memᴰ·not-nil, List·Memᴰ·cases-cons}
+use mathlib.Core.List.{List, [], _∷_, _++_, List·Memᴰ·head, List·Memᴰ·tail, List·Memᴰ·not-nil, List·Memᴰ·cases-cons, Memᴰ·append-right}
 use native.Mathlib.Omega.{arith}
 use lib.ListN.{length, length-append, List·getD-append}
 use lib.Seq.{getD-at, append-snoc}
@@ -19,11 +19,12 @@ use Rattle.outstation.specs.declared.Setup.{Setup}
 use Rattle.outstation.specs.Step.{Call}
 use Rattle.book.specs.Book as B
 use Rattle.book.specs.Book.{Book, Row, Mark, held, released, dropped, isHeld, rowHeld, Wait, idle, awaiting, picks, release}
-use Rattle.book.specs.Book.{drop!, built!, confirmed!, Happening}
-use Rattle.book.specs.Demand3.{Has, noRow, markAt, ReleasedBy, Placed}
+use Rattle.book.specs.Book.{hold!, drop!, built!, confirmed!, Happening}
+use Rattle.book.specs.Demand3.{Has, noRow, markAt, DroppedAt, HeldAt, ReleasedBy, Placed}
 use Rattle.laws.proofs.Choices.{by}
 use Rattle.book.proofs.Rows.{heldRow, droppedRow, picks-below}
 use Rattle.book.proofs.Walk.{Steps, enter-on}
+use Rattle.book.proofs.Numbers.{Sound, sound-drop, sound-hold}
 
 -- ---- marks by place
 is-held : (m : Mark) → isHeld m ≡ true → m ≡ held
@@ -64,6 +65,15 @@ mark-last : (rows : List Row) (r : Row) (i : ℕ) → length rows ≡ i → mark
 mark-last rows r i h = ap (λ (x : Row). x .mark) (getD-at rows r [] noRow i h)
 
 -- ---- the history of each place
+
+-- event i was carried by a response that was confirmed, in any order
+record Freed (h : List Happening) (i : ℕ) : Type 0 where
+  number : ℕ
+  rows : List ℕ
+  built : Has (built! number rows) h
+  carried : member i rows ≡ true
+  confirmed : Has (confirmed! number) h
+
 record Awaits (rows : List Row) (ws : List ℕ) (k : ℕ) (h : List Happening) : Type 0 where
   built : Has (built! k ws) h
   only : (vs : List ℕ) → Has (built! k vs) h → vs ≡ ws
@@ -78,7 +88,9 @@ pub record Placing (w : Wait) (rows : List Row) (built : ℕ) (h : List Happenin
   dropAt : (i : ℕ) → i < length rows → markAt rows i ≡ dropped → Has (drop! i) h
   dropOf : (i : ℕ) → Has (drop! i) h → (i < length rows) × (markAt rows i ≡ dropped)
   releaseAt : (i : ℕ) → i < length rows → markAt rows i ≡ released → ReleasedBy h i
-  releaseOf : (i : ℕ) → ReleasedBy h i → (i < length rows) × (markAt rows i ≡ released)
+  releaseOf : (i : ℕ) → Freed h i → (i < length rows) × (markAt rows i ≡ released)
+  holdAt : (i : ℕ) → i < length rows → (markAt rows i ≡ dropped → ⊥) → Has (hold! i) h
+  holdOf : (i : ℕ) → Has (hold! i) h → (i < length rows) × (markAt rows i ≡ dropped → ⊥)
   numbers : (k : ℕ) (ws : List ℕ) → Has (built! k ws) h → k < built
   confirmed : (k : ℕ) → Has (confirmed! k) h → k < built
   awaited : Awaited w rows h
@@ -90,23 +102,52 @@ older x y h n m = elim (List·Memᴰ·cases-cons m) [ inl e ↦ absurd (n e) | i
 released-on : (x : Happening) (h : List Happening) (i : ℕ) → ReleasedBy h i → ReleasedBy (x ∷ h) i
 released-on x h i r =
     record {
+      later = x ∷ r .later;
+      between = r .between;
+      earlier = r .earlier;
       number = r .number;
       rows = r .rows;
-      built = List·Memᴰ·tail (r .built);
+      split = ap (λ z. x ∷ z) (r .split);
       carried = r .carried;
-      confirmed = List·Memᴰ·tail (r .confirmed);
     }
 
 -- one that neither built nor confirmed a response releases nothing
-released-back : (x : Happening) (h : List Happening) (i : ℕ) → ((k : ℕ) (ws : List ℕ) → built! k ws ≡ x → ⊥)
-    → ((k : ℕ) → confirmed! k ≡ x → ⊥) → ReleasedBy (x ∷ h) i → ReleasedBy h i
-released-back x h i nb nc r =
+freed-back : (x : Happening) (h : List Happening) (i : ℕ) → ((k : ℕ) (ws : List ℕ) → built! k ws ≡ x → ⊥)
+    → ((k : ℕ) → confirmed! k ≡ x → ⊥) → Freed (x ∷ h) i → Freed h i
+freed-back x h i nb nc r =
     record {
       number = r .number;
       rows = r .rows;
       carried = r .carried;
       built = older x (built! (r .number) (r .rows)) h (nb (r .number) (r .rows)) (r .built);
       confirmed = older x (confirmed! (r .number)) h (nc (r .number)) (r .confirmed);
+    }
+
+-- where a happening stands in a history
+record Found (x : Happening) (h : List Happening) : Type 0 where
+  later : List Happening
+  earlier : List Happening
+  split : h ≡ later ++ x ∷ earlier
+
+found : (x : Happening) (h : List Happening) → Has x h → Found x h
+found x [] m = absurd (List·Memᴰ·not-nil m)
+found x (y ∷ h) m =
+    elim (List·Memᴰ·cases-cons m) [
+      | inl e ↦ record { later = []; earlier = h; split = ap (λ z. z ∷ h) (sym e) }
+      | inr m′ ↦ (let f = found x h m′ in record { later = y ∷ f .later; earlier = f .earlier; split = ap (λ z. y ∷ z) (f .split) })
+    ]
+
+has-at : (x : Happening) (h later earlier : List Happening) → h ≡ later ++ x ∷ earlier → Has x h
+has-at x h later earlier e = rw e (Memᴰ·append-right later (List·Memᴰ·head refl))
+
+freed : (h : List Happening) (i : ℕ) → ReleasedBy h i → Freed h i
+freed h i r =
+    record {
+      number = r .number;
+      rows = r .rows;
+      carried = r .carried;
+      built = rw (r .split) (Memᴰ·append-right (r .later) (List·Memᴰ·tail (Memᴰ·append-right (r .between) (List·Memᴰ·head refl))));
+      confirmed = has-at (confirmed! (r .number)) h (r .later) (r .between ++ built! (r .number) (r .rows) ∷ r .earlier) (r .split);
     }
 
 -- below or at the end
@@ -117,66 +158,88 @@ len : (rows : List Row) (r : Row) → length (rows ++ (r ∷ [])) ≡ length row
 len rows r = length-append rows (r ∷ [])
 
 module _ (rows : List Row) (built : ℕ) (h : List Happening) where
-  awaited-snoc : (w : Wait) (r : Row) → Awaited w rows h → Awaited w (rows ++ (r ∷ [])) h
-  awaited-snoc idle r a = tt
-  awaited-snoc (awaiting q t ws n k) r a =
+  -- one more row, and a newest happening that built no response
+  awaited-snoc : (w : Wait) (r : Row) (x : Happening) → ((k : ℕ) (ws : List ℕ) → built! k ws ≡ x → ⊥) → Awaited w rows h
+      → Awaited w (rows ++ (r ∷ [])) (x ∷ h)
+  awaited-snoc idle r x nb a = tt
+  awaited-snoc (awaiting q t ws n k) r x nb a =
       record {
-        built = a .built;
-        only = a .only;
+        built = List·Memᴰ·tail (a .built);
+        only = λ vs m. a .only vs (older x (built! k vs) h (nb k vs) m);
         below = λ i m. omega (arith, a .below i m, len rows r);
         holds = λ i m. mark-snoc rows r i (a .below i m) ∙ a .holds i m;
       }
 
-  placing-held : (w : Wait) (e : Event) → Placing w rows built h → Placing w (rows ++ (heldRow e ∷ [])) built h
+  -- what was known of the rows before the last
+  module _ (r : Row) (i : ℕ) where
+    mark-on : (m : Mark) → (i < length rows) × (markAt rows i ≡ m) → (i < length (rows ++ (r ∷ []))) × (markAt (rows ++ (r ∷ [])) i ≡ m)
+    mark-on m d = (omega (arith, d .0, len rows r), mark-snoc rows r i (d .0) ∙ d .1)
+
+    other-on : (m : Mark) → (i < length rows) × (markAt rows i ≡ m → ⊥) → (i < length (rows ++ (r ∷ []))) × (markAt (rows ++ (r ∷ [])) i ≡ m → ⊥)
+    other-on m d = (omega (arith, d .0, len rows r), λ e. d .1 (sym (mark-snoc rows r i (d .0)) ∙ e))
+
+    -- a mark of the longer list that is not the last row's
+    mark-back : (m : Mark) → (r .mark ≡ m → ⊥) → i < length (rows ++ (r ∷ [])) → markAt (rows ++ (r ∷ [])) i ≡ m → (i < length rows) × (markAt rows i ≡ m)
+    mark-back m n l e =
+        elim (at-end i (length rows) (omega (arith, len rows r))) [
+          | inl a ↦ (a, sym (mark-snoc rows r i a) ∙ e)
+          | inr a ↦ absurd (n (sym (mark-last rows r i a) ∙ e))
+        ]
+
+  placing-held : (w : Wait) (e : Event) → Placing w rows built h → Placing w (rows ++ (heldRow e ∷ [])) built (hold! (length rows) ∷ h)
   placing-held w e p =
+      let x = hold! (length rows) in
+      let r = heldRow e in
+      let nb : (k : ℕ) (ws : List ℕ) → built! k ws ≡ x → ⊥ = λ k ws q. (let y : _≡_ {A = ℕ} 0 1 = cc in omega arith) in
+      let nc : (k : ℕ) → confirmed! k ≡ x → ⊥ = λ k q. (let y : _≡_ {A = ℕ} 0 1 = cc in omega arith) in
       record {
-        dropAt = λ i l m. elim (at-end i (length rows) (omega (arith, len rows (heldRow e)))) [
-          | inl a ↦ p .dropAt i a (sym (mark-snoc rows (heldRow e) i a) ∙ m)
-          | inr a ↦ absurd (let z = sym (mark-last rows (heldRow e) i a) ∙ m in let y : _≡_ {A = ℕ} 0 1 = cc in omega arith)
+        dropAt = λ i l m. let d = mark-back r i dropped (λ q. let y : _≡_ {A = ℕ} 0 1 = cc in omega arith) l m in List·Memᴰ·tail (p .dropAt i (d .0) (d .1));
+        dropOf = λ i m. mark-on r i dropped (p .dropOf i (older x (drop! i) h (λ q. let y : _≡_ {A = ℕ} 0 1 = cc in omega arith) m));
+        releaseAt = λ i l m.
+            let d = mark-back r i released (λ q. let y : _≡_ {A = ℕ} 0 1 = cc in omega arith) l m in released-on x h i (p .releaseAt i (d .0) (d .1));
+        releaseOf = λ i m. mark-on r i released (p .releaseOf i (freed-back x h i nb nc m));
+        holdAt = λ i l m. elim (at-end i (length rows) (omega (arith, len rows r))) [
+          | inl a ↦ List·Memᴰ·tail (p .holdAt i a (λ q. m (mark-snoc rows r i a ∙ q)))
+          | inr a ↦ List·Memᴰ·head (ap hold! (sym a))
         ];
-        dropOf = λ i m. let d = p .dropOf i m in (omega (arith, d .0, len rows (heldRow e)), mark-snoc rows (heldRow e) i (d .0) ∙ d .1);
-        releaseAt = λ i l m. elim (at-end i (length rows) (omega (arith, len rows (heldRow e)))) [
-          | inl a ↦ p .releaseAt i a (sym (mark-snoc rows (heldRow e) i a) ∙ m)
-          | inr a ↦ absurd (let z = sym (mark-last rows (heldRow e) i a) ∙ m in let y : _≡_ {A = ℕ} 0 1 = cc in omega arith)
+        holdOf = λ i m. elim (List·Memᴰ·cases-cons m) [
+          | inl q ↦ (let a : length rows ≡ i = cc in (
+            omega (arith, len rows r),
+            λ d. let z = sym (mark-last rows r i a) ∙ d in let y : _≡_ {A = ℕ} 0 1 = cc in omega arith,
+          ))
+          | inr m′ ↦ other-on r i dropped (p .holdOf i m′)
         ];
-        releaseOf = λ i m. let d = p .releaseOf i m in (omega (arith, d .0, len rows (heldRow e)), mark-snoc rows (heldRow e) i (d .0) ∙ d .1);
-        numbers = p .numbers;
-        confirmed = p .confirmed;
-        awaited = awaited-snoc w (heldRow e) (p .awaited);
+        numbers = λ k ws m. p .numbers k ws (older x (built! k ws) h (nb k ws) m);
+        confirmed = λ k m. p .confirmed k (older x (confirmed! k) h (nc k) m);
+        awaited = awaited-snoc w r x nb (p .awaited);
       }
 
   placing-drop : (w : Wait) (e : Event) → Placing w rows built h → Placing w (rows ++ (droppedRow e ∷ [])) built (drop! (length rows) ∷ h)
   placing-drop w e p =
       let x = drop! (length rows) in
+      let r = droppedRow e in
       let nb : (k : ℕ) (ws : List ℕ) → built! k ws ≡ x → ⊥ = λ k ws q. (let y : _≡_ {A = ℕ} 0 1 = cc in omega arith) in
       let nc : (k : ℕ) → confirmed! k ≡ x → ⊥ = λ k q. (let y : _≡_ {A = ℕ} 0 1 = cc in omega arith) in
       record {
-        dropAt = λ i l m. elim (at-end i (length rows) (omega (arith, len rows (droppedRow e)))) [
-          | inl a ↦ List·Memᴰ·tail (p .dropAt i a (sym (mark-snoc rows (droppedRow e) i a) ∙ m))
+        dropAt = λ i l m. elim (at-end i (length rows) (omega (arith, len rows r))) [
+          | inl a ↦ List·Memᴰ·tail (p .dropAt i a (sym (mark-snoc rows r i a) ∙ m))
           | inr a ↦ List·Memᴰ·head (ap drop! (sym a))
         ];
         dropOf = λ i m. elim (List·Memᴰ·cases-cons m) [
-          | inl q ↦ (let a : length rows ≡ i = cc in (omega (arith, len rows (droppedRow e)), mark-last rows (droppedRow e) i a))
-          | inr m′ ↦ (let d = p .dropOf i m′ in (omega (arith, d .0, len rows (droppedRow e)), mark-snoc rows (droppedRow e) i (d .0) ∙ d .1))
+          | inl q ↦ (let a : length rows ≡ i = cc in (omega (arith, len rows r), mark-last rows r i a))
+          | inr m′ ↦ mark-on r i dropped (p .dropOf i m′)
         ];
-        releaseAt = λ i l m. elim (at-end i (length rows) (omega (arith, len rows (droppedRow e)))) [
-          | inl a ↦ released-on x h i (p .releaseAt i a (sym (mark-snoc rows (droppedRow e) i a) ∙ m))
-          | inr a ↦ absurd (let z = sym (mark-last rows (droppedRow e) i a) ∙ m in let y : _≡_ {A = ℕ} 0 1 = cc in omega arith)
+        releaseAt = λ i l m.
+            let d = mark-back r i released (λ q. let y : _≡_ {A = ℕ} 0 1 = cc in omega arith) l m in released-on x h i (p .releaseAt i (d .0) (d .1));
+        releaseOf = λ i m. mark-on r i released (p .releaseOf i (freed-back x h i nb nc m));
+        holdAt = λ i l m. elim (at-end i (length rows) (omega (arith, len rows r))) [
+          | inl a ↦ List·Memᴰ·tail (p .holdAt i a (λ q. m (mark-snoc rows r i a ∙ q)))
+          | inr a ↦ absurd (m (mark-last rows r i a))
         ];
-        releaseOf = λ i m.
-            let d = p .releaseOf i (released-back x h i nb nc m) in
-            (omega (arith, d .0, len rows (droppedRow e)), mark-snoc rows (droppedRow e) i (d .0) ∙ d .1);
+        holdOf = λ i m. other-on r i dropped (p .holdOf i (older x (hold! i) h (λ q. let y : _≡_ {A = ℕ} 0 1 = cc in omega arith) m));
         numbers = λ k ws m. p .numbers k ws (older x (built! k ws) h (nb k ws) m);
         confirmed = λ k m. p .confirmed k (older x (confirmed! k) h (nc k) m);
-        awaited = elim w as (λ v. Awaited v rows h → Awaited v (rows ++ (droppedRow e ∷ [])) (x ∷ h)) [
-          | idle ↦ λ a. tt
-          | awaiting q t ws n k ↦ λ a. record {
-            built = List·Memᴰ·tail (a .built);
-            only = λ vs m. a .only vs (older x (built! k vs) h (nb k vs) m);
-            below = λ i m. omega (arith, a .below i m, len rows (droppedRow e));
-            holds = λ i m. mark-snoc rows (droppedRow e) i (a .below i m) ∙ a .holds i m;
-          }
-        ] (p .awaited);
+        awaited = awaited-snoc w r x nb (p .awaited);
       }
 
   placing-idle : (w : Wait) → Placing w rows built h → Placing idle rows built h
@@ -186,6 +249,8 @@ module _ (rows : List Row) (built : ℕ) (h : List Happening) where
         dropOf = p .dropOf;
         releaseAt = p .releaseAt;
         releaseOf = p .releaseOf;
+        holdAt = p .holdAt;
+        holdOf = p .holdOf;
         numbers = p .numbers;
         confirmed = p .confirmed;
         awaited = tt;
@@ -206,6 +271,8 @@ module _ (rows : List Row) (built : ℕ) (h : List Happening) where
               | inl q ↦ absurd (let l = p .confirmed (r .number) c in let s : r .number ≡ built = cc in omega arith)
               | inr m ↦ p .releaseOf i (record { number = r .number; rows = r .rows; built = m; carried = r .carried; confirmed = c })
             ];
+        holdAt = λ i l m. List·Memᴰ·tail (p .holdAt i l m);
+        holdOf = λ i m. p .holdOf i (older x (hold! i) h (λ q. let y : _≡_ {A = ℕ} 0 1 = cc in omega arith) m);
         numbers = λ k vs m. elim (List·Memᴰ·cases-cons m) [ inl q ↦ (let s : k ≡ built = cc in omega arith) | inr m′ ↦ omega (arith, p .numbers k vs m′) ];
         confirmed = λ k m. omega (arith, p .confirmed k (older x (confirmed! k) h (nc k) m));
         awaited = tt;
@@ -222,6 +289,8 @@ module _ (rows : List Row) (built : ℕ) (h : List Happening) where
         dropOf = r .dropOf;
         releaseAt = r .releaseAt;
         releaseOf = r .releaseOf;
+        holdAt = r .holdAt;
+        holdOf = r .holdOf;
         numbers = r .numbers;
         confirmed = r .confirmed;
         awaited = record {
@@ -259,7 +328,16 @@ module _ (rows : List Row) (built : ℕ) (h : List Happening) (q t : ℕ) (ws : 
             );
         releaseAt = λ i l m. let l′ : i < length rows = omega arith in
             by (member i ws)
-            (λ c. record { number = k; rows = ws; built = List·Memᴰ·tail (p .awaited .built); carried = c; confirmed = List·Memᴰ·head refl })
+            (λ c. let f = found (built! k ws) h (p .awaited .built) in
+            record {
+              later = [];
+              between = f .later;
+              earlier = f .earlier;
+              number = k;
+              rows = ws;
+              split = ap (λ z. x ∷ z) (f .split);
+              carried = c;
+            })
             (λ c. released-on x h i (p .releaseAt i l′ (sym (mark-out i l′ c) ∙ m)));
         releaseOf = λ i r.
             let b : Has (built! (r .number) (r .rows)) h = older x (built! (r .number) (r .rows)) h (nb (r .number) (r .rows)) (r .built) in
@@ -272,6 +350,17 @@ module _ (rows : List Row) (built : ℕ) (h : List Happening) (q t : ℕ) (ws : 
               | inr m ↦ (let d = p .releaseOf i (record { number = r .number; rows = r .rows; built = b; carried = r .carried; confirmed = m }) in
                   (omega (arith, d .0), by (member i ws) (λ c. mark-in i (d .0) c) (λ c. mark-out i (d .0) c ∙ d .1)))
             ];
+        holdAt = λ i l m. let l′ : i < length rows = omega arith in
+            by (member i ws)
+            (λ c. List·Memᴰ·tail (p .holdAt i l′ (λ d. let z = sym (p .awaited .holds i c) ∙ d in let y : _≡_ {A = ℕ} 0 1 = cc in omega arith)))
+            (λ c. List·Memᴰ·tail (p .holdAt i l′ (λ d. m (mark-out i l′ c ∙ d))));
+        holdOf = λ i m.
+            let d = p .holdOf i (older x (hold! i) h (λ s. let y : _≡_ {A = ℕ} 0 1 = cc in omega arith) m) in (
+              omega (arith, d .0),
+              λ e. by (member i ws)
+                  (λ c. let z = sym (mark-in i (d .0) c) ∙ e in let y : _≡_ {A = ℕ} 0 1 = cc in omega arith)
+                  (λ c. d .1 (sym (mark-out i (d .0) c) ∙ e)),
+            );
         numbers = λ j vs m. p .numbers j vs (older x (built! j vs) h (nb j vs) m);
         confirmed = λ j m. elim (List·Memᴰ·cases-cons m) [
           | inl s ↦ (let e : j ≡ k = cc in omega (arith, p .numbers k ws (p .awaited .built)))
@@ -287,8 +376,8 @@ PlacingOf w rows warning built h = Placing w rows built h
 placing-steps : Steps PlacingOf
 placing-steps =
     record {
-      held = λ w rows warning built h e k. placing-held rows built h w e k;
-      dropped = λ w rows warning built h e k. placing-drop rows built h w e k;
+      held = λ w rows warning built h e f k. placing-held rows built h w e k;
+      dropped = λ w rows warning built h e f k. placing-drop rows built h w e k;
       ended = λ w rows warning built h k. placing-idle rows built h w k;
       built = λ w rows warning built h ws k. placing-built rows built h w ws k;
       awaited = λ w rows warning built h q t m p k.
@@ -312,10 +401,37 @@ opened-placing u =
       dropOf = λ i m. absurd (List·Memᴰ·not-nil m);
       releaseAt = λ i l m. let z : ⊥ = omega arith in absurd z;
       releaseOf = λ i r. absurd (List·Memᴰ·not-nil (r .built));
+      holdAt = λ i l m. let z : ⊥ = omega arith in absurd z;
+      holdOf = λ i m. absurd (List·Memᴰ·not-nil m);
       numbers = λ k ws m. absurd (List·Memᴰ·not-nil m);
       confirmed = λ k m. absurd (List·Memᴰ·not-nil m);
       awaited = tt;
     }
 
-pub placed : (w : Wait) (rows : List Row) (built : ℕ) (h : List Happening) → Placing w rows built h → (i : ℕ) → i < length rows → Placed rows h i
-placed w rows built h p i l = record { dropped = (p .dropAt i l, λ m. p .dropOf i m .1); released = (p .releaseAt i l, λ r. p .releaseOf i r .1) }
+-- a mark that is neither of the others
+else-held : (m : Mark) → (m ≡ dropped → ⊥) → (m ≡ released → ⊥) → m ≡ held
+else-held held d r = refl
+else-held released d r = absurd (r refl)
+else-held dropped d r = absurd (d refl)
+
+module _ (w : Wait) (rows : List Row) (built : ℕ) (h : List Happening) (p : Placing w rows built h) (s : Sound h) (i : ℕ) (l : i < length rows) where
+  dropped-at : markAt rows i ≡ dropped → DroppedAt h i
+  dropped-at m =
+      let f = found (drop! i) h (p .dropAt i l m) in
+      record { later = f .later; earlier = f .earlier; split = f .split; full = sound-drop i (f .later) (f .earlier) (rw (f .split) at s) }
+
+  held-at : markAt rows i ≡ held → HeldAt h i
+  held-at m =
+      let f = found (hold! i) h (p .holdAt i l (λ d. let z = sym m ∙ d in let y : _≡_ {A = ℕ} 0 1 = cc in omega arith)) in
+      record { later = f .later; earlier = f .earlier; split = f .split; room = sound-hold i (f .later) (f .earlier) (rw (f .split) at s) }
+
+  pub placed : Placed rows h i
+  placed =
+      record {
+        dropped = (dropped-at, λ d. p .dropOf i (has-at (drop! i) h (d .later) (d .earlier) (d .split)) .1);
+        released = (p .releaseAt i l, λ r. p .releaseOf i (freed h i r) .1);
+        held = (
+          λ m. (held-at m, λ r. let z = sym m ∙ p .releaseOf i (freed h i r) .1 in let y : _≡_ {A = ℕ} 0 1 = cc in omega arith),
+          λ (a, n). else-held (markAt rows i) (p .holdOf i (has-at (hold! i) h (a .later) (a .earlier) (a .split)) .1) (λ m. n (p .releaseAt i l m)),
+        );
+      }

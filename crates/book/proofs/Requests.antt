@@ -1,13 +1,15 @@
 -- What both sides say of a request: when it is a repeat, what it does to the queue and the wait, and the bits of its response.
 -- Assumes nothing.
-use Prim.Native.Nat.{ℕ, _+_, _/_, _%_, _<_}
-use mathlib.Core.Path.{_≡_, refl}
+use Prim.Native.Nat.{ℕ, zero, suc, _+_, _/_, _%_, _<_}
+use mathlib.Core.Path.{_≡_, refl, ap, _∙_}
 use mathlib.Core.Bool.{Bool, true, false, _||_, and-true}
 use mathlib.Core.List.{List, [], _∷_, _++_}
+use native.Mathlib.Nat.{le-of-eq}
 use native.Mathlib.Omega.{arith}
-use lib.ListN.{length, drop}
+use lib.ListN.{length, drop, length-replicate}
+use lib.Seq.{take-all}
 use lib.Dec.{eqb, ltb}
-use borrow.Author.Tests.{ltb-false}
+use borrow.Author.Tests.{ltb-false, eqb-true}
 use Rattle.laws.specs.Lists.{same}
 use Rattle.points.specs.Inputs.{Inputs}
 use Rattle.application.specs.declared.Fault.{Fault}
@@ -16,16 +18,28 @@ use Rattle.application.specs.declared.Indications.{Indications}
 use Rattle.application.specs.Fragment as F
 use Rattle.application.specs.Fragment.{classified, functionOf, sequenceOf, controlOf, isConfirm, objectsOf}
 use Rattle.application.specs.Response.{responseOf, faultBits, weight}
+use Rattle.request.specs.declared.Header.{Header}
 use Rattle.request.specs.Parse.{Parsed, headers, fault}
-use Rattle.repeat.specs.Repeat.{Memory, nothing, kept, isRepeat}
+use Rattle.control.specs.declared.Crob.{Crob}
+use Rattle.control.specs.declared.Form.{Form}
+use Rattle.control.specs.declared.Form.the-variants.{Wrong, Objects}
+use Rattle.control.specs.Objects.{formed, crobs, countBy}
+use Rattle.control.specs.Status.{statuses, echoWith}
+use Rattle.select.specs.declared.ControlFunction.{ControlFunction}
+use Rattle.select.specs.declared.ControlFunction.the-variants.{Select, Operate, DirectOperate}
+use Rattle.select.specs.Select.{Selection, isOperate, isUnanswered, statusesBy, operateStatus, byForm, effectOf}
+use Rattle.repeat.specs.Repeat.{Memory, nothing, kept, isRepeat, answerOf}
 use Rattle.events.specs.Queue.{Queue, cleared}
 use Rattle.static_objects.specs.Static.{readOf}
 use Rattle.outstation.specs.declared.Wait.the-variants.{Idle}
 use Rattle.outstation.specs.World.{World}
-use Rattle.outstation.specs.Requests.{malformed, asks, ask, readAsk}
+use Rattle.outstation.specs.Requests.{Ask, malformed, confirms, reads, misreads, asks, ask, readAsk}
 use Rattle.outstation.specs.Step.{Deed, deedBy}
+use Rattle.book.specs.Book as B
+use Rattle.book.specs.Book.{Said, saidOf}
 use Rattle.book.specs.Demand3.{overflowBit}
 use Rattle.laws.proofs.Choices.{by, split}
+use Rattle.laws.proofs.SameLaws.{same-eq}
 
 -- ---- a repeat
 
@@ -71,6 +85,35 @@ asks-inverse i f q function =
     (λ r. rw r (λ e. absurd (asks-read (sequenceOf (controlOf f)) q function (readOf i (objectsOf f)) e)))
     (λ r. rw r (λ e. let s : functionOf f ≡ function = cc in record { is = s; other = rw s at r; long = well-long f t }))))))
 
+-- no READ, faultless or not
+abbrev NoRead : Ask → Type 0
+NoRead malformed = Unit {0}
+NoRead (confirms q uns) = Unit {0}
+NoRead (reads q hs) = ⊥
+NoRead (misreads q n) = ⊥
+NoRead (asks q function) = Unit {0}
+
+-- the function of a READ
+read-function : (i : Inputs) (f : List ℕ) → (NoRead (ask i f) → ⊥) → eqb (functionOf f) 1 ≡ true
+unfolding ask classified
+read-function i f =
+    by (F.malformed f)
+    (λ t. rw t (λ n. absurd (n tt)))
+    (λ t. rw t (by (isConfirm f) (λ c. rw c (λ n. absurd (n tt))) (λ c. rw c (by (eqb (functionOf f) 1) (λ r. λ n. r) (λ r. rw r (λ n. absurd (n tt)))))))
+
+pub reads-function : (i : Inputs) (f : List ℕ) (q : ℕ) (hs : List Header) → ask i f ≡ reads q hs → eqb (functionOf f) 1 ≡ true
+reads-function i f q hs e = read-function i f (rw e (λ z. z))
+
+pub misreads-function : (i : Inputs) (f : List ℕ) (q n : ℕ) → ask i f ≡ misreads q n → eqb (functionOf f) 1 ≡ true
+misreads-function i f q n e = read-function i f (rw e (λ z. z))
+
+-- a repeat is of a request that was kept
+pub repeated : (m : Memory) (f : List ℕ) → 0 < length f → same f (lastBytes m) ≡ true → m ≡ kept f (answerOf m)
+unfolding same
+repeated nothing [] l e = let z : ⊥ = omega arith in absurd z
+repeated nothing (x ∷ f) l e = cc
+repeated (kept bytes answer) f l e = rw (same-eq f bytes e)
+
 -- ---- its effects
 
 -- a request that is no READ ends the wait and takes the marks away
@@ -87,6 +130,68 @@ deed-ends w q function time o =
     (λ _. split P (eqb function 5) (λ _. record { queue = refl; wait = refl })
     (λ _. split P (eqb function 6) (λ _. record { queue = refl; wait = refl })
     (λ _. record { queue = refl; wait = refl })))))
+
+-- ---- its objects
+
+-- the echo by a form, with some status for each object
+pub record Echo (x : Form) (o echo : List ℕ) : Type 0 where
+  pub statuses : List ℕ
+  pub each : length statuses ≡ countBy x
+  pub is : echo ≡ echoWith x statuses o
+
+length-crobs : (w n : ℕ) (b : List ℕ) → length (crobs w n b) ≡ n
+unfolding crobs
+length-crobs w zero b = refl
+length-crobs w (suc n) b = ap suc (length-crobs w n (drop (w + 11) b))
+
+length-statuses : (outputs : ℕ) (e : List ℕ) (cs : List Crob) → length (statuses outputs e cs) ≡ length cs
+unfolding statuses
+length-statuses outputs e [] = refl
+length-statuses outputs e (c ∷ cs) = ap suc (length-statuses outputs (c .index ∷ e) cs)
+
+length-by : (g : ControlFunction) (outputs s : ℕ) (cs : List Crob) → length (statusesBy g outputs s cs) ≡ length cs
+length-by g outputs s cs =
+    split (λ l. length l ≡ length cs) (isOperate g) (λ _. length-replicate (length cs) s) (λ _. length-statuses outputs [] cs)
+
+module _ (outputs arm : ℕ) (l : Selection) (g : ControlFunction) (u : isUnanswered g ≡ false) (q time : ℕ) (o : List ℕ) where
+  echo-form : (x : Form) → Echo x o (byForm x outputs arm l g q time o .echo)
+  echo-form (Wrong y) = record { statuses = []; each = refl; is = refl }
+  echo-form (Objects w n) =
+      let cs : List Crob = crobs w n (drop (3 + w) o) in
+      let ss : List ℕ = statusesBy g outputs (operateStatus arm l q time o) cs in
+      let k : length ss ≡ n = length-by g outputs (operateStatus arm l q time o) cs ∙ length-crobs w n (drop (3 + w) o) in
+      record { statuses = ss; each = k; is = rw (u, take-all n ss (le-of-eq k)) }
+
+  echo-of : Echo (formed o) o (effectOf outputs arm l g q time o .echo)
+  unfolding effectOf
+  echo-of = echo-form (formed o)
+
+-- the objects of a response newly built, by what the book says of it
+abbrev pub Bears : Said → List ℕ → Type 0
+Bears (B.takes taken refusal) objects = ⊥
+Bears (B.refuses n) objects = ⊥
+Bears B.accepts objects = ⊥
+Bears (B.carries ws static) objects = ⊥
+Bears B.plain objects = objects ≡ []
+Bears (B.echoes o) objects = Echo (formed o) o objects
+Bears B.unanswered objects = ⊥
+Bears B.repeats objects = ⊥
+
+pub deed-bears : (w : World) (q function time : ℕ) (o : List ℕ) → eqb function 6 ≡ false
+    → Bears (saidOf function o) (deedBy w q function time o .objects)
+unfolding saidOf
+deed-bears w q function time o t₆ =
+    let echoed : (g : ControlFunction) → isUnanswered g ≡ false → Echo (formed o) o (effectOf (w .outputs) (w .armTime) (w .exchange .latch) g q time o .echo)
+    = λ g u. echo-of (w .outputs) (w .armTime) (w .exchange .latch) g u q time o in
+    by (eqb function 2)
+    (λ t. rw (eqb-true function 2 t) refl)
+    (λ t₂. by (eqb function 3)
+    (λ t. rw (eqb-true function 3 t) (echoed Select refl))
+    (λ t₃. by (eqb function 4)
+    (λ t. rw (eqb-true function 4 t) (echoed Operate refl))
+    (λ t₄. by (eqb function 5)
+    (λ t. rw (eqb-true function 5 t) (echoed DirectOperate refl))
+    (λ t₅. rw (t₂, t₃, t₄, t₅, t₆) refl))))
 
 -- ---- its response
 

@@ -1,7 +1,7 @@
 -- One call: the outstation's step and the book's entry keep the outstation a view of the book, and the answer is what the book says.
 -- Assumes nothing.
 use Prim.Native.Nat.{ℕ, suc, _+_, _≤_, _<_}
-use mathlib.Core.Path.{_≡_, refl, sym, ap, _∙_}
+use mathlib.Core.Path.{_≡_, refl, sym, ap, _∙_, subst}
 use mathlib.Core.Logic.{_↔_}
 use mathlib.Core.Bool.{Bool, true, false, not, cond, _&&_, _||_}
 use mathlib.Core.List.{List, [], _∷_, _++_, map, append-nil}
@@ -13,10 +13,12 @@ use lib.Dec.{eqb, ltb}
 use Rattle.laws.specs.Limits.{fragmentMax, eventsMax}
 use Rattle.laws.specs.Outcome.{Outcome, accepted, refused}
 use Rattle.laws.specs.Lists.{count, isNil, member, same}
-use Rattle.application.specs.Fragment.{objectsOf}
+use Rattle.application.specs.Fragment.{functionOf, objectsOf}
 use Rattle.control.specs.declared.Crob.{Crob}
+use Rattle.control.specs.Objects.{formed}
+use Rattle.control.specs.Status.{echoWith}
 use Rattle.select.specs.Select.{Selection, noSelect}
-use Rattle.repeat.specs.Repeat.{Memory, nothing, kept, isRepeat}
+use Rattle.repeat.specs.Repeat.{Memory, nothing, kept, isRepeat, answerOf}
 use Rattle.events.specs.declared.Event.{Event}
 use Rattle.events.specs.Placing.{emptyPack}
 use Rattle.events.specs.Queue.{pushed, newly, marked}
@@ -32,14 +34,15 @@ use Rattle.outstation.specs.Readings.{badTime, Heard, hear}
 use Rattle.read.specs.Response.{classesOf, roomBeside}
 use Rattle.outstation.specs.Requests.{Ask, malformed, confirms, reads, misreads, asks, ask, confirmed}
 use Rattle.outstation.specs.Step as S
-use Rattle.outstation.specs.Step.{Call, reading, table, fragment, answers, Result, Deed, onHeard}
+use Rattle.outstation.specs.Step.{Call, reading, table, fragment, Answer, answers, silent, Result, Deed, onHeard}
 use Rattle.book.specs.Book as B
-use Rattle.book.specs.Book.{Book, Row, Entry, Happening, rowHeld, dropSince, picked, release}
-use Rattle.book.specs.Demand3.{Pending, eventAt, Response, Carrying, Told}
+use Rattle.book.specs.Book.{Book, Row, Entry, Said, Happening, rowHeld, dropSince, picked, release}
+use Rattle.book.specs.Demand3.{Pending, eventAt, Response, Building, again, keptBy, Told}
 use Rattle.laws.proofs.Choices.{by, both, split, isNil-nil, nor-left}
 use Rattle.book.proofs.Rows.{collect, length-collect, collect-snoc, collect-none, heldRow, droppedRow, since-held, since-dropped}
 use Rattle.book.proofs.Rows.{picks-below, carry-collect, carried-bytes, carried-events, some-carried, keep-collect}
-use Rattle.book.proofs.Requests.{lastBytes, repeat-same, asks-inverse, Ends, deed-ends, response-long, response-objects, response-bit}
+use Rattle.book.proofs.Requests.{lastBytes, repeat-same, repeated, asks-inverse, reads-function, misreads-function, Ends, deed-ends}
+use Rattle.book.proofs.Requests.{Bears, deed-bears, response-long, response-objects, response-bit}
 
 -- ---- the outstation that a book stands for
 
@@ -88,20 +91,26 @@ pub record Inv (w : B.Wait) (rows : List Row) (warning shown : Bool) : Type 0 wh
   pub from : waitFrom w ≤ length rows
   pub quiet : shown ≡ false → dropSince (waitFrom w) rows ≡ false → warning ≡ false
 
--- and the book's last request is the one that is kept
-pub record Fits (b : Book) (x : Extra) : Type 0 where
-  pub inv : Inv (b .wait) (b .rows) (b .warning) (x .shown)
-  pub last : lastBytes (x .last) ≡ b .last
+-- what a repeat of the kept request would be answered, is its own answer
+abbrev pub Stored : Memory → Answer → Type 0
+Stored nothing last = Unit {0}
+Stored (kept f answer) last = eqb (functionOf f) 1 ≡ false → again last ≡ cond (eqb (functionOf f) 6) (silent []) (answers answer [])
 
-pub record Sim (w : World) (b : Book) : Type 0 where
+-- and the book's last request is the one that is kept, with its answer
+pub record Fits (b : Book) (x : Extra) (last : Answer) : Type 0 where
+  pub inv : Inv (b .wait) (b .rows) (b .warning) (x .shown)
+  pub request : lastBytes (x .last) ≡ b .last
+  pub stored : Stored (x .last) last
+
+pub record Sim (w : World) (b : Book) (last : Answer) : Type 0 where
   pub extra : Extra
   pub is : w ≡ view b extra
-  pub fits : Fits b extra
+  pub fits : Fits b extra last
 
--- a step and an entry, h the history before the call
-pub record Match (h : List Happening) (r : Result) (e : Entry) : Type 0 where
-  pub sim : Sim (r .state) (e .book)
-  pub told : Told h (e .book .rows) (e .said) (r .answer)
+-- a step and an entry, h the history before the call and last the answer to the last request
+pub record Match (h : List Happening) (last : Answer) (r : Result) (e : Entry) : Type 0 where
+  pub sim : Sim (r .state) (e .book) (keptBy (e .said) last (r .answer))
+  pub told : Told h last (e .book .rows) (e .said) (r .answer)
 
 -- ---- an event raised
 
@@ -141,20 +150,20 @@ module _ (w : B.Wait) (rows : List Row) (warning shown : Bool) (i : Inv w rows w
         quiet = λ a d. let z : true ≡ false = sym (since-dropped (waitFrom w) rows e (i .from)) ∙ d in cc;
       }
 
-raise-ok : (b : Book) (x : Extra) (e : Event) → Fits b x → Sim (S.raise e (view b x)) (B.enterEvent e b)
+raise-ok : (b : Book) (x : Extra) (last : Answer) (e : Event) → Fits b x last → Sim (S.raise e (view b x)) (B.enterEvent e b) last
 unfolding S.raise pushed B.enterEvent B.full
-raise-ok b x e i =
+raise-ok b x last e i =
     let l : length (collect (waitRows (b .wait)) 0 (b .rows)) ≡ count rowHeld (b .rows) = length-collect (waitRows (b .wait)) 0 (b .rows) in
     by (ltb (count rowHeld (b .rows)) eventsMax)
     (λ t. rw (l, t) (record {
       extra = x;
       is = rw (collect-held (b .wait) (b .rows) (b .warning) (x .shown) (i .inv) e, wait-held (x .shown) (b .rows) (b .wait) e (i .inv .from));
-      fits = record { inv = inv-held (b .wait) (b .rows) (b .warning) (x .shown) (i .inv) e; last = i .last };
+      fits = record { inv = inv-held (b .wait) (b .rows) (b .warning) (x .shown) (i .inv) e; request = i .request; stored = i .stored };
     }))
     (λ t. rw (l, t) (record {
       extra = x;
       is = rw (collect-dropped (b .wait) (b .rows) (b .warning) (x .shown) (i .inv) e, wait-dropped (x .shown) (b .rows) (b .wait) e (i .inv .from));
-      fits = record { inv = inv-dropped (b .wait) (b .rows) (b .warning) (x .shown) (i .inv) e; last = i .last };
+      fits = record { inv = inv-dropped (b .wait) (b .rows) (b .warning) (x .shown) (i .inv) e; request = i .request; stored = i .stored };
     }))
 
 -- ---- readings
@@ -165,32 +174,32 @@ on-heard {ℓ} : {A C : Type 0} (R : A → C → Type ℓ) (v : Outcome Heard) {
 on-heard R (accepted h) p q = p h
 on-heard R (refused n) p q = q n
 
-taken-ok : (b : Book) (x : Extra) (r : Reading) (a : Heard) → Fits b x → Sim (S.taken (view b x) r a) (B.enterReading b r a)
+taken-ok : (b : Book) (x : Extra) (last : Answer) (r : Reading) (a : Heard) → Fits b x last → Sim (S.taken (view b x) r a) (B.enterReading b r a) last
 unfolding S.takenWith B.enterReading
-taken-ok b x r a i =
-    both Sim (a .raised)
-    (λ _. raise-ok (B.withInputs b (r .time) (a .inputs)) x (a .event) (record { inv = i .inv; last = i .last }))
-    (λ _. record { extra = x; is = refl; fits = record { inv = i .inv; last = i .last } })
+taken-ok b x last r a i =
+    both (λ w b. Sim w b last) (a .raised)
+    (λ _. raise-ok (B.withInputs b (r .time) (a .inputs)) x last (a .event) (record { inv = i .inv; request = i .request; stored = i .stored }))
+    (λ _. record { extra = x; is = refl; fits = record { inv = i .inv; request = i .request; stored = i .stored } })
 
-module _ (h : List Happening) where
-  reading-ok : (r : Reading) (b : Book) (x : Extra) → Fits b x → Match h (S.readingStep r (view b x)) (B.readingEntry r b)
+module _ (h : List Happening) (last : Answer) where
+  reading-ok : (r : Reading) (b : Book) (x : Extra) → Fits b x last → Match h last (S.readingStep r (view b x)) (B.readingEntry r b)
   unfolding S.readingStep B.readingEntry
   reading-ok r b x i =
-      on-heard (Match h) (hear (b .clock) (b .inputs) r)
-      (λ a. record { sim = taken-ok b x r a i; told = refl })
+      on-heard (Match h last) (hear (b .clock) (b .inputs) r)
+      (λ a. record { sim = taken-ok b x last r a i; told = refl })
       (λ n. record { sim = record { extra = x; is = refl; fits = i }; told = refl })
 
-  table-ok : (rs : List Reading) (k : ℕ) (ns : List Happening) (b : Book) (x : Extra) → Fits b x
-      → Match h (S.tableFrom rs k (view b x)) (B.tableFrom rs k ns b)
+  table-ok : (rs : List Reading) (k : ℕ) (ns : List Happening) (b : Book) (x : Extra) → Fits b x last
+      → Match h last (S.tableFrom rs k (view b x)) (B.tableFrom rs k ns b)
   unfolding S.tableFrom B.tableFrom
   table-ok [] k ns b x i = record { sim = record { extra = x; is = refl; fits = i }; told = refl }
   table-ok (r ∷ rs) k ns b x i =
-      on-heard (Match h) (hear (b .clock) (b .inputs) r)
-      (λ a. let m = taken-ok b x r a i in
+      on-heard (Match h last) (hear (b .clock) (b .inputs) r)
+      (λ a. let m = taken-ok b x last r a i in
       rw (m .is) (table-ok rs (suc k) (B.readingNews b a ++ ns) (B.enterReading b r a) (m .extra) (m .fits)))
       (λ n. record { sim = record { extra = x; is = refl; fits = i }; told = refl })
 
-  refused-ok : (n : ℕ) (b : Book) (x : Extra) → Fits b x → Match h (S.refusal n (view b x)) (B.refusedEntry n b)
+  refused-ok : (n : ℕ) (b : Book) (x : Extra) → Fits b x last → Match h last (S.refusal n (view b x)) (B.refusedEntry n b)
   refused-ok n b x i = record { sim = record { extra = x; is = refl; fits = i }; told = refl }
 
 -- ---- requests
@@ -212,16 +221,21 @@ afterRequest b time f wait built =
       built = built;
     }
 
--- the outstation that it leaves, by what it does to the queue and the wait
-done-ok : (b : Book) (x : Extra) (time : ℕ) (f answer : List ℕ) (d : Deed) (wait : B.Wait) (built : ℕ) (shown : Bool)
+-- the outstation that it leaves, by what it does to the queue and the wait, and its answer a
+done-ok : (b : Book) (x : Extra) (time : ℕ) (f answer : List ℕ) (a : Answer) (d : Deed) (wait : B.Wait) (built : ℕ) (shown : Bool)
     → d .queue ≡ record { held = collect (waitRows wait) 0 (b .rows); overflow = b .warning } → d .wait ≡ waitView shown (b .rows) wait
-    → Inv wait (b .rows) (b .warning) shown → Sim (S.done (view b x) time f answer d) (afterRequest b time f wait built)
-done-ok b x time f answer d wait built shown queued waited inv =
+    → Inv wait (b .rows) (b .warning) shown → Stored (kept f answer) a
+    → Sim (S.done (view b x) time f answer d) (afterRequest b time f wait built) a
+done-ok b x time f answer a d wait built shown queued waited inv stored =
     record {
       extra = record { armTime = x .armTime; outputs = x .outputs; restarted = d .restarted; last = kept f answer; latch = d .latch; shown = shown };
       is = rw (queued, waited);
-      fits = record { inv = inv; last = refl };
+      fits = record { inv = inv; request = refl; stored = stored };
     }
+
+-- a READ is never repeated
+read-stored : (f answer : List ℕ) (a : Answer) → eqb (functionOf f) 1 ≡ true → Stored (kept f answer) a
+read-stored f answer a t = λ e. absurd (let g : true ≡ false = sym t ∙ e in let z : _≡_ {A = ℕ} 0 1 = cc in omega arith)
 
 -- the response's IIN2.3 is the overflow
 response-of : (h : List Happening) (q : ℕ) (d : Deed) (operated : List Crob) → ((d .queue .overflow ≡ true) ↔ Pending h)
@@ -234,15 +248,32 @@ response-of h q d operated p =
       overflow = rw (response-bit q (d .con) (S.indications d) (d .fault) (d .objects)) p;
     }
 
-carrying-of : (h : List Happening) (q : ℕ) (d : Deed) (events : List Event) (static : List ℕ) → d .objects ≡ eventsBytes events ++ static
-    → ((d .queue .overflow ≡ true) ↔ Pending h) → Carrying h (answers (S.responseBytes q d) []) events static
+building-of : (h : List Happening) (q : ℕ) (d : Deed) (operated : List Crob) (o : List ℕ) → d .objects ≡ o
+    → ((d .queue .overflow ≡ true) ↔ Pending h) → Building h (answers (S.responseBytes q d) operated) o
 unfolding response-of
-carrying-of h q d events static e p =
+building-of h q d operated o e p =
     record {
-      response = response-of h q d [] p;
+      response = response-of h q d operated p;
       long = response-long q (d .con) (S.indications d) (d .fault) (d .objects) ∙ ap (λ (o : List ℕ). 4 + length o) e;
       objects = response-objects q (d .con) (S.indications d) (d .fault) (d .objects) ∙ e;
     }
+
+-- its objects are those that the book says
+told-of : (h : List Happening) (last : Answer) (rows : List Row) (said : Said) (q : ℕ) (d : Deed) (operated : List Crob) → Bears said (d .objects)
+    → ((d .queue .overflow ≡ true) ↔ Pending h)
+    → (keptBy said last (answers (S.responseBytes q d) operated) ≡ answers (S.responseBytes q d) operated)
+    × Told h last rows said (answers (S.responseBytes q d) operated)
+told-of h last rows (B.takes taken refusal) q d operated e p = absurd e
+told-of h last rows (B.refuses n) q d operated e p = absurd e
+told-of h last rows B.accepts q d operated e p = absurd e
+told-of h last rows (B.carries ws static) q d operated e p = absurd e
+told-of h last rows B.plain q d operated e p = (refl, building-of h q d operated [] e p)
+told-of h last rows (B.echoes o) q d operated e p = (
+  refl,
+  record { statuses = e .statuses; each = e .each; building = building-of h q d operated (echoWith (formed o) (e .statuses) o) (e .is) p },
+)
+told-of h last rows B.unanswered q d operated e p = absurd e
+told-of h last rows B.repeats q d operated e p = absurd e
 
 -- a READ: the queue and the wait that it leaves are those of the rows picked
 module _ (q time : ℕ) (hs : List Header) (b : Book) (x : Extra) where
@@ -280,46 +311,69 @@ module _ (q time : ℕ) (hs : List Header) (b : Book) (x : Extra) where
       })
       (λ _. record { below = idle-inv (b .rows) (b .warning) .below; from = omega arith; quiet = λ h d. h })
 
-  read-ok : (h : List Happening) (f : List ℕ) → ((b .warning ≡ true) ↔ Pending h)
-      → Match h (S.readStep (view b x) q time f deed) (B.readEntry b q time f hs)
+  read-ok : (h : List Happening) (last : Answer) (f : List ℕ) → eqb (functionOf f) 1 ≡ true → ((b .warning ≡ true) ↔ Pending h)
+      → Match h last (S.readStep (view b x) q time f deed) (B.readEntry b q time f hs)
   unfolding S.readStep B.readEntry
-  read-ok h f p =
+  read-ok h last f t p =
+      let a = answers (S.responseBytes q deed) [] in
       record {
-        sim = done-ok b x time f [] deed newWait (suc (b .built)) (b .warning) read-queue read-wait read-inv;
-        told = carrying-of h q deed (map (eventAt (b .rows)) (picked b hs)) (staticBytes (b .inputs) hs) read-objects p;
+        sim = done-ok b x time f [] a deed newWait (suc (b .built)) (b .warning) read-queue read-wait read-inv (read-stored f [] a t);
+        told = building-of h q deed [] (eventsBytes (map (eventAt (b .rows)) (picked b hs)) ++ staticBytes (b .inputs) hs) read-objects p;
       }
 
 -- any other request that is no repeat; d is what it does
-module _ (h : List Happening) (q time : ℕ) (f : List ℕ) (b : Book) (x : Extra) (d : Deed) (e : Ends (view b x .queue) d) where
+module _ (h : List Happening) (last : Answer) (q time : ℕ) (f : List ℕ) (b : Book) (x : Extra) (d : Deed) (e : Ends (view b x .queue) d)
+    (p : (b .warning ≡ true) ↔ Pending h) where
   other-queue : d .queue ≡ record { held = collect [] 0 (b .rows); overflow = b .warning }
   other-queue = e .queue ∙ rw (collect-none (waitRows (b .wait)) 0 (b .rows))
 
-  other-sim : (answer : List ℕ) (built : ℕ) → Sim (S.done (view b x) time f answer d) (afterRequest b time f B.idle built)
-  other-sim answer built = done-ok b x time f answer d B.idle built true other-queue (e .wait) (idle-inv (b .rows) (b .warning))
+  other-sim : (answer : List ℕ) (a : Answer) (built : ℕ) → Stored (kept f answer) a
+      → Sim (S.done (view b x) time f answer d) (afterRequest b time f B.idle built) a
+  other-sim answer a built stored =
+      done-ok b x time f answer a d B.idle built true other-queue (e .wait) (idle-inv (b .rows) (b .warning)) stored
 
-  other-response : (operated : List Crob) → ((b .warning ≡ true) ↔ Pending h) → Response h (answers (S.responseBytes q d) operated)
-  other-response operated p = response-of h q d operated (rw (e .queue) p)
-
-  misread-ok : ((b .warning ≡ true) ↔ Pending h) → Match h (S.readStep (view b x) q time f d) (B.otherEntry b true time f)
+  misread-ok : d .objects ≡ [] → eqb (functionOf f) 1 ≡ true → Match h last (S.readStep (view b x) q time f d) (B.otherEntry b true B.plain time f)
   unfolding S.readStep B.otherEntry
-  misread-ok p = record { sim = other-sim [] (suc (b .built)); told = other-response [] p }
+  misread-ok o t =
+      let a = answers (S.responseBytes q d) [] in
+      record { sim = other-sim [] a (suc (b .built)) (read-stored f [] a t); told = building-of h q d [] [] o (rw (e .queue) p) }
 
-  request-ok : (function : ℕ) → ((b .warning ≡ true) ↔ Pending h)
-      → Match h (S.requestStep (view b x) q function time f d) (B.otherEntry b (not (eqb function 6)) time f)
-  unfolding S.requestStep B.otherEntry
-  request-ok function p =
+  -- function 6, and all others
+  silent-ok : eqb (functionOf f) 6 ≡ true
+      → Match h last (record { state = S.done (view b x) time f [] d; answer = silent (d .operated) }) (B.otherEntry b false B.unanswered time f)
+  unfolding B.otherEntry
+  silent-ok t = record { sim = other-sim [] (silent (d .operated)) (b .built) (λ r. rw t); told = record { operated = d .operated; is = refl } }
+
+  answered-ok : (said : Said) → Bears said (d .objects) → eqb (functionOf f) 6 ≡ false
+      → Match h last (record { state = S.done (view b x) time f (S.responseBytes q d) d; answer = answers (S.responseBytes q d) (d .operated) })
+      (B.otherEntry b true said time f)
+  unfolding B.otherEntry
+  answered-ok said bears t =
+      let (same, told) = told-of h last (b .rows) said q d (d .operated) bears (rw (e .queue) p) in
+      record {
+        sim = rw same (other-sim (S.responseBytes q d) (answers (S.responseBytes q d) (d .operated)) (suc (b .built)) (λ r. rw t));
+        told = told;
+      }
+
+  request-ok : (function : ℕ) → functionOf f ≡ function → (eqb function 6 ≡ false → Bears (B.saidOf function (objectsOf f)) (d .objects))
+      → Match h last (S.requestStep (view b x) q function time f d)
+      (B.otherEntry b (not (eqb function 6)) (B.saidOf function (objectsOf f)) time f)
+  unfolding S.requestStep B.saidOf
+  request-ok function is bears =
       by (eqb function 6)
-      (λ t. rw t (record { sim = other-sim [] (b .built); told = tt }))
-      (λ t. rw t (record { sim = other-sim (S.responseBytes q d) (suc (b .built)); told = other-response (d .operated) p }))
+      (λ t. rw t (silent-ok (rw is t)))
+      (λ t. rw t (answered-ok (cond (member function (3 ∷ 4 ∷ 5 ∷ [])) (B.echoes (objectsOf f)) B.plain) (rw t at (bears t)) (rw is t)))
 
--- a repeat moves the clock
-repeat-ok : (h : List Happening) (function time : ℕ) (b : Book) (x : Extra) → Fits b x
-    → Match h (S.repeatStep (view b x) function time) (B.repeatEntry b time)
+-- a repeat moves the clock, and has the same answer again
+repeat-ok : (h : List Happening) (last : Answer) (function time : ℕ) (f : List ℕ) (b : Book) (x : Extra) → Fits b x last
+    → functionOf f ≡ function → eqb function 1 ≡ false → x .last ≡ kept f (answerOf (x .last))
+    → Match h last (S.repeatStep (view b x) function time) (B.repeatEntry b time)
 unfolding S.repeatStep B.repeatEntry
-repeat-ok h function time b x i =
+repeat-ok h last function time f b x i is other was =
+    let s : Stored (kept f (answerOf (x .last))) last = subst (λ m. Stored m last) was (i .stored) in
     record {
-      sim = record { extra = x; is = refl; fits = record { inv = i .inv; last = i .last } };
-      told = by (eqb function 6) (λ t. rw t tt) (λ t. rw t refl);
+      sim = record { extra = x; is = refl; fits = record { inv = i .inv; request = i .request; stored = i .stored } };
+      told = sym (rw is at (s (rw is other)));
     }
 
 -- ---- CONFIRM
@@ -330,9 +384,9 @@ clear-eq true false w h = refl
 clear-eq false true w h = refl
 clear-eq false false w h = h refl refl
 
-module _ (h : List Happening) where
-  confirmed-ok : (time q t : ℕ) (ws : List ℕ) (n k : ℕ) (b : Book) (x : Extra) → b .wait ≡ B.awaiting q t ws n k → Fits b x
-      → Match h (S.confirmedStep (view b x) time (x .shown) (dropSince n (b .rows))) (B.confirmedEntry b time ws n k)
+module _ (h : List Happening) (last : Answer) where
+  confirmed-ok : (time q t : ℕ) (ws : List ℕ) (n k : ℕ) (b : Book) (x : Extra) → b .wait ≡ B.awaiting q t ws n k → Fits b x last
+      → Match h last (S.confirmedStep (view b x) time (x .shown) (dropSince n (b .rows))) (B.confirmedEntry b time ws n k)
   unfolding S.confirmedStep B.confirmedEntry
   confirmed-ok time q t ws n k b x e i =
       record {
@@ -343,58 +397,61 @@ module _ (h : List Happening) where
               fits =
                   record {
                     inv = idle-inv (release ws 0 (b .rows)) (cond (dropSince n (b .rows)) (b .warning) false);
-                    last = i .last;
+                    request = i .request;
+                    stored = i .stored;
                   };
             };
         told = refl;
       }
 
-  confirm-ok : (q : ℕ) (uns : Bool) (time : ℕ) (b : Book) (x : Extra) (w : B.Wait) → b .wait ≡ w → Fits b x
-      → Match h (S.confirmStep (view b x) (waitView (x .shown) (b .rows) w) q uns time) (B.confirmEntry b w q uns time)
+  confirm-ok : (q : ℕ) (uns : Bool) (time : ℕ) (b : Book) (x : Extra) (w : B.Wait) → b .wait ≡ w → Fits b x last
+      → Match h last (S.confirmStep (view b x) (waitView (x .shown) (b .rows) w) q uns time) (B.confirmEntry b w q uns time)
   unfolding S.confirmStep B.confirmEntry
-  confirm-ok q uns time b x B.idle e i = refused-ok h 32 b x i
+  confirm-ok q uns time b x B.idle e i = refused-ok h last 32 b x i
   confirm-ok q uns time b x (B.awaiting q₁ t₁ ws n k) e i =
-      both (Match h) (confirmed (b .confirmTime) q uns time q₁ t₁)
+      both (Match h last) (confirmed (b .confirmTime) q uns time q₁ t₁)
       (λ _. confirmed-ok time q₁ t₁ ws n k b x e i)
-      (λ _. refused-ok h 32 b x i)
+      (λ _. refused-ok h last 32 b x i)
 
 -- ---- fragments
 
-module _ (h : List Happening) (b : Book) (x : Extra) (i : Fits b x) (p : (b .warning ≡ true) ↔ Pending h) where
-  ask-ok : (a : Ask) (time : ℕ) (f : List ℕ) → ask (b .inputs) f ≡ a → Match h (S.onAsk a (view b x) time f) (B.askEntry a b time f)
-  ask-ok malformed time f e = refused-ok h 31 b x i
-  ask-ok (confirms q uns) time f e = confirm-ok h q uns time b x (b .wait) refl i
-  ask-ok (reads q hs) time f e = read-ok q time hs b x h f p
+module _ (h : List Happening) (last : Answer) (b : Book) (x : Extra) (i : Fits b x last) (p : (b .warning ≡ true) ↔ Pending h) where
+  ask-ok : (a : Ask) (time : ℕ) (f : List ℕ) → ask (b .inputs) f ≡ a → Match h last (S.onAsk a (view b x) time f) (B.askEntry a b time f)
+  ask-ok malformed time f e = refused-ok h last 31 b x i
+  ask-ok (confirms q uns) time f e = confirm-ok h last q uns time b x (b .wait) refl i
+  ask-ok (reads q hs) time f e = read-ok q time hs b x h last f (reads-function (b .inputs) f q hs e) p
   ask-ok (misreads q n) time f e =
-      misread-ok h q time f b x (S.plainDeed (view b x) (S.readFault n) (x .restarted)) (record { queue = refl; wait = refl }) p
+      misread-ok h last q time f b x (S.plainDeed (view b x) (S.readFault n) (x .restarted)) (record { queue = refl; wait = refl }) p refl
+      (misreads-function (b .inputs) f q n e)
   ask-ok (asks q function) time f e =
       let a = asks-inverse (b .inputs) f q function e in
-      let s : isRepeat (x .last) f ≡ same f (b .last) = rw (← i .last) (repeat-same (x .last) f (rw (a .is) (a .other)) (a .long)) in
+      let s : isRepeat (x .last) f ≡ same f (b .last) = rw (← i .request) (repeat-same (x .last) f (rw (a .is) (a .other)) (a .long)) in
       let d = S.deedBy (view b x) q function time (objectsOf f) in
       rw s
-      (both (Match h) (same f (b .last))
-      (λ _. repeat-ok h function time b x i)
-      (λ _. request-ok h q time f b x d (deed-ends (view b x) q function time (objectsOf f)) function p))
+      (both (Match h last) (same f (b .last))
+      (λ t. repeat-ok h last function time f b x i (a .is) (a .other) (repeated (x .last) f (a .long) (rw (i .request) t)))
+      (λ _. request-ok h last q time f b x d (deed-ends (view b x) q function time (objectsOf f)) p function (a .is)
+      (deed-bears (view b x) q function time (objectsOf f))))
 
-  fragment-ok : (time : ℕ) (f : List ℕ) (room : ℕ) → Match h (S.fragmentStep time f room (view b x)) (B.fragmentEntry time f room b)
+  fragment-ok : (time : ℕ) (f : List ℕ) (room : ℕ) → Match h last (S.fragmentStep time f room (view b x)) (B.fragmentEntry time f room b)
   unfolding S.fragmentStep B.fragmentEntry
   fragment-ok time f room =
-      both (Match h) (badTime (b .clock) time)
-      (λ _. refused-ok h 1 b x i)
-      (λ _. both (Match h) (ltb room fragmentMax) (λ _. refused-ok h 33 b x i) (λ _. ask-ok (ask (b .inputs) f) time f refl))
+      both (Match h last) (badTime (b .clock) time)
+      (λ _. refused-ok h last 1 b x i)
+      (λ _. both (Match h last) (ltb room fragmentMax) (λ _. refused-ok h last 33 b x i) (λ _. ask-ok (ask (b .inputs) f) time f refl))
 
-  step-view : (c : Call) → Match h (S.step c (view b x)) (B.enter c b)
+  step-view : (c : Call) → Match h last (S.step c (view b x)) (B.enter c b)
   unfolding S.step B.enter
-  step-view (reading r) = reading-ok h r b x i
-  step-view (table rs) = table-ok h rs 0 [] b x i
+  step-view (reading r) = reading-ok h last r b x i
+  step-view (table rs) = table-ok h last rs 0 [] b x i
   step-view (fragment time f room) = fragment-ok time f room
 
 -- one call, from any outstation that is a view of the book
-pub step-ok : (h : List Happening) (c : Call) (w : World) (b : Book) → ((b .warning ≡ true) ↔ Pending h) → Sim w b
-    → Match h (S.step c w) (B.enter c b)
-step-ok h c w b p m = rw (m .is) (step-view h b (m .extra) (m .fits) p c)
+pub step-ok : (h : List Happening) (last : Answer) (c : Call) (w : World) (b : Book) → ((b .warning ≡ true) ↔ Pending h) → Sim w b last
+    → Match h last (S.step c w) (B.enter c b)
+step-ok h last c w b p m = rw (m .is) (step-view h last b (m .extra) (m .fits) p c)
 
-pub start-ok : (u : Setup) → Sim (restarted u) (B.opened u)
+pub start-ok : (u : Setup) → Sim (restarted u) (B.opened u) (silent [])
 unfolding restarted B.opened
 start-ok u =
     record {
@@ -408,5 +465,5 @@ start-ok u =
             shown = true;
           };
       is = refl;
-      fits = record { inv = idle-inv [] false; last = refl };
+      fits = record { inv = idle-inv [] false; request = refl; stored = tt };
     }

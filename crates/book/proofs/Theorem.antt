@@ -11,15 +11,16 @@ use Rattle.laws.specs.Lists.{count}
 use Rattle.outstation.specs.declared.Outstation.{Outstation}
 use Rattle.outstation.specs.declared.Setup.{Setup}
 use Rattle.outstation.specs.World.{World, world, restarted}
-use Rattle.outstation.specs.Step.{Call, Answer, Result, step}
+use Rattle.outstation.specs.Step.{Call, Answer, silent, Result, step}
 use Rattle.outstation.specs.Contracts.{Did}
 use Rattle.book.specs.Book.{Book, Row, Happening, held, released, dropped, isHeld, isReleased, isDropped}
 use Rattle.book.specs.Book.{rowHeld, rowReleased, rowDropped, enter, opened}
-use Rattle.book.specs.Demand3.{Pending, AllTold, bookAfter, historyAfter, Demand3, Demand3Holds, Ran, none, more}
+use Rattle.book.specs.Demand3.{Pending, keptBy, AllTold, bookAfter, historyAfter, Demand3, Demand3Holds, Ran, none, more}
 use Rattle.laws.proofs.Choices.{by}
 use Rattle.book.proofs.Rows.{collect, length-collect, events-collect}
 use Rattle.book.proofs.Step.{Sim, Match, step-ok, start-ok, waitRows}
 use Rattle.book.proofs.Past.{KeptBy, enter-kept, opened-kept}
+use Rattle.book.proofs.Numbers.{NumberedBy, enter-numbered, opened-numbered}
 use Rattle.book.proofs.Places.{PlacingBy, enter-placing, opened-placing, placed}
 
 -- each row has one of the three marks
@@ -42,29 +43,40 @@ placing-after : (cs : List Call) (b : Book) (h : List Happening) → PlacingBy b
 placing-after [] b h p = p
 placing-after (c ∷ cs) b h p = placing-after cs (enter c b .book) (enter c b .news ++ h) (enter-placing c b h p)
 
+numbered-after : (cs : List Call) (b : Book) (h : List Happening) → NumberedBy b h → NumberedBy (bookAfter cs b) (historyAfter cs b h)
+numbered-after [] b h p = p
+numbered-after (c ∷ cs) b h p = numbered-after cs (enter c b .book) (enter c b .news ++ h) (enter-numbered c b h p)
+
+-- the outstation is a view of the book, whatever was answered last
+record View (w : World) (b : Book) : Type 0 where
+  last : Answer
+  sim : Sim w b last
+
 -- any states, the world of one, and what a call's contract ensures: the step of that world
 module _ (O : Type 0) (worldOf : O → World) (did : O → Call → Answer → O → Type 0)
     (does : (o o₁ : O) (c : Call) (a : Answer) → did o c a o₁
     → _≡_ {A = Result} (record { state = worldOf o₁; answer = a }) (step c (worldOf o))) where
-  all-told : {o o₂ : O} {cs : List Call} {ans : List Answer} (b : Book) (h : List Happening) → Sim (worldOf o) b → KeptBy b h → Ran O did o cs ans o₂
-      → AllTold b h cs ans × Sim (worldOf o₂) (bookAfter cs b)
-  all-told b h m k none = (tt, m)
-  all-told b h m k (more {o} {o₁} {o₂} {c} {cs} {a} {ans} d rest) =
-      let x : Match h (record { state = worldOf o₁; answer = a }) (enter c b) = rw (does o o₁ c a d) (step-ok h c (worldOf o) b (warns b h k) m) in
-      let (ts, m₂) = all-told (enter c b .book) (enter c b .news ++ h) (x .sim) (enter-kept c b h k) rest in
+  all-told : {o o₂ : O} {cs : List Call} {ans : List Answer} (b : Book) (h : List Happening) (last : Answer) → Sim (worldOf o) b last → KeptBy b h
+      → Ran O did o cs ans o₂ → AllTold b h last cs ans × View (worldOf o₂) (bookAfter cs b)
+  all-told b h last m k none = (tt, record { last = last; sim = m })
+  all-told b h last m k (more {o} {o₁} {o₂} {c} {cs} {a} {ans} d rest) =
+      let x : Match h last (record { state = worldOf o₁; answer = a }) (enter c b)
+      = rw (does o o₁ c a d) (step-ok h last c (worldOf o) b (warns b h k) m) in
+      let (ts, m₂) = all-told (enter c b .book) (enter c b .news ++ h) (keptBy (enter c b .said) last a) (x .sim) (enter-kept c b h k) rest in
       ((x .told, ts), m₂)
 
   -- from a restart
   pub demand3 : (u : Setup) {o o₂ : O} {cs : List Call} {ans : List Answer} → worldOf o ≡ restarted u → Ran O did o cs ans o₂
       → Demand3 u cs ans (worldOf o₂)
   demand3 u {o} {o₂} {cs} {ans} e r =
-      let (ts, m) = all-told (opened u) [] (rw e (start-ok u)) (opened-kept u) r in
+      let (ts, v) = all-told (opened u) [] (silent []) (rw e (start-ok u)) (opened-kept u) r in
       let b = bookAfter cs (opened u) in
-      let hs : worldOf o₂ .queue .held ≡ collect (waitRows (b .wait)) 0 (b .rows) = ap (λ (w : World). w .queue .held) (m .is) in
+      let hs : worldOf o₂ .queue .held ≡ collect (waitRows (b .wait)) 0 (b .rows) = ap (λ (w : World). w .queue .held) (v .sim .is) in
+      let p = placing-after cs (opened u) [] (opened-placing u) in
+      let n = numbered-after cs (opened u) [] (opened-numbered u) in
       record {
         told = ts;
-        placed =
-            placed (b .wait) (b .rows) (b .built) (historyAfter cs (opened u) []) (placing-after cs (opened u) [] (opened-placing u));
+        placed = λ i l. placed (b .wait) (b .rows) (b .built) (historyAfter cs (opened u) []) p (n .sound) i l;
         holds = rw hs (events-collect (waitRows (b .wait)) 0 (b .rows));
         places = rw (hs, length-collect) (places (b .rows));
       }

@@ -9,6 +9,7 @@ use lib.Dec.{eqb, ltb}
 use Rattle.laws.specs.Limits.{fragmentMax, eventsMax}
 use Rattle.laws.specs.Outcome.{Outcome, accepted, refused}
 use Rattle.laws.specs.Lists.{count, isNil, same}
+use Rattle.application.specs.Fragment.{objectsOf}
 use Rattle.events.specs.declared.Event.{Event}
 use Rattle.events.specs.declared.Classes.{Classes}
 use Rattle.events.specs.declared.Pack.{Pack}
@@ -20,16 +21,18 @@ use Rattle.read.specs.Response.{classesOf, roomBeside}
 use Rattle.outstation.specs.Requests.{Ask, malformed, confirms, reads, misreads, asks, ask, confirmed}
 use Rattle.outstation.specs.Step.{Call, reading, table, fragment, onHeard}
 use Rattle.book.specs.Book as B
-use Rattle.book.specs.Book.{Book, Row, Entry, Wait, idle, awaiting, rowHeld, dropSince, picks, picked, release}
-use Rattle.book.specs.Book.{drop!, built!, confirmed!, Happening}
+use Rattle.book.specs.Book.{Book, Row, Entry, Said, Wait, idle, awaiting, rowHeld, dropSince, picks, picked, release}
+use Rattle.book.specs.Book.{hold!, drop!, built!, confirmed!, Happening}
 use Rattle.laws.proofs.Choices.{by, split}
 use Rattle.book.proofs.Rows.{heldRow, droppedRow}
 
 -- what an invariant K of wait, rows, warning, number of responses built and history has to bear
 pub record Steps (K : Wait → List Row → Bool → ℕ → List Happening → Type 0) : Type 0 where
-  pub held : (w : Wait) (rows : List Row) (warning : Bool) (built : ℕ) (h : List Happening) (e : Event) → K w rows warning built h
-      → K w (rows ++ (heldRow e ∷ [])) warning built h
-  pub dropped : (w : Wait) (rows : List Row) (warning : Bool) (built : ℕ) (h : List Happening) (e : Event) → K w rows warning built h
+  pub held : (w : Wait) (rows : List Row) (warning : Bool) (built : ℕ) (h : List Happening) (e : Event)
+      → ltb (count rowHeld rows) eventsMax ≡ true → K w rows warning built h
+      → K w (rows ++ (heldRow e ∷ [])) warning built (hold! (length rows) ∷ h)
+  pub dropped : (w : Wait) (rows : List Row) (warning : Bool) (built : ℕ) (h : List Happening) (e : Event)
+      → ltb (count rowHeld rows) eventsMax ≡ false → K w rows warning built h
       → K w (rows ++ (droppedRow e ∷ [])) true built (drop! (length rows) ∷ h)
   pub ended : (w : Wait) (rows : List Row) (warning : Bool) (built : ℕ) (h : List Happening) → K w rows warning built h
       → K idle rows warning built h
@@ -61,8 +64,8 @@ module _ (K : Wait → List Row → Bool → ℕ → List Happening → Type 0) 
   heard-on r x b h k =
       by (x .raised)
       (λ t. by (ltb (count rowHeld (b .rows)) eventsMax)
-      (λ f. rw (t, f) (S .held (b .wait) (b .rows) (b .warning) (b .built) h (x .event) k))
-      (λ f. rw (t, f) (S .dropped (b .wait) (b .rows) (b .warning) (b .built) h (x .event) k)))
+      (λ f. rw (t, f) (S .held (b .wait) (b .rows) (b .warning) (b .built) h (x .event) f k))
+      (λ f. rw (t, f) (S .dropped (b .wait) (b .rows) (b .warning) (b .built) h (x .event) f k)))
       (λ t. rw t k)
 
   reading-on : (r : Reading) (b : Book) (h : List Happening) → On K b h → OnEntry K h (B.readingEntry r b)
@@ -78,10 +81,11 @@ module _ (K : Wait → List Row → Bool → ℕ → List Happening → Type 0) 
       (λ x. table-on rs (suc j) (B.readingNews b x ++ ns) (B.enterReading b r x) h (rw append-assoc (heard-on r x b (ns ++ h) k)))
       (λ n. k)
 
-  other-on : (answered : Bool) (t : ℕ) (f : List ℕ) (b : Book) (h : List Happening) → On K b h → OnEntry K h (B.otherEntry b answered t f)
+  other-on : (answered : Bool) (said : Said) (t : ℕ) (f : List ℕ) (b : Book) (h : List Happening) → On K b h
+      → OnEntry K h (B.otherEntry b answered said t f)
   unfolding B.otherEntry
-  other-on true t f b h k = S .built (b .wait) (b .rows) (b .warning) (b .built) h [] k
-  other-on false t f b h k = S .ended (b .wait) (b .rows) (b .warning) (b .built) h k
+  other-on true said t f b h k = S .built (b .wait) (b .rows) (b .warning) (b .built) h [] k
+  other-on false said t f b h k = S .ended (b .wait) (b .rows) (b .warning) (b .built) h k
 
   read-on : (q t : ℕ) (f : List ℕ) (hs : List Header) (b : Book) (h : List Happening) → On K b h → OnEntry K h (B.readEntry b q t f hs)
   unfolding B.readEntry
@@ -104,9 +108,9 @@ module _ (K : Wait → List Row → Bool → ℕ → List Happening → Type 0) 
   ask-on malformed t f b h k = k
   ask-on (confirms q uns) t f b h k = confirm-on q uns t b h (b .wait) refl k
   ask-on (reads q hs) t f b h k = read-on q t f hs b h k
-  ask-on (misreads q n) t f b h k = other-on true t f b h k
+  ask-on (misreads q n) t f b h k = other-on true B.plain t f b h k
   ask-on (asks q function) t f b h k =
-      split (OnEntry K h) (same f (b .last)) (λ _. k) (λ _. other-on (not (eqb function 6)) t f b h k)
+      split (OnEntry K h) (same f (b .last)) (λ _. k) (λ _. other-on (not (eqb function 6)) (B.saidOf function (objectsOf f)) t f b h k)
 
   pub enter-on : (c : Call) (b : Book) (h : List Happening) → On K b h → OnEntry K h (B.enter c b)
   unfolding B.enter B.fragmentEntry

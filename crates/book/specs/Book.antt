@@ -1,12 +1,13 @@
 -- The event book (document 01, "The event book"): "fed setup and arguments, the length of the lent output among them, and no answers".
 -- Assumes nothing.
-use Prim.Native.Nat.{ℕ, suc, _+_}
+use Prim.Native.Nat.{ℕ, suc}
 use mathlib.Core.Bool.{Bool, true, false, not, cond, _&&_, _||_}
 use mathlib.Core.List.{List, [], _∷_, _++_, map}
 use lib.ListN.{length, drop}
 use lib.Dec.{eqb, ltb}
 use Rattle.laws.specs.Limits.{fragmentMax, eventsMax}
 use Rattle.laws.specs.Lists.{some, count, isNil, member, same}
+use Rattle.application.specs.Fragment.{objectsOf}
 use Rattle.points.specs.Inputs.{Inputs}
 use Rattle.points.specs.Setup.{freshBinary, freshAnalog}
 use Rattle.events.specs.declared.Event.{Event}
@@ -78,19 +79,23 @@ rowEvent r = r .event
 
 -- ---- what the book says of a call
 
--- so many readings taken, and the refusal that stopped them (0: none); a fragment refused; a CONFIRM accepted; a READ's response
--- newly built, with the rows that it carries and its static part; another response newly built; accepted with no response newly
--- built (a repeat, or function 6)
+-- so many readings taken, and the refusal that stopped them (0: none); a fragment refused; a CONFIRM accepted; a faultless READ's
+-- response newly built, with the rows that it carries and its static part; another response newly built, without objects (a READ's
+-- fault, WRITE, an unknown function); a control request's newly built, the echo of these object bytes of the request; function 6,
+-- newly accepted and not answered; a repeat
 pub data Said : Type 0 where
   takes : (taken refusal : ℕ) → Said
   refuses : ℕ → Said
   accepts : Said
   carries : (rows : List ℕ) (static : List ℕ) → Said
-  builds : Said
-  unbuilt : Said
+  plain : Said
+  echoes : (objects : List ℕ) → Said
+  unanswered : Said
+  repeats : Said
 
--- what happened, for the sentence on IIN2.3: a row dropped; response k newly built with these rows; response k confirmed
+-- what happened: a row held when it was raised; one dropped; response k newly built with these rows; response k confirmed
 pub data Happening : Type 0 where
+  hold! : (row : ℕ) → Happening
   drop! : (row : ℕ) → Happening
   built! : (number : ℕ) (rows : List ℕ) → Happening
   confirmed! : (number : ℕ) → Happening
@@ -153,7 +158,7 @@ enterReading b r h =
     cond (h .raised) (enterEvent (h .event) (withInputs b (r .time) (h .inputs))) (withInputs b (r .time) (h .inputs))
 
 unfoldable pub readingNews : Book → Heard → List Happening
-readingNews b h = cond (h .raised && full b) (drop! (length (b .rows)) ∷ []) []
+readingNews b h = cond (h .raised) (cond (full b) (drop! (length (b .rows)) ∷ []) (hold! (length (b .rows)) ∷ [])) []
 
 unfoldable pub readingEntry : Reading → Book → Entry
 readingEntry r b =
@@ -204,9 +209,14 @@ readEntry b q time f hs =
       news = built! (b .built) (picked b hs) ∷ [];
     }
 
--- a request that is no faultless READ and no repeat; answered: it has a response
-unfoldable pub otherEntry : Book → (answered : Bool) → ℕ → List ℕ → Entry
-otherEntry b answered time f =
+-- a request that is no READ and no repeat, by its function: "Function 6 is never answered"; the answer to 3 to 5 "echoes header and
+-- objects with status"
+unfoldable pub saidOf : (function : ℕ) (objects : List ℕ) → Said
+saidOf function o = cond (eqb function 6) unanswered (cond (member function (3 ∷ 4 ∷ 5 ∷ [])) (echoes o) plain)
+
+-- a request that is no faultless READ and no repeat, and what is said of it; answered: it has a response
+unfoldable pub otherEntry : Book → (answered : Bool) → Said → ℕ → List ℕ → Entry
+otherEntry b answered said time f =
     record {
       book =
           record {
@@ -219,13 +229,13 @@ otherEntry b answered time f =
             last = f;
             built = cond answered (suc (b .built)) (b .built);
           };
-      said = cond answered builds unbuilt;
+      said = said;
       news = cond answered (built! (b .built) [] ∷ []) [];
     }
 
 -- "A repeat's answer is not newly built."
 unfoldable pub repeatEntry : Book → ℕ → Entry
-repeatEntry b time = record { book = withInputs b time (b .inputs); said = unbuilt; news = [] }
+repeatEntry b time = record { book = withInputs b time (b .inputs); said = repeats; news = [] }
 
 -- ---- CONFIRM: "An accepted CONFIRM ends the wait, marks those rows released and, with no drop since that response, clears the
 -- warning."
@@ -268,9 +278,9 @@ abbrev pub askEntry : Ask → Book → ℕ → List ℕ → Entry
 askEntry malformed b time f = refusedEntry 31 b
 askEntry (confirms q uns) b time f = confirmEntry b (b .wait) q uns time
 askEntry (reads q hs) b time f = readEntry b q time f hs
-askEntry (misreads q n) b time f = otherEntry b true time f
+askEntry (misreads q n) b time f = otherEntry b true plain time f
 askEntry (asks q function) b time f =
-    cond (same f (b .last)) (repeatEntry b time) (otherEntry b (not (eqb function 6)) time f)
+    cond (same f (b .last)) (repeatEntry b time) (otherEntry b (not (eqb function 6)) (saidOf function (objectsOf f)) time f)
 
 unfoldable pub fragmentEntry : (time : ℕ) (bytes : List ℕ) (room : ℕ) → Book → Entry
 fragmentEntry time f room b =

@@ -3,12 +3,15 @@
 use Prim.Native.Nat.{ℕ, _+_, _<_, _/_, _%_}
 use mathlib.Core.Path.{_≡_}
 use mathlib.Core.Logic.{_↔_}
-use mathlib.Core.Bool.{Bool, true}
+use mathlib.Core.Bool.{Bool, true, not, cond}
 use lib.Dec.{eqb}
 use mathlib.Core.List.{List, [], _∷_, _++_, map, List·Memᴰ}
 use lib.ListN.{length, getD, drop}
+use Rattle.laws.specs.Limits.{eventsMax}
 use Rattle.laws.specs.Lists.{filter, count, member}
 use Rattle.control.specs.declared.Crob.{Crob}
+use Rattle.control.specs.Objects.{formed, countBy}
+use Rattle.control.specs.Status.{echoWith}
 use Rattle.events.specs.declared.Event.{Event}
 use Rattle.events.specs.declared.Held.{Held}
 use Rattle.events.specs.Queue.{noHeld}
@@ -20,7 +23,7 @@ use Rattle.outstation.specs.World.{World, world, restarted}
 use Rattle.outstation.specs.Step.{Call, Answer, took, answers, silent, accepts, refuses}
 use Rattle.outstation.specs.Contracts.{Did}
 use Rattle.book.specs.Book as B
-use Rattle.book.specs.Book.{Book, Row, Mark, Said, Happening, drop!, built!, confirmed!, rowHeld, rowReleased, rowDropped, rowEvent, enter, opened}
+use Rattle.book.specs.Book.{Book, Row, Mark, Said, Happening, hold!, drop!, built!, confirmed!, rowHeld, rowReleased, rowDropped, rowEvent, enter, opened}
 
 abbrev pub Has : Happening → List Happening → Type 0
 Has x h = List·Memᴰ x h
@@ -52,36 +55,62 @@ pub record Response (h : List Happening) (a : Answer) : Type 0 where
   pub is : a ≡ answers bytes operated
   pub overflow : (overflowBit bytes ≡ true) ↔ Pending h
 
--- a READ's response newly built: behind its four bytes stand the rows' events in their encoding, then the static part
-pub record Carrying (h : List Happening) (a : Answer) (events : List Event) (static : List ℕ) : Type 0 where
+-- and these objects stand behind its four bytes, nothing else
+pub record Building (h : List Happening) (a : Answer) (o : List ℕ) : Type 0 where
   pub response : Response h a
-  pub long : length (response .bytes) ≡ 4 + length (eventsBytes events ++ static)
-  pub objects : drop 4 (response .bytes) ≡ eventsBytes events ++ static
+  pub long : length (response .bytes) ≡ 4 + length o
+  pub objects : drop 4 (response .bytes) ≡ o
 
--- accepted, with no response newly built: a stored answer, or none
-abbrev pub Unbuilt : Answer → Type 0
-Unbuilt (took taken refusal) = ⊥
-Unbuilt (answers bytes operated) = operated ≡ []
-Unbuilt (silent operated) = Unit {0}
-Unbuilt accepts = ⊥
-Unbuilt (refuses n) = ⊥
+-- a control request's, o its object bytes: "The answer echoes header and objects with status"; a wrong form has no objects
+pub record Echoing (h : List Happening) (a : Answer) (o : List ℕ) : Type 0 where
+  pub statuses : List ℕ
+  pub each : length statuses ≡ countBy (formed o)
+  pub building : Building h a (echoWith (formed o) statuses o)
 
--- the answer to a call against what the book says of it, h the history before the call
-abbrev pub Told : List Happening → List Row → Said → Answer → Type 0
-Told h rows (B.takes taken refusal) a = a ≡ took taken refusal
-Told h rows (B.refuses n) a = a ≡ refuses n
-Told h rows B.accepts a = a ≡ accepts
-Told h rows (B.carries ws static) a = Carrying h a (map (eventAt rows) ws) static
-Told h rows B.builds a = Response h a
-Told h rows B.unbuilt a = Unbuilt a
+-- function 6
+pub record Unanswered (a : Answer) : Type 0 where
+  pub operated : List Crob
+  pub is : a ≡ silent operated
+
+-- a repeat: "the same answer again, nothing done", so nothing is handed to the host
+abbrev pub again : Answer → Answer
+again (took taken refusal) = took taken refusal
+again (answers bytes operated) = answers bytes []
+again (silent operated) = silent []
+again accepts = accepts
+again (refuses n) = refuses n
+
+-- the answer to the last accepted request, after a call answered a
+abbrev pub keptBy : Said → (last a : Answer) → Answer
+keptBy (B.takes taken refusal) last a = last
+keptBy (B.refuses n) last a = last
+keptBy B.accepts last a = last
+keptBy (B.carries ws static) last a = a
+keptBy B.plain last a = a
+keptBy (B.echoes o) last a = a
+keptBy B.unanswered last a = a
+keptBy B.repeats last a = last
+
+-- the answer to a call against what the book says of it, h the history before the call, last the answer to the last request
+abbrev pub Told : List Happening → (last : Answer) → List Row → Said → Answer → Type 0
+Told h last rows (B.takes taken refusal) a = a ≡ took taken refusal
+Told h last rows (B.refuses n) a = a ≡ refuses n
+Told h last rows B.accepts a = a ≡ accepts
+-- the rows' events in their encoding, then the static part
+Told h last rows (B.carries ws static) a = Building h a (eventsBytes (map (eventAt rows) ws) ++ static)
+Told h last rows B.plain a = Building h a []
+Told h last rows (B.echoes o) a = Echoing h a o
+Told h last rows B.unanswered a = Unanswered a
+Told h last rows B.repeats a = a ≡ again last
 
 -- the answers to a list of calls
-abbrev pub AllTold : Book → List Happening → List Call → List Answer → Type 0
-AllTold b h [] [] = Unit {0}
-AllTold b h [] (a ∷ ans) = ⊥
-AllTold b h (c ∷ cs) [] = ⊥
-AllTold b h (c ∷ cs) (a ∷ ans) =
-    Told h (enter c b .book .rows) (enter c b .said) a × AllTold (enter c b .book) (enter c b .news ++ h) cs ans
+abbrev pub AllTold : Book → List Happening → (last : Answer) → List Call → List Answer → Type 0
+AllTold b h last [] [] = Unit {0}
+AllTold b h last [] (a ∷ ans) = ⊥
+AllTold b h last (c ∷ cs) [] = ⊥
+AllTold b h last (c ∷ cs) (a ∷ ans) =
+    Told h last (enter c b .book .rows) (enter c b .said) a
+    × AllTold (enter c b .book) (enter c b .news ++ h) (keptBy (enter c b .said) last a) cs ans
 
 abbrev pub bookAfter : List Call → Book → Book
 bookAfter [] b = b
@@ -94,23 +123,63 @@ historyAfter (c ∷ cs) b h = historyAfter cs (enter c b .book) (enter c b .news
 abbrev pub markAt : List Row → ℕ → Mark
 markAt rows i = getD rows i noRow .mark
 
--- event i was carried by a response that was confirmed
+-- ---- the place of each event, in terms of the history alone
+
+-- the rows that response k was built with
+abbrev pub rowsOf : ℕ → List Happening → List ℕ
+rowsOf k [] = []
+rowsOf k (hold! row ∷ h) = rowsOf k h
+rowsOf k (drop! row ∷ h) = rowsOf k h
+rowsOf k (built! number rows ∷ h) = cond (eqb k number) rows (rowsOf k h)
+rowsOf k (confirmed! number ∷ h) = rowsOf k h
+
+-- the numbers that are not among ws
+abbrev pub without : List ℕ → List ℕ → List ℕ
+without ws l = filter (λ i. not (member i ws)) l
+
+-- the numbers of the events held after a history, oldest first
+abbrev pub heldAfter : List Happening → List ℕ
+heldAfter [] = []
+heldAfter (hold! row ∷ h) = heldAfter h ++ (row ∷ [])
+heldAfter (drop! row ∷ h) = heldAfter h
+heldAfter (built! number rows ∷ h) = heldAfter h
+heldAfter (confirmed! number ∷ h) = without (rowsOf number h) (heldAfter h)
+
+-- event i was dropped because 256 were held at that moment
+pub record DroppedAt (h : List Happening) (i : ℕ) : Type 0 where
+  pub later : List Happening
+  pub earlier : List Happening
+  pub split : h ≡ later ++ drop! i ∷ earlier
+  pub full : length (heldAfter earlier) ≡ eventsMax
+
+-- it was held when it was raised, fewer than 256 being held at that moment
+pub record HeldAt (h : List Happening) (i : ℕ) : Type 0 where
+  pub later : List Happening
+  pub earlier : List Happening
+  pub split : h ≡ later ++ hold! i ∷ earlier
+  pub room : length (heldAfter earlier) < eventsMax
+
+-- it was carried by a response that was built before it was confirmed
 pub record ReleasedBy (h : List Happening) (i : ℕ) : Type 0 where
+  pub later : List Happening
+  pub between : List Happening
+  pub earlier : List Happening
   pub number : ℕ
   pub rows : List ℕ
-  pub built : Has (built! number rows) h
+  pub split : h ≡ later ++ confirmed! number ∷ (between ++ built! number rows ∷ earlier)
   pub carried : member i rows ≡ true
-  pub confirmed : Has (confirmed! number) h
 
 -- the place of event i, known by its place in the order raised: its mark says what happened to it, and it has one mark
 pub record Placed (rows : List Row) (h : List Happening) (i : ℕ) : Type 0 where
-  pub dropped : (markAt rows i ≡ Mark.dropped) ↔ Has (drop! i) h
+  pub dropped : (markAt rows i ≡ Mark.dropped) ↔ DroppedAt h i
   pub released : (markAt rows i ≡ Mark.released) ↔ ReleasedBy h i
+  pub held : (markAt rows i ≡ Mark.held) ↔ (HeldAt h i × (ReleasedBy h i → ⊥))
 
 -- what demand 3 says after a list of calls, w the outstation and ans the answers
 pub record Demand3 (u : Setup) (cs : List Call) (ans : List Answer) (w : World) : Type 0 where
-  -- the outstation accepted exactly what the book accepts, and each response carried exactly the rows that the book says
-  pub told : AllTold (opened u) [] cs ans
+  -- the outstation accepted exactly what the book accepts, and each response carried exactly the rows that the book says; before
+  -- the first request there is no answer to repeat, and no repeat
+  pub told : AllTold (opened u) [] (silent []) cs ans
   -- every event raised is in exactly one place
   pub placed : (i : ℕ) → i < length (bookAfter cs (opened u) .rows) → Placed (bookAfter cs (opened u) .rows) (historyAfter cs (opened u) []) i
   -- it holds exactly the book's held events, in that order

@@ -1,0 +1,388 @@
+-- A run of the outstation, worked out by computation: 257 events of one binary, the last of them dropped, in a table that is stopped;
+-- READ, a late CONFIRM, READ again and its CONFIRM; WRITE and its repeat.
+-- Assumes nothing.
+use Prim.Native.Nat.{ℕ, zero, suc, _+_, _*_, _-_, _≤_}
+use mathlib.Core.Path.{_≡_, refl, sym, ap, _∙_}
+use mathlib.Core.Bool.{Bool, true, false, not, or-true}
+use mathlib.Core.List.{List, [], _∷_, _++_, map, append-nil}
+use native.Mathlib.Omega.{arith}
+use lib.ListN.{length, replicate}
+use borrow.Author.Tests.{le-leb}
+use lib.Seq.{take-append-seam}
+use Rattle.laws.specs.Limits.{fragmentMax, eventsMax, pointsMax}
+use Rattle.laws.specs.Lists.{filter, some, same, count}
+use Rattle.points.specs.Reading as P
+use Rattle.points.specs.Inputs.{Inputs, inputs, noBinary, noAnalog}
+use Rattle.events.specs.declared.Classes.{Classes}
+use Rattle.events.specs.declared.Held.{Held}
+use Rattle.events.specs.declared.Shown.the-variants.{State}
+use Rattle.events.specs.Placing as E
+use Rattle.events.specs.Queue as K
+use Rattle.events.specs.Queue.{queue, noHeld}
+use Rattle.application.specs.Fragment as F
+use Rattle.application.specs.Response as I
+use Rattle.application.specs.declared.Fault.the-variants.{Faultless}
+use Rattle.request.specs.Headers as H
+use Rattle.request.specs.Headers.{eventsOf}
+use Rattle.request.specs.Parse as A
+use Rattle.objects.specs.Runs.{encoded, runs, allBytes}
+use Rattle.event_objects.specs.Events.{eventsBytes, carriedBytes}
+use Rattle.static_objects.specs.Static.{staticBytes, rangeBytes, pointObjects}
+use Rattle.control.specs.Objects.{echoMax, answerMax}
+use Rattle.select.specs.declared.Latch.{Latch}
+use Rattle.select.specs.Select.{Selection, noSelect, selected, latchOf}
+use Rattle.repeat.specs.declared.Last.{Last}
+use Rattle.repeat.specs.Repeat.{Memory, nothing, kept, lastOf, answerOf, isRepeat}
+use Rattle.outstation.specs.declared.Outstation.{Outstation}
+use Rattle.outstation.specs.declared.Reading.{Reading}
+use Rattle.outstation.specs.declared.Measured.the-variants as Ms
+use Rattle.outstation.specs.declared.Wait as D
+use Rattle.outstation.specs.declared.Wait.the-variants.{Idle, Awaiting}
+use Rattle.outstation.specs.Setup as U
+use Rattle.outstation.specs.World.{World, Exchange, exchangeOf, world, restarted}
+use Rattle.outstation.specs.Readings as R
+use Rattle.outstation.specs.Requests as Q
+use Rattle.outstation.specs.Step as S
+use Rattle.outstation.specs.Step.{Call, table, fragment, Answer, took, answers, accepts, refuses, step}
+use Rattle.outstation.specs.Contracts.{Did}
+use Rattle.book.proofs.Rows.{carried-bytes}
+use Rattle.book.proofs.Example.{oneBinary}
+
+-- ---- an outstation for each state: the lists in use, padded to their arrays
+
+abbrev pub padded : {A : Type 0} → ℕ → A → List A → List A
+padded n d l = l ++ replicate (n - length l) d
+
+abbrev pub lastFor : Memory → Last
+lastFor nothing = record { held = false; request = padded fragmentMax 0 []; «request_len» = 0; answer = padded answerMax 0 []; «answer_len» = 0 }
+lastFor (kept f a) =
+    record { held = true; request = padded fragmentMax 0 f; «request_len» = length f; answer = padded answerMax 0 a; «answer_len» = length a }
+
+abbrev pub latchFor : Selection → Latch
+latchFor noSelect = record { armed = false; sequence = record { 0 = 0 }; time = 0; objects = padded echoMax 0 []; len = 0 }
+latchFor (selected q t o) = record { armed = true; sequence = record { 0 = q }; time = t; objects = padded echoMax 0 o; len = length o }
+
+abbrev pub outstationFor : World → Outstation
+outstationFor w =
+    record {
+      «arm_time» = w .armTime;
+      «confirm_time» = w .confirmTime;
+      outputs = w .outputs;
+      clock = w .clock;
+      points =
+          record {
+            binaries = padded pointsMax noBinary (w .inputs .binaries);
+            «binary_count» = length (w .inputs .binaries);
+            analogs = padded pointsMax noAnalog (w .inputs .analogs);
+            «analog_count» = length (w .inputs .analogs);
+          };
+      buffer = record { held = padded eventsMax noHeld (w .queue .held); count = length (w .queue .held); overflow = w .queue .overflow };
+      session =
+          record {
+            restarted = w .exchange .restarted;
+            wait = w .exchange .wait;
+            last = lastFor (w .exchange .last);
+            latch = latchFor (w .exchange .latch);
+          };
+    }
+
+last-for : (m : Memory) → lastOf (lastFor m) ≡ m
+unfolding lastOf
+last-for nothing = refl
+last-for (kept f a) = rw (take-append-seam f (replicate (fragmentMax - length f) 0), take-append-seam a (replicate (answerMax - length a) 0))
+
+latch-for : (l : Selection) → latchOf (latchFor l) ≡ l
+unfolding latchOf
+latch-for noSelect = refl
+latch-for (selected q t o) = rw (take-append-seam o (replicate (echoMax - length o) 0))
+
+pub world-for : (w : World) → world (outstationFor w) ≡ w
+unfolding inputs queue exchangeOf
+world-for w =
+    rw (
+      take-append-seam (w .inputs .binaries) (replicate (pointsMax - length (w .inputs .binaries)) noBinary),
+      take-append-seam (w .inputs .analogs) (replicate (pointsMax - length (w .inputs .analogs)) noAnalog),
+      take-append-seam (w .queue .held) (replicate (eventsMax - length (w .queue .held)) noHeld),
+      last-for (w .exchange .last),
+      latch-for (w .exchange .latch),
+    )
+
+-- no count passes its array, so what is padded has the array's length
+pub record Within (o : Outstation) : Type 0 where
+  pub binaries : o .points .«binary_count» ≤ pointsMax
+  pub analogs : o .points .«analog_count» ≤ pointsMax
+  pub events : o .buffer .count ≤ eventsMax
+  pub request : o .session .last .«request_len» ≤ fragmentMax
+  pub answer : o .session .last .«answer_len» ≤ answerMax
+  pub objects : o .session .latch .len ≤ echoMax
+
+-- the call c of the outstation for w, which leaves one that is within its arrays
+pub did-for : (w w₁ : World) (c : Call) (a : Answer) → Within (outstationFor w₁) → step c w ≡ record { state = w₁; answer = a }
+    → Did (outstationFor w) c a (outstationFor w₁)
+unfolding Did
+did-for w w₁ c a n e = rw (world-for w, world-for w₁) (sym e)
+
+-- ---- the calls
+
+-- binary 0 is so at this time, with these flags
+abbrev pub at : (time : ℕ) → Bool → (flags : ℕ) → Reading
+at time on flags = record { time = time; point = 0; measured = Ms.State on; flags = flags }
+
+-- n readings, one each millisecond, each the opposite of the one before
+abbrev pub alternating : (n time : ℕ) → Bool → List Reading
+alternating zero time on = []
+alternating (suc n) time on = at time on 1 ∷ alternating n (suc time) (not on)
+
+-- off, 257 changes, a refused reading, and one more, which is not taken
+abbrev pub readings : List Reading
+readings = at 0 false 1 ∷ alternating 257 1 true ++ (at 1000 false 32 ∷ at 1001 false 1 ∷ [])
+
+-- READ of class 1, and CONFIRM, with this control byte; WRITE, which clears restart
+abbrev pub read : ℕ → List ℕ
+read control = control ∷ 0x01 ∷ 0x3C ∷ 0x02 ∷ 0x06 ∷ []
+
+abbrev pub confirm : ℕ → List ℕ
+confirm control = control ∷ 0x00 ∷ []
+
+abbrev pub write : List ℕ
+write = 0xC3 ∷ 0x02 ∷ 0x50 ∷ 0x01 ∷ 0x00 ∷ 0x07 ∷ 0x07 ∷ 0x00 ∷ []
+
+-- its answer: IIN1.1, events of class 1 are left; IIN2.3 is clear
+abbrev pub written : List ℕ
+written = 0xC3 ∷ 0x81 ∷ 0x02 ∷ 0x00 ∷ []
+
+-- the first CONFIRM comes 5,001 after its READ, the second 1,000
+abbrev pub calls : List Call
+calls =
+    table readings
+    ∷ fragment 2000 (read 0xC1) 2048
+    ∷ fragment 7001 (confirm 0xC1) 2048
+    ∷ fragment 8000 (read 0xC2) 2048
+    ∷ fragment 9000 (confirm 0xC2) 2048
+    ∷ fragment 9500 write 2048
+    ∷ fragment 9600 write 2048
+    ∷ []
+
+-- ---- the states that they leave
+
+-- n held events, one each millisecond
+abbrev pub events : (carried : Bool) (n time : ℕ) → Bool → List Held
+events carried zero time on = []
+events carried (suc n) time on =
+    record { event = record { point = 0; shown = State on; flags = 1; time = time; class = 1 }; carried = carried } ∷ events carried n (suc time) (not on)
+
+-- the 256, of which a response has room for 226
+abbrev pub newest : List Held
+newest = events false 30 227 true
+
+abbrev pub all256 : (carried : Bool) → List Held
+all256 carried = events carried 226 1 true ++ newest
+
+-- behind the table, at this time
+abbrev pub stateAt : (clock : ℕ) → List Held → (overflow : Bool) → Exchange → World
+stateAt clock held overflow exchange =
+    record {
+      armTime = 5000;
+      confirmTime = 5000;
+      outputs = 16;
+      clock = clock;
+      inputs = record { binaries = record { class = 1; seen = true; state = true; flags = 1; reported = 1 } ∷ []; analogs = [] };
+      queue = record { held = held; overflow = overflow };
+      exchange = exchange;
+    }
+
+abbrev pub exchangeWith : (restarted : Bool) → D.Wait → Memory → Exchange
+exchangeWith restarted wait last = record { restarted = restarted; wait = wait; last = last; latch = noSelect }
+
+-- a response with this sequence was built at this time; it showed IIN2.3, and nothing was dropped since
+abbrev pub awaits : ℕ → ℕ → D.Wait
+awaits q time = Awaiting (record { 0 = q }) time true false
+
+abbrev bytesOf : Memory → List ℕ
+bytesOf nothing = []
+bytesOf (kept f a) = f
+
+abbrev pub w₁ : World
+w₁ = stateAt 257 (all256 false) true (exchangeWith true Idle nothing)
+
+abbrev pub w₂ : World
+w₂ = stateAt 2000 (all256 true) true (exchangeWith true (awaits 1 2000) (kept (read 0xC1) []))
+
+abbrev pub w₄ : World
+w₄ = stateAt 8000 (all256 true) true (exchangeWith true (awaits 2 8000) (kept (read 0xC2) []))
+
+abbrev pub w₅ : World
+w₅ = stateAt 9000 newest false (exchangeWith true Idle (kept (read 0xC2) []))
+
+abbrev pub w₆ : World
+w₆ = stateAt 9500 newest false (exchangeWith false Idle (kept write written))
+
+abbrev pub w₇ : World
+w₇ = stateAt 9600 newest false (exchangeWith false Idle (kept write written))
+
+-- within its arrays, by the numbers of the events and of the kept bytes
+pub within-at : (clock : ℕ) (held : List Held) (overflow restarted : Bool) (wait : D.Wait) (m : Memory) → length held ≤ eventsMax
+    → length (bytesOf m) ≤ fragmentMax → length (answerOf m) ≤ answerMax
+    → Within (outstationFor (stateAt clock held overflow (exchangeWith restarted wait m)))
+within-at clock held overflow restarted wait nothing e f a =
+    record { binaries = omega arith; analogs = omega arith; events = e; request = omega arith; answer = omega arith; objects = omega arith }
+within-at clock held overflow restarted wait (kept g b) e f a =
+    record { binaries = omega arith; analogs = omega arith; events = e; request = f; answer = a; objects = omega arith }
+
+-- ---- each step
+
+pub by-table : step (table readings) (restarted oneBinary) ≡ record { state = w₁; answer = took 258 4 }
+unfolding restarted U.binaryClasses U.analogSetups S.step S.tableFrom S.takenWith S.raise R.hear R.badTime P.binaryReading P.reports P.raises K.pushed
+by-table = refl
+
+abbrev pub class1 : Classes
+class1 = record { one = true; two = false; three = false }
+
+-- a new request takes the marks away
+unmarked : (c : Bool) (n t : ℕ) (on : Bool) (l : List Held) → map (K.marked false) (events c n t on ++ l) ≡ events false n t on ++ map (K.marked false) l
+unmarked c zero t on l = refl
+unmarked c (suc n) t on l = rw (unmarked c n (suc t) (not on) l)
+
+-- while there is room, each costs 9 bytes, and the first of them 5 more
+more-fit : (n r t : ℕ) (on : Bool) (l : List Held)
+    → K.carry class1 (record { left = n * 9 + r; kind = 1 }) (events false n t on ++ l)
+    ≡ events true n t on ++ K.carry class1 (record { left = r; kind = 1 }) l
+unfolding K.carry E.fits E.packed E.costOf
+more-fit zero r t on l = let e : 0 * 9 + r ≡ r = omega arith in rw e
+more-fit (suc n) r t on l =
+    let e : suc n * 9 + r - 9 ≡ n * 9 + r = omega arith in
+    rw (le-leb 9 (suc n * 9 + r) (omega arith), e, more-fit n r (suc t) (not on) l)
+
+first-fit : (n r t : ℕ) (on : Bool) (l : List Held)
+    → K.carry class1 (E.emptyPack (n * 9 + r + 14)) (events false (suc n) t on ++ l)
+    ≡ events true (suc n) t on ++ K.carry class1 (record { left = r; kind = 1 }) l
+unfolding K.carry E.fits E.packed E.costOf
+first-fit n r t on l =
+    let e : n * 9 + r + 14 - 14 ≡ n * 9 + r = omega arith in
+    rw (le-leb 14 (n * 9 + r + 14) (omega arith), e, more-fit n r (suc t) (not on) l)
+
+none-fits : (n t : ℕ) (on : Bool) → K.carry class1 (record { left = 5; kind = 1 }) (events false (suc n) t on) ≡ events false (suc n) t on
+unfolding K.carry E.fits E.packed E.costOf
+none-fits n t on = refl
+
+marks : K.carry class1 (E.emptyPack 2044) (all256 false) ≡ all256 true
+marks = first-fit 225 5 1 true newest ∙ ap (λ (l : List Held). events true 226 1 true ++ l) (none-fits 29 227 true)
+
+-- a response carries the marked ones, and a CONFIRM leaves the others
+carried-all : (n t : ℕ) (on : Bool) (l : List Held) → filter K.isCarried (events true n t on ++ l) ≡ events true n t on ++ filter K.isCarried l
+unfolding filter
+carried-all zero t on l = refl
+carried-all (suc n) t on l = rw (carried-all n (suc t) (not on) l)
+
+carried-none : (n t : ℕ) (on : Bool) → filter K.isCarried (events false n t on) ≡ []
+unfolding filter
+carried-none zero t on = refl
+carried-none (suc n) t on = carried-none n (suc t) (not on)
+
+waits-none : (n t : ℕ) (on : Bool) (l : List Held) → filter K.waits (events true n t on ++ l) ≡ filter K.waits l
+unfolding filter
+waits-none zero t on l = refl
+waits-none (suc n) t on l = waits-none n (suc t) (not on) l
+
+waits-all : (n t : ℕ) (on : Bool) → filter K.waits (events false n t on) ≡ events false n t on
+unfolding filter
+waits-all zero t on = refl
+waits-all (suc n) t on = rw (waits-all n (suc t) (not on))
+
+unmarked-all : (c : Bool) → map (K.marked false) (all256 c) ≡ all256 false
+unmarked-all c = unmarked c 226 1 true newest
+
+carried-226 : filter K.isCarried (all256 true) ≡ events true 226 1 true
+carried-226 =
+    carried-all 226 1 true newest
+    ∙ ap (λ (l : List Held). events true 226 1 true ++ l) (carried-none 30 227 true)
+    ∙ append-nil (events true 226 1 true)
+
+waiting-30 : filter K.waits (all256 true) ≡ newest
+waiting-30 = waits-none 226 1 true newest ∙ waits-all 30 227 true
+
+-- ---- READ: IIN1.7, restarted; IIN1.1, events of class 1 are left; IIN2.3, events dropped
+
+abbrev pub readAnswer : (control : ℕ) → Answer
+readAnswer control = answers (control ∷ 0x81 ∷ 0x82 ∷ 0x08 ∷ eventsBytes (map (λ (h : Held). h .event) (events true 226 1 true))) []
+
+-- of any state behind the table, by the events that are marked
+module _ (clock time q : ℕ) (f : List ℕ) (held after : List Held) (x : Exchange) where
+  read-at : R.badTime clock time ≡ false → Q.ask (stateAt clock held true x .inputs) f ≡ Q.reads q (eventsOf 1 ∷ [])
+      → K.carry class1 (E.emptyPack 2044) (map (K.marked false) held) ≡ after
+      → step (fragment time f 2048) (stateAt clock held true x)
+      ≡ record {
+        state = stateAt time after true (exchangeWith (x .restarted) (awaits q time) (kept f []));
+        answer = answers (I.responseOf q true (S.indicationsOf (record { held = after; overflow = true }) (x .restarted)) Faultless ++ (carriedBytes after ++ [])) [];
+      }
+  unfolding S.step S.fragmentStep S.readStep A.asksFor staticBytes rangeBytes pointObjects encoded runs allBytes
+  read-at b a e = rw (b, a, e, or-true (some K.isCarried after))
+
+-- the classes are read from the state's own inputs, whatever it holds
+abbrev pub points : Inputs
+points = stateAt 0 [] false (exchangeWith true Idle nothing) .inputs
+
+pub asks₁ : Q.ask points (read 0xC1) ≡ Q.reads 1 (eventsOf 1 ∷ [])
+unfolding Q.ask F.classified F.malformed A.headersOf H.headerOf H.objectOf H.classHeader A.asksFor staticBytes rangeBytes pointObjects encoded runs allBytes
+asks₁ = refl
+
+pub asks₂ : Q.ask points (read 0xC2) ≡ Q.reads 2 (eventsOf 1 ∷ [])
+unfolding Q.ask F.classified F.malformed A.headersOf H.headerOf H.objectOf H.classHeader A.asksFor staticBytes rangeBytes pointObjects encoded runs allBytes
+asks₂ = refl
+
+pub in-time : (R.badTime 257 2000 ≡ false) × (R.badTime 2000 8000 ≡ false)
+unfolding R.badTime
+in-time = (refl, refl)
+
+-- the bytes: the front as computed, then the events
+read-bytes : (q control : ℕ)
+    → I.responseOf q true (S.indicationsOf (record { held = all256 true; overflow = true }) true) Faultless ≡ control ∷ 0x81 ∷ 0x82 ∷ 0x08 ∷ []
+    → _≡_ {A = Answer}
+    (answers (I.responseOf q true (S.indicationsOf (record { held = all256 true; overflow = true }) true) Faultless ++ (carriedBytes (all256 true) ++ [])) [])
+    (readAnswer control)
+read-bytes q control e =
+    ap (λ (l : List ℕ). answers (l ++ (carriedBytes (all256 true) ++ [])) []) e
+    ∙ ap (λ (l : List ℕ). answers (control ∷ 0x81 ∷ 0x82 ∷ 0x08 ∷ l) [])
+    (append-nil (carriedBytes (all256 true)) ∙ carried-bytes (all256 true) ∙ ap (λ (l : List Held). eventsBytes (map (λ (h : Held). h .event) l)) carried-226)
+
+pub by-read₁ : step (fragment 2000 (read 0xC1) 2048) w₁ ≡ record { state = w₂; answer = readAnswer 0xE1 }
+unfolding I.responseOf
+by-read₁ =
+    read-at 257 2000 1 (read 0xC1) (all256 false) (all256 true) (exchangeWith true Idle nothing) (in-time .0) asks₁
+    (ap (K.carry class1 (E.emptyPack 2044)) (unmarked-all false) ∙ marks)
+    ∙ ap (λ (a : Answer). record { state = w₂; answer = a }) (read-bytes 1 0xE1 refl)
+
+pub by-read₂ : step (fragment 8000 (read 0xC2) 2048) w₂ ≡ record { state = w₄; answer = readAnswer 0xE2 }
+unfolding I.responseOf
+by-read₂ =
+    read-at 2000 8000 2 (read 0xC2) (all256 true) (all256 true) (w₂ .exchange) (in-time .1) asks₂
+    (ap (K.carry class1 (E.emptyPack 2044)) (unmarked-all true) ∙ marks)
+    ∙ ap (λ (a : Answer). record { state = w₄; answer = a }) (read-bytes 2 0xE2 refl)
+
+-- ---- CONFIRM, too late and in time, of any events
+
+pub by-late : (held : List Held) (m : Memory) → let w = stateAt 2000 held true (exchangeWith true (awaits 1 2000) m) in
+    step (fragment 7001 (confirm 0xC1) 2048) w ≡ record { state = w; answer = refuses 32 }
+unfolding S.step S.fragmentStep S.confirmStep R.badTime Q.ask Q.confirmed F.classified F.malformed
+by-late held m = refl
+
+confirm-at : (held : List Held) (m : Memory)
+    → step (fragment 9000 (confirm 0xC2) 2048) (stateAt 8000 held true (exchangeWith true (awaits 2 8000) m))
+    ≡ record { state = stateAt 9000 (filter K.waits held) false (exchangeWith true Idle m); answer = accepts }
+unfolding S.step S.fragmentStep S.confirmStep S.confirmedStep R.badTime Q.ask Q.confirmed F.classified F.malformed
+confirm-at held m = refl
+
+pub by-confirm : step (fragment 9000 (confirm 0xC2) 2048) w₄ ≡ record { state = w₅; answer = accepts }
+by-confirm =
+    confirm-at (all256 true) (kept (read 0xC2) [])
+    ∙ ap (λ (l : List Held). record { state = stateAt 9000 l false (w₅ .exchange); answer = accepts }) waiting-30
+
+-- ---- WRITE, and its repeat
+
+pub by-write : step (fragment 9500 write 2048) w₅ ≡ record { state = w₆; answer = answers written [] }
+unfolding S.step S.fragmentStep S.requestStep R.badTime Q.ask F.classified F.malformed I.responseOf I.writeFault isRepeat same
+by-write = refl
+
+pub by-repeat : step (fragment 9600 write 2048) w₆ ≡ record { state = w₇; answer = answers written [] }
+unfolding S.step S.fragmentStep S.repeatStep R.badTime Q.ask F.classified F.malformed isRepeat same
+by-repeat = refl
