@@ -23,7 +23,8 @@ use Rattle.request.specs.Parse.{Parsed, headers, fault}
 use Rattle.control.specs.declared.Crob.{Crob}
 use Rattle.control.specs.declared.Form.{Form}
 use Rattle.control.specs.declared.Form.the-variants.{Wrong, Objects}
-use Rattle.control.specs.Objects.{formed, crobs, countBy}
+use Rattle.control.proofs.ObjectLaws.{crobs-length}
+use Rattle.control.specs.Objects.{formed, crobs, crobsBy}
 use Rattle.control.specs.Status.{statuses, echoWith}
 use Rattle.select.specs.declared.ControlFunction.{ControlFunction}
 use Rattle.select.specs.declared.ControlFunction.the-variants.{Select, Operate, DirectOperate}
@@ -136,13 +137,8 @@ deed-ends w q function time o =
 -- the echo by a form, with some status for each object
 pub record Echo (x : Form) (o echo : List ℕ) : Type 0 where
   pub statuses : List ℕ
-  pub each : length statuses ≡ countBy x
+  pub each : length statuses ≡ length (crobsBy x o)
   pub is : echo ≡ echoWith x statuses o
-
-length-crobs : (w n : ℕ) (b : List ℕ) → length (crobs w n b) ≡ n
-unfolding crobs
-length-crobs w zero b = refl
-length-crobs w (suc n) b = ap suc (length-crobs w n (drop (w + 11) b))
 
 length-statuses : (outputs : ℕ) (e : List ℕ) (cs : List Crob) → length (statuses outputs e cs) ≡ length cs
 unfolding statuses
@@ -159,8 +155,8 @@ module _ (outputs arm : ℕ) (l : Selection) (g : ControlFunction) (u : isUnansw
   echo-form (Objects w n) =
       let cs : List Crob = crobs w n (drop (3 + w) o) in
       let ss : List ℕ = statusesBy g outputs (operateStatus arm l q time o) cs in
-      let k : length ss ≡ n = length-by g outputs (operateStatus arm l q time o) cs ∙ length-crobs w n (drop (3 + w) o) in
-      record { statuses = ss; each = k; is = rw (u, take-all n ss (le-of-eq k)) }
+      let k : length ss ≡ length cs = length-by g outputs (operateStatus arm l q time o) cs in
+      record { statuses = ss; each = k; is = rw (u, take-all n ss (le-of-eq (k ∙ crobs-length w n (drop (3 + w) o)))) }
 
   echo-of : Echo (formed o) o (effectOf outputs arm l g q time o .echo)
   unfolding effectOf

@@ -39,7 +39,7 @@ use Rattle.outstation.specs.declared.Measured.the-variants as Ms
 use Rattle.outstation.specs.declared.Wait as D
 use Rattle.outstation.specs.declared.Wait.the-variants.{Idle, Awaiting}
 use Rattle.outstation.specs.Setup as U
-use Rattle.outstation.specs.World.{World, Exchange, exchangeOf, world, restarted}
+use Rattle.outstation.specs.World.{World, Exchange, exchangeOf, world, restarted, Counted}
 use Rattle.outstation.specs.Readings as R
 use Rattle.outstation.specs.Requests as Q
 use Rattle.outstation.specs.Step as S
@@ -107,20 +107,10 @@ world-for w =
       latch-for (w .exchange .latch),
     )
 
--- no count passes its array, so what is padded has the array's length
-pub record Within (o : Outstation) : Type 0 where
-  pub binaries : o .points .«binary_count» ≤ pointsMax
-  pub analogs : o .points .«analog_count» ≤ pointsMax
-  pub events : o .buffer .count ≤ eventsMax
-  pub request : o .session .last .«request_len» ≤ fragmentMax
-  pub answer : o .session .last .«answer_len» ≤ answerMax
-  pub objects : o .session .latch .len ≤ echoMax
-
--- the call c of the outstation for w, which leaves one that is within its arrays
-pub did-for : (w w₁ : World) (c : Call) (a : Answer) → Within (outstationFor w₁) → step c w ≡ record { state = w₁; answer = a }
+-- the call c of the outstation for w, which leaves one whose counts do not pass their arrays: so what is padded has the array's length
+pub did-for : (w w₁ : World) (c : Call) (a : Answer) → Counted (outstationFor w₁) → step c w ≡ record { state = w₁; answer = a }
     → Did (outstationFor w) c a (outstationFor w₁)
-unfolding Did
-did-for w w₁ c a n e = rw (world-for w, world-for w₁) (sym e)
+did-for w w₁ c a n e = record { result = rw (world-for w, world-for w₁) (sym e); counted = λ _. n }
 
 -- ---- the calls
 
@@ -220,14 +210,14 @@ w₆ = stateAt 9500 newest false (exchangeWith false Idle (kept write written))
 abbrev pub w₇ : World
 w₇ = stateAt 9600 newest false (exchangeWith false Idle (kept write written))
 
--- within its arrays, by the numbers of the events and of the kept bytes
-pub within-at : (clock : ℕ) (held : List Held) (overflow restarted : Bool) (wait : D.Wait) (m : Memory) → length held ≤ eventsMax
+-- no count passes its array, by the numbers of the events and of the kept bytes
+pub counted-at : (clock : ℕ) (held : List Held) (overflow restarted : Bool) (wait : D.Wait) (m : Memory) → length held ≤ eventsMax
     → length (bytesOf m) ≤ fragmentMax → length (answerOf m) ≤ answerMax
-    → Within (outstationFor (stateAt clock held overflow (exchangeWith restarted wait m)))
-within-at clock held overflow restarted wait nothing e f a =
-    record { binaries = omega arith; analogs = omega arith; events = e; request = omega arith; answer = omega arith; objects = omega arith }
-within-at clock held overflow restarted wait (kept g b) e f a =
-    record { binaries = omega arith; analogs = omega arith; events = e; request = f; answer = a; objects = omega arith }
+    → Counted (outstationFor (stateAt clock held overflow (exchangeWith restarted wait m)))
+counted-at clock held overflow restarted wait nothing e f a =
+    record { binaries = omega arith; analogs = omega arith; events = e; session = record { request = omega arith; answer = omega arith; objects = omega arith } }
+counted-at clock held overflow restarted wait (kept g b) e f a =
+    record { binaries = omega arith; analogs = omega arith; events = e; session = record { request = f; answer = a; objects = omega arith } }
 
 -- ---- each step
 

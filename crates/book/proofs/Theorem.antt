@@ -15,7 +15,7 @@ use Rattle.outstation.specs.Step.{Call, Answer, silent, Result, step}
 use Rattle.outstation.specs.Contracts.{Did}
 use Rattle.book.specs.Book.{Book, Row, Happening, held, released, dropped, isHeld, isReleased, isDropped}
 use Rattle.book.specs.Book.{rowHeld, rowReleased, rowDropped, enter, opened}
-use Rattle.book.specs.Demand3.{Pending, keptBy, AllTold, bookAfter, historyAfter, Demand3, Demand3Holds, Ran, none, more}
+use Rattle.book.specs.Demand3.{Pending, keptBy, AllTold, bookAfter, historyAfter, Demand3, Demand3Holds, CountsHold, Ran, none, more}
 use Rattle.laws.proofs.Choices.{by}
 use Rattle.book.proofs.Rows.{collect, length-collect, events-collect}
 use Rattle.book.proofs.Step.{Sim, Match, step-ok, start-ok, waitRows}
@@ -83,5 +83,9 @@ module _ (O : Type 0) (worldOf : O → World) (did : O → Call → Answer → O
 
 -- of the outstation's own states and contracts
 pub demand3-holds : Demand3Holds
-unfolding Did
-demand3-holds u o o₂ cs ans f e r = demand3 Outstation world Did (λ o o₁ c a d. d) u e r
+demand3-holds u o o₂ cs ans f e r = demand3 Outstation world Did (λ o o₁ c a d. d .result) u e r
+
+-- no count passes its array after any list of calls
+pub counts-hold : CountsHold
+counts-hold o o₂ cs ans c none = c
+counts-hold o o₂ cs ans c (more d r) = counts-hold _ o₂ _ _ (d .counted c) r

@@ -35,7 +35,7 @@ use Rattle.book.specs.Book.{Book, Row, Mark, held, released, dropped, ro
 use Rattle.book.specs.Book.{dropSince, enter, opened}
 use Rattle.book.specs.Demand3.{overflowBit, bookAfter, Ran, none, more}
 use Rattle.book.proofs.Example.{oneBinary}
-use Rattle.book.proofs.Run.{outstationFor, world-for, did-for, within-at, calls, readings, read, confirm, write, written, readAnswer}
+use Rattle.book.proofs.Run.{outstationFor, world-for, did-for, counted-at, calls, readings, read, confirm, write, written, readAnswer}
 use Rattle.book.proofs.Run.{class1, points, all256, newest, awaits, w₁, w₂, w₄, w₅, w₆, w₇, asks₁, asks₂, in-time}
 use Rattle.book.proofs.Run.{by-table, by-read₁, by-late, by-read₂, by-confirm, by-write, by-repeat}
 
@@ -203,22 +203,22 @@ ran =
     let k₁ = kept (read 0xC1) [] in
     let k₂ = kept (read 0xC2) [] in
     let k₃ = kept write written in
-    let in₂ = within-at 2000 (all256 true) true true (awaits 1 2000) k₁ m (omega arith) (omega arith) in
-    more (did-for (restarted oneBinary) w₁ (table readings) (took 258 4) (within-at 257 (all256 false) true true Idle nothing l (omega arith) (omega arith)) by-table)
+    let in₂ = counted-at 2000 (all256 true) true true (awaits 1 2000) k₁ m (omega arith) (omega arith) in
+    more (did-for (restarted oneBinary) w₁ (table readings) (took 258 4) (counted-at 257 (all256 false) true true Idle nothing l (omega arith) (omega arith)) by-table)
     (more (did-for w₁ w₂ (fragment 2000 (read 0xC1) 2048) (readAnswer 0xE1) in₂ by-read₁)
     (more (did-for w₂ w₂ (fragment 7001 (confirm 0xC1) 2048) (refuses 32) in₂ (by-late (all256 true) k₁))
     (more
     (did-for w₂ w₄ (fragment 8000 (read 0xC2) 2048) (readAnswer 0xE2)
-    (within-at 8000 (all256 true) true true (awaits 2 8000) k₂ m (omega arith) (omega arith)) by-read₂)
+    (counted-at 8000 (all256 true) true true (awaits 2 8000) k₂ m (omega arith) (omega arith)) by-read₂)
     (more
     (did-for w₄ w₅ (fragment 9000 (confirm 0xC2) 2048) accepts
-    (within-at 9000 newest false true Idle k₂ n (omega arith) (omega arith)) by-confirm)
+    (counted-at 9000 newest false true Idle k₂ n (omega arith) (omega arith)) by-confirm)
     (more
     (did-for w₅ w₆ (fragment 9500 write 2048) (answers written [])
-    (within-at 9500 newest false false Idle k₃ n (omega arith) (omega arith)) by-write)
+    (counted-at 9500 newest false false Idle k₃ n (omega arith) (omega arith)) by-write)
     (more
     (did-for w₆ w₇ (fragment 9600 write 2048) (answers written [])
-    (within-at 9600 newest false false Idle k₃ n (omega arith) (omega arith)) by-repeat)
+    (counted-at 9600 newest false false Idle k₃ n (omega arith) (omega arith)) by-repeat)
     none))))))
 
 -- answer number k, and its bytes

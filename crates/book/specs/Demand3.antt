@@ -10,7 +10,7 @@ use lib.ListN.{length, getD, drop}
 use Rattle.laws.specs.Limits.{eventsMax}
 use Rattle.laws.specs.Lists.{filter, count, member}
 use Rattle.control.specs.declared.Crob.{Crob}
-use Rattle.control.specs.Objects.{formed, countBy}
+use Rattle.control.specs.Objects.{formed, crobsBy}
 use Rattle.control.specs.Status.{echoWith}
 use Rattle.events.specs.declared.Event.{Event}
 use Rattle.events.specs.declared.Held.{Held}
@@ -19,7 +19,7 @@ use Rattle.event_objects.specs.Events.{eventsBytes}
 use Rattle.outstation.specs.declared.Outstation.{Outstation}
 use Rattle.outstation.specs.declared.Setup.{Setup}
 use Rattle.outstation.specs.Setup.{setupOk}
-use Rattle.outstation.specs.World.{World, world, restarted}
+use Rattle.outstation.specs.World.{World, world, restarted, Counted}
 use Rattle.outstation.specs.Step.{Call, Answer, took, answers, silent, accepts, refuses}
 use Rattle.outstation.specs.Contracts.{Did}
 use Rattle.book.specs.Book as B
@@ -64,7 +64,7 @@ pub record Building (h : List Happening) (a : Answer) (o : List ℕ) : Type 0 wh
 -- a control request's, o its object bytes: "The answer echoes header and objects with status"; a wrong form has no objects
 pub record Echoing (h : List Happening) (a : Answer) (o : List ℕ) : Type 0 where
   pub statuses : List ℕ
-  pub each : length statuses ≡ countBy (formed o)
+  pub each : length statuses ≡ length (crobsBy (formed o) o)
   pub building : Building h a (echoWith (formed o) statuses o)
 
 -- function 6
@@ -193,6 +193,10 @@ module _ (O : Type 0) (did : O → Call → Answer → O → Type 0) where
   pub data Ran : O → List Call → List Answer → O → Type 0 where
     none : {o : O} → Ran o [] [] o
     more : {o o₁ o₂ : O} {c : Call} {cs : List Call} {a : Answer} {ans : List Answer} → did o c a o₁ → Ran o₁ cs ans o₂ → Ran o (c ∷ cs) (a ∷ ans) o₂
+
+-- no count kept in the state passes its array after any list of calls, where none did before: from a restart on, none ever does
+abbrev pub CountsHold : Type 0
+CountsHold = (o o₂ : Outstation) (cs : List Call) (ans : List Answer) → Counted o → Ran Outstation Did o cs ans o₂ → Counted o₂
 
 -- demand 3: from any accepted setup's restart, over every list of calls of the outstation's functions
 abbrev pub Demand3Holds : Type 0
