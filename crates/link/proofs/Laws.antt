@@ -50,10 +50,6 @@ not-zero (inr (inr (inr (inr (inr (inr (inr e))))))) = omega arith
 abbrev pub Right : Taken → Outcome Action → List ℕ → List ℕ → Type 0
 Right t o d d′ = (t ≡ answerFor o) × (d′ ≡ lentAfter d o)
 
--- the contract from the outcome
-pub taken-by : (t : Taken) (st : Station) (s d d′ : List ℕ) (o : Outcome Action) → station (length d) st s ≡ o → Right t o d d′ → FrameTaken t st s d d′
-taken-by t st s d d′ o e r = record { answer = r .0 ∙ ap answerFor (sym e); lent = r .1 ∙ ap (lentAfter d) (sym e) }
-
 verdict-other : (v : Verdict) (n : ℕ) (u d : List ℕ) → NoData (takenBy v n) → Right (takenBy v n) (actionOf v u) d d
 verdict-other hands n u d h = absurd (not-zero h)
 verdict-other (replies c) n u d h = (refl, refl)
@@ -120,6 +116,12 @@ module _ (st : Station) where
       (known-either (blocksOk (blockCount (getD s 2 0 - 5)) (bodyOf (getD s 2 0 - 5) s)) _ _
       (known-verdict (judge st (getD s 3 0) (valueAt 2 4 s) (valueAt 2 6 s) (length (userOf (getD s 2 0 - 5) s))) (userOf (getD s 2 0 - 5) s))
       refl))) refl) refl) refl))
+
+-- the contract from the outcome
+pub taken-by : (t : Taken) (st : Station) (s d d′ : List ℕ) (o : Outcome Action) → station (length d) st s ≡ o → Right t o d d′ → FrameTaken t st s d d′
+taken-by t st s d d′ o e r =
+    let a : t ≡ answerFor (station (length d) st s) = r .0 ∙ ap answerFor (sym e) in
+    record { answer = a; number = ap takenNumber a ∙ answer-number st (length d) s; lent = r .1 ∙ ap (lentAfter d) (sym e) }
 
 -- ---- replies
 

@@ -8,7 +8,7 @@ use lib.ListN.{length}
 use lib.Dec.{ltb, eqb}
 use Rattle.octets.specs.Bytes.{splice}
 use Rattle.laws.specs.Limits.{countMax}
-use Rattle.laws.specs.Outcome.{Outcome, accepted, refused}
+use Rattle.laws.specs.Outcome.{Outcome, accepted, refused, numberOf}
 use Rattle.frame.specs.Frame.{Parts, parts, decode}
 use Rattle.frame.specs.declared.Read.{Read}
 use Rattle.frame.specs.declared.Read.the-variants.{Frame, Short, Start, HeaderCheck, Length, BlockCheck, ReadLent}
@@ -101,9 +101,11 @@ answerFor (accepted (userData u)) = UserData (length u)
 answerFor (accepted (reply c)) = Reply c
 answerFor (refused k) = refusalFor k
 
--- a call that took the frame at the front of the bytes s, with these lent bytes before and after it, answers t
+-- a call that took the frame at the front of the bytes s, with these lent bytes before and after it, answers t; the answer has the
+-- outcome's number
 pub record FrameTaken (t : Taken) (st : Station) (s before after : List ℕ) : Type 0 where
   pub answer : t ≡ answerFor (station (length before) st s)
+  pub number : takenNumber t ≡ numberOf (station (length before) st s)
   pub lent : after ≡ lentAfter before (station (length before) st s)
 
 abbrev pub takenBy : Verdict → ℕ → Taken

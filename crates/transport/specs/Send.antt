@@ -1,4 +1,4 @@
--- Sending: one segment a call, and all calls of a fragment.
+-- Sending: one segment a call, in document 01's order of refusals.
 -- Assumes nothing.
 use Prim.Native.Nat.{ℕ, _+_}
 use mathlib.Core.Path.{_≡_}

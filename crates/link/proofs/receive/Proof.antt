@@ -133,7 +133,7 @@ module _ {M : Type 1} (𝓤 : URA M) (H : Heap 𝓤) (A : Atoms 𝓤) (W : Given
       qed W (‵ (fobs γ (L.the-row .coded .code h′)) ∷ ‵ (fbor κ₀ (Body (mem L.the-row) b o γ)) ∷ ‵ (flft κ₀ q₀) ∷ Said ws ∷ Tokens ∷ []) ∵
       move ! (3 ∷ []) $ fsplit ! $ drop ! $ fsplit ! $ drop ! $ fsplit ! $ fsplit ! $ move ! (1 ∷ []) $ feqL ! (λ l.
       -- [out's last list; true; obs; the borrow; the tokens]
-      suffices ! _ (ends-at 𝓤 H A receive.ended stayed (receive.clauses 𝓤 H A at-mem run) W (((κ₀, (κ₁, (κ₂, tt))), (q₀, (q₁, (q₂, tt))), tt, args, at), tt) (valA a) a (h′, (tt, (tt, (ws .1 .1 .0, tt)))) (tt, (tt, (tt, (l, tt))))) $ says ! (record { answer = refl; lent = e }, ap (countedOf h) (answer-number st (length (z .now)) (x .now))) $
+      suffices ! _ (ends-at 𝓤 H A receive.ended stayed (receive.clauses 𝓤 H A at-mem run) W (((κ₀, (κ₁, (κ₂, tt))), (q₀, (q₁, (q₂, tt))), tt, args, at), tt) (valA a) a (h′, (tt, (tt, (ws .1 .1 .0, tt)))) (tt, (tt, (tt, (l, tt))))) $ says ! (record { answer = refl; number = answer-number st (length (z .now)) (x .now); lent = e }, ap (countedOf h) (answer-number st (length (z .now)) (x .now))) $
       move ! (4 ∷ 5 ∷ []) $ join ! $ frame ! $ fjoin ! $ nothing ! $ fjoin ! $ nothing ! $ fjoin ! $ move ! (1 ∷ 2 ∷ []) $ feqI ! (List Val) (vptr b o ∷ []) (vptr b o ∷ []) refl $ fjoin3 ! $ fjoin ! $ frame ! $
       owned ! N.the-row (Is N.the-row) (makesA 𝓤 H A) a _ is $ done !)
 

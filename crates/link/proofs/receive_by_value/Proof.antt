@@ -44,6 +44,7 @@ use Rattle.link.specs.declared.Station.{Station}
 use Rattle.link.specs.declared.Taken.{Taken}
 use Rattle.link.specs.declared.Received.{Received}
 use Rattle.link.specs.Station.{Action, station, answerFor, countedOf, lentAfter, FrameTaken}
+use Rattle.link.proofs.Laws.{answer-number}
 use Rattle.link.proofs.LineLaws.{valL, IsL, tellsL, makesL, typedL, valS, IsS, tellsS, typedS, valA, tellsA, typedA, valD, IsD, makesD, typedD, of-fields}
 use Rattle.walk.proofs.Walking.{calls-lent, lies, lies-out}
 use Rattle.link.proofs.LineRecord as L
@@ -111,7 +112,7 @@ module _ {M : Type 1} (𝓤 : URA M) (H : Heap 𝓤) (A : Atoms 𝓤) (W : Given
   exits : (zs : List ℕ) → Done zs → IsD d → ent 𝓤 (⋆ 𝓤 H A (‵ (SlicesSaid zs) ∷ Tokens ∷ [])) (Post (valD d))
   exits zs e is =
       qed W (‵ (SlicesSaid zs) ∷ Tokens ∷ []) ∵ fsplit ! $ drop ! $ fsplit ! $ drop ! $ fsplit ! $ fsplit ! $ move ! (1 ∷ []) $ feqL ! (λ l.
-      suffices ! _ (ends-at 𝓤 H A f.ended stayed (f.clauses 𝓤 H A at-mem run) W (((κ₁, (κ₂, tt)), (q₁, (q₂, tt)), tt, args, at), tt) (valD d) d (tt, (tt, (tt, (zs, tt)))) (tt, (tt, (tt, (l, tt))))) $ says ! (record { answer = refl; lent = e }, refl) $
+      suffices ! _ (ends-at 𝓤 H A f.ended stayed (f.clauses 𝓤 H A at-mem run) W (((κ₁, (κ₂, tt)), (q₁, (q₂, tt)), tt, args, at), tt) (valD d) d (tt, (tt, (tt, (zs, tt)))) (tt, (tt, (tt, (l, tt))))) $ says ! (record { answer = refl; number = answer-number st (length (z .now)) (x .now); lent = e }, refl) $
       move ! (2 ∷ []) $ frame ! $ fjoin ! $ nothing ! $ fjoin ! $ nothing ! $ fjoin ! $ nothing ! $ fjoin ! $ frame ! $ owned ! D.the-row (Is D.the-row) (makesD 𝓤 H A) d _ is $ done !)
 
   -- the local at l is lent for ν, under the name γ
