@@ -140,16 +140,6 @@ found x (y ∷ h) m =
 has-at : (x : Happening) (h later earlier : List Happening) → h ≡ later ++ x ∷ earlier → Has x h
 has-at x h later earlier e = rw e (Memᴰ·append-right later (List·Memᴰ·head refl))
 
-freed : (h : List Happening) (i : ℕ) → ReleasedBy h i → Freed h i
-freed h i r =
-    record {
-      number = r .number;
-      rows = r .rows;
-      carried = r .carried;
-      built = rw (r .split) (Memᴰ·append-right (r .later) (List·Memᴰ·tail (Memᴰ·append-right (r .between) (List·Memᴰ·head refl))));
-      confirmed = has-at (confirmed! (r .number)) h (r .later) (r .between ++ built! (r .number) (r .rows) ∷ r .earlier) (r .split);
-    }
-
 -- below or at the end
 at-end : (i n : ℕ) → i < n + 1 → (i < n) ⊎ (n ≡ i)
 at-end i n h = by (ltb i n) (λ t. inl (ltb-true i n t)) (λ t. let u = ltb-false i n t in inr (omega arith))
@@ -422,6 +412,17 @@ opened-placing u =
       numbers = λ k ws m. absurd (List·Memᴰ·not-nil m);
       confirmed = λ k m. absurd (List·Memᴰ·not-nil m);
       awaited = tt;
+    }
+
+-- carried and confirmed in that order, so in any
+freed : (h : List Happening) (i : ℕ) → ReleasedBy h i → Freed h i
+freed h i r =
+    record {
+      number = r .number;
+      rows = r .rows;
+      carried = r .carried;
+      built = rw (r .split) (Memᴰ·append-right (r .later) (List·Memᴰ·tail (Memᴰ·append-right (r .between) (List·Memᴰ·head refl))));
+      confirmed = has-at (confirmed! (r .number)) h (r .later) (r .between ++ built! (r .number) (r .rows) ∷ r .earlier) (r .split);
     }
 
 -- a mark that is neither of the others

@@ -107,7 +107,7 @@ world-for w =
       latch-for (w .exchange .latch),
     )
 
--- no count passes its array, so what is padded has the array's length
+-- no count passes its array
 pub record Within (o : Outstation) : Type 0 where
   pub binaries : o .points .«binary_count» ≤ pointsMax
   pub analogs : o .points .«analog_count» ≤ pointsMax
