@@ -140,16 +140,6 @@ found x (y ∷ h) m =
 has-at : (x : Happening) (h later earlier : List Happening) → h ≡ later ++ x ∷ earlier → Has x h
 has-at x h later earlier e = rw e (Memᴰ·append-right later (List·Memᴰ·head refl))
 
-freed : (h : List Happening) (i : ℕ) → ReleasedBy h i → Freed h i
-freed h i r =
-    record {
-      number = r .number;
-      rows = r .rows;
-      carried = r .carried;
-      built = rw (r .split) (Memᴰ·append-right (r .later) (List·Memᴰ·tail (Memᴰ·append-right (r .between) (List·Memᴰ·head refl))));
-      confirmed = has-at (confirmed! (r .number)) h (r .later) (r .between ++ built! (r .number) (r .rows) ∷ r .earlier) (r .split);
-    }
-
 -- below or at the end
 at-end : (i n : ℕ) → i < n + 1 → (i < n) ⊎ (n ≡ i)
 at-end i n h = by (ltb i n) (λ t. inl (ltb-true i n t)) (λ t. let u = ltb-false i n t in inr (omega arith))
@@ -309,10 +299,56 @@ module _ (rows : List Row) (built : ℕ) (h : List Happening) (q t : ℕ) (ws : 
   mark-out : (i : ℕ) → i < length rows → member i ws ≡ false → markAt (release ws 0 rows) i ≡ markAt rows i
   mark-out i l m = let e : 0 + i ≡ i = omega arith in mark-release ws 0 i rows l ∙ rw (e, m)
 
+  -- it releases what its response carried
+  release-here : (i : ℕ) → member i ws ≡ true → ReleasedBy (confirmed! k ∷ h) i
+  release-here i c =
+      let f = found (built! k ws) h (p .awaited .built) in
+      record {
+        later = [];
+        between = f .later;
+        earlier = f .earlier;
+        number = k;
+        rows = ws;
+        split = ap (λ z. confirmed! k ∷ z) (f .split);
+        carried = c;
+      }
+
+  no-built : (j : ℕ) (vs : List ℕ) → built! j vs ≡ confirmed! k → ⊥
+  no-built j vs s = let y : _≡_ {A = ℕ} 0 1 = cc in omega arith
+
+  release-of : (i : ℕ) → Freed (confirmed! k ∷ h) i → (i < length (release ws 0 rows)) × (markAt (release ws 0 rows) i ≡ released)
+  release-of i r =
+      let same-length = length-release ws 0 rows in
+      let b = older (confirmed! k) (built! (r .number) (r .rows)) h (no-built (r .number) (r .rows)) (r .built) in
+      elim (List·Memᴰ·cases-cons (r .confirmed)) [
+        | inl s ↦ (let e : r .number ≡ k = cc in
+            let v : r .rows ≡ ws = p .awaited .only (r .rows) (rw e at b) in
+            let c : member i ws ≡ true = rw v at (r .carried) in
+            let l = p .awaited .below i c in
+            (omega arith, mark-in i l c))
+        | inr m ↦ (let d = p .releaseOf i (record { number = r .number; rows = r .rows; built = b; carried = r .carried; confirmed = m }) in
+            (omega (arith, d .0), by (member i ws) (λ c. mark-in i (d .0) c) (λ c. mark-out i (d .0) c ∙ d .1)))
+      ]
+
+  -- and no other mark changes
+  hold-at : (i : ℕ) → i < length rows → (markAt (release ws 0 rows) i ≡ dropped → ⊥) → Has (hold! i) h
+  hold-at i l m =
+      by (member i ws)
+      (λ c. p .holdAt i l (λ d. let z = sym (p .awaited .holds i c) ∙ d in let y : _≡_ {A = ℕ} 0 1 = cc in omega arith))
+      (λ c. p .holdAt i l (λ d. m (mark-out i l c ∙ d)))
+
+  hold-of : (i : ℕ) → (i < length rows) × (markAt rows i ≡ dropped → ⊥)
+      → (i < length (release ws 0 rows)) × (markAt (release ws 0 rows) i ≡ dropped → ⊥)
+  hold-of i d = (
+    omega (arith, length-release ws 0 rows, d .0),
+    λ e. by (member i ws)
+        (λ c. let z = sym (mark-in i (d .0) c) ∙ e in let y : _≡_ {A = ℕ} 0 1 = cc in omega arith)
+        (λ c. d .1 (sym (mark-out i (d .0) c) ∙ e)),
+  )
+
   placing-confirmed : Placing idle (release ws 0 rows) built (confirmed! k ∷ h)
   placing-confirmed =
       let x = confirmed! k in
-      let nb : (j : ℕ) (vs : List ℕ) → built! j vs ≡ x → ⊥ = λ j vs s. (let y : _≡_ {A = ℕ} 0 1 = cc in omega arith) in
       let same-length = length-release ws 0 rows in
       record {
         dropAt = λ i l m. let l′ : i < length rows = omega arith in
@@ -327,41 +363,11 @@ module _ (rows : List Row) (built : ℕ) (h : List Happening) (q t : ℕ) (ws : 
                   (λ c. mark-out i (d .0) c ∙ d .1),
             );
         releaseAt = λ i l m. let l′ : i < length rows = omega arith in
-            by (member i ws)
-            (λ c. let f = found (built! k ws) h (p .awaited .built) in
-            record {
-              later = [];
-              between = f .later;
-              earlier = f .earlier;
-              number = k;
-              rows = ws;
-              split = ap (λ z. x ∷ z) (f .split);
-              carried = c;
-            })
-            (λ c. released-on x h i (p .releaseAt i l′ (sym (mark-out i l′ c) ∙ m)));
-        releaseOf = λ i r.
-            let b : Has (built! (r .number) (r .rows)) h = older x (built! (r .number) (r .rows)) h (nb (r .number) (r .rows)) (r .built) in
-            elim (List·Memᴰ·cases-cons (r .confirmed)) [
-              | inl s ↦ (let e : r .number ≡ k = cc in
-                  let v : r .rows ≡ ws = p .awaited .only (r .rows) (rw e at b) in
-                  let c : member i ws ≡ true = rw v at (r .carried) in
-                  let l = p .awaited .below i c in
-                  (omega arith, mark-in i l c))
-              | inr m ↦ (let d = p .releaseOf i (record { number = r .number; rows = r .rows; built = b; carried = r .carried; confirmed = m }) in
-                  (omega (arith, d .0), by (member i ws) (λ c. mark-in i (d .0) c) (λ c. mark-out i (d .0) c ∙ d .1)))
-            ];
-        holdAt = λ i l m. let l′ : i < length rows = omega arith in
-            by (member i ws)
-            (λ c. List·Memᴰ·tail (p .holdAt i l′ (λ d. let z = sym (p .awaited .holds i c) ∙ d in let y : _≡_ {A = ℕ} 0 1 = cc in omega arith)))
-            (λ c. List·Memᴰ·tail (p .holdAt i l′ (λ d. m (mark-out i l′ c ∙ d))));
-        holdOf = λ i m.
-            let d = p .holdOf i (older x (hold! i) h (λ s. let y : _≡_ {A = ℕ} 0 1 = cc in omega arith) m) in (
-              omega (arith, d .0),
-              λ e. by (member i ws)
-                  (λ c. let z = sym (mark-in i (d .0) c) ∙ e in let y : _≡_ {A = ℕ} 0 1 = cc in omega arith)
-                  (λ c. d .1 (sym (mark-out i (d .0) c) ∙ e)),
-            );
-        numbers = λ j vs m. p .numbers j vs (older x (built! j vs) h (nb j vs) m);
+            by (member i ws) (release-here i) (λ c. released-on x h i (p .releaseAt i l′ (sym (mark-out i l′ c) ∙ m)));
+        releaseOf = release-of;
+        holdAt = λ i l m. List·Memᴰ·tail (hold-at i (omega arith) m);
+        holdOf = λ i m. hold-of i (p .holdOf i (older x (hold! i) h (λ s. let y : _≡_ {A = ℕ} 0 1 = cc in omega arith) m));
+        numbers = λ j vs m. p .numbers j vs (older x (built! j vs) h (no-built j vs) m);
         confirmed = λ j m. elim (List·Memᴰ·cases-cons m) [
           | inl s ↦ (let e : j ≡ k = cc in omega (arith, p .numbers k ws (p .awaited .built)))
           | inr m′ ↦ p .confirmed j m′
@@ -406,6 +412,17 @@ opened-placing u =
       numbers = λ k ws m. absurd (List·Memᴰ·not-nil m);
       confirmed = λ k m. absurd (List·Memᴰ·not-nil m);
       awaited = tt;
+    }
+
+-- carried and confirmed in that order, so in any
+freed : (h : List Happening) (i : ℕ) → ReleasedBy h i → Freed h i
+freed h i r =
+    record {
+      number = r .number;
+      rows = r .rows;
+      carried = r .carried;
+      built = rw (r .split) (Memᴰ·append-right (r .later) (List·Memᴰ·tail (Memᴰ·append-right (r .between) (List·Memᴰ·head refl))));
+      confirmed = has-at (confirmed! (r .number)) h (r .later) (r .between ++ built! (r .number) (r .rows) ∷ r .earlier) (r .split);
     }
 
 -- a mark that is neither of the others

@@ -30,6 +30,7 @@ use Rattle.select.specs.declared.ControlFunction.{ControlFunction}
 use Rattle.select.specs.declared.ControlFunction.the-variants.{Select, Operate, DirectOperate}
 use Rattle.select.specs.Select.{Selection, isOperate, isUnanswered, statusesBy, operateStatus, byForm, effectOf}
 use Rattle.repeat.specs.Repeat.{Memory, nothing, kept, isRepeat, answerOf}
+use Rattle.repeat.proofs.ReplyLaws.{length-by}
 use Rattle.events.specs.Queue.{Queue, cleared}
 use Rattle.static_objects.specs.Static.{readOf}
 use Rattle.outstation.specs.declared.Wait.the-variants.{Idle}
@@ -139,15 +140,6 @@ pub record Echo (x : Form) (o echo : List ℕ) : Type 0 where
   pub statuses : List ℕ
   pub each : length statuses ≡ length (crobsBy x o)
   pub is : echo ≡ echoWith x statuses o
-
-length-statuses : (outputs : ℕ) (e : List ℕ) (cs : List Crob) → length (statuses outputs e cs) ≡ length cs
-unfolding statuses
-length-statuses outputs e [] = refl
-length-statuses outputs e (c ∷ cs) = ap suc (length-statuses outputs (c .index ∷ e) cs)
-
-length-by : (g : ControlFunction) (outputs s : ℕ) (cs : List Crob) → length (statusesBy g outputs s cs) ≡ length cs
-length-by g outputs s cs =
-    split (λ l. length l ≡ length cs) (isOperate g) (λ _. length-replicate (length cs) s) (λ _. length-statuses outputs [] cs)
 
 module _ (outputs arm : ℕ) (l : Selection) (g : ControlFunction) (u : isUnanswered g ≡ false) (q time : ℕ) (o : List ℕ) where
   echo-form : (x : Form) → Echo x o (byForm x outputs arm l g q time o .echo)

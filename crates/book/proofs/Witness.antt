@@ -195,8 +195,8 @@ ans =
     ∷ answers written []
     ∷ []
 
-ran : Ran Outstation Did (outstationFor (restarted oneBinary)) calls ans (outstationFor w₇)
-ran =
+run : Ran Outstation Did (outstationFor (restarted oneBinary)) calls ans (outstationFor w₇)
+run =
     let l : length (all256 false) ≤ eventsMax = leb-true (length (all256 false)) eventsMax refl in
     let m : length (all256 true) ≤ eventsMax = leb-true (length (all256 true)) eventsMax refl in
     let n : length newest ≤ eventsMax = leb-true (length newest) eventsMax refl in
@@ -236,7 +236,7 @@ bytesOf (refuses n) = []
 pub record Witness (u : Setup) (o : Outstation) (cs : List Call) (l : List Answer) (o₂ : Outstation) : Type 0 where
   pub accepted : setupOk u ≡ true
   pub start : world o ≡ restarted u
-  pub calls : Ran Outstation Did o cs l o₂
+  pub ran : Ran Outstation Did o cs l o₂
   -- a table of 260 readings is stopped at the refused one
   pub stopped : answerAt l 0 ≡ took 258 4
   -- READ shows IIN2.3, and its CONFIRM is too late
@@ -259,7 +259,7 @@ witness =
     record {
       accepted = refl;
       start = world-for (restarted oneBinary);
-      calls = ran;
+      ran = run;
       stopped = refl;
       shown = refl;
       late = refl;

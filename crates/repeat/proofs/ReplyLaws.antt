@@ -12,22 +12,18 @@ use Rattle.control.specs.declared.Crob.{Crob}
 use Rattle.control.specs.declared.Form.{Form}
 use Rattle.control.specs.declared.Form.the-variants.{Wrong, Objects}
 use Rattle.control.specs.Objects.{echoMax, formed, crobs}
+use Rattle.control.proofs.ObjectLaws.{crobs-length}
 use Rattle.control.specs.Status.{statuses, echoOf}
 use Rattle.select.specs.declared.ControlFunction.{ControlFunction}
 use Rattle.select.specs.Select.{Selection, isUnanswered, isOperate, statusesBy, operateStatus, byForm, effectOf}
 use Rattle.control.proofs.FormLaws.{formed-fits, echo-length}
-
-length-crobs : (w n : ℕ) (b : List ℕ) → length (crobs w n b) ≡ n
-unfolding crobs
-length-crobs w zero b = refl
-length-crobs w (suc n) b = ap suc (length-crobs w n (drop (w + 11) b))
 
 length-statuses : (outputs : ℕ) (e : List ℕ) (cs : List Crob) → length (statuses outputs e cs) ≡ length cs
 unfolding statuses
 length-statuses outputs e [] = refl
 length-statuses outputs e (c ∷ cs) = ap suc (length-statuses outputs (c .index ∷ e) cs)
 
-length-by : (f : ControlFunction) (outputs s : ℕ) (cs : List Crob) → length (statusesBy f outputs s cs) ≡ length cs
+pub length-by : (f : ControlFunction) (outputs s : ℕ) (cs : List Crob) → length (statusesBy f outputs s cs) ≡ length cs
 length-by f outputs s cs = go (isOperate f) where
   go : (b : Bool) → length (cond b (replicate (length cs) s) (statuses outputs [] cs)) ≡ length cs
   go true = length-replicate (length cs) s
@@ -46,7 +42,7 @@ module _ (outputs arm : ℕ) (l : Selection) (f : ControlFunction) (sequence tim
     by (Objects w n) e =
         let fit = formed-fits o w n e in
         let ss : List ℕ = statusesBy f outputs (operateStatus arm l sequence time o) (crobs w n (drop (3 + w) o)) in
-        let k = length-by f outputs (operateStatus arm l sequence time o) (crobs w n (drop (3 + w) o)) ∙ length-crobs w n (drop (3 + w) o) in
+        let k = length-by f outputs (operateStatus arm l sequence time o) (crobs w n (drop (3 + w) o)) ∙ crobs-length w n (drop (3 + w) o) in
         let m : length (echoOf w ss o) ≡ length o = echo-length w n ss o k (fit .size) in
         two (isUnanswered f) (echoOf w ss o) (omega arith)
 
