@@ -6,6 +6,7 @@ ghost use lib.ListN.{length, take};
 ghost use Rattle.octets.specs.Bytes.{splice};
 ghost use Rattle.points.specs.Inputs.{inputs};
 ghost use Rattle.events.specs.Queue.{queue, selected};
+ghost use Rattle.request.specs.Parse.{headersMax};
 ghost use Rattle.request.specs.Plans.{plannedOf};
 ghost use Rattle.event_objects.specs.Events.{carriedBytes};
 ghost use Rattle.static_objects.specs.Static.{staticBytes, readOf};
@@ -64,7 +65,8 @@ pub fn respond(out: &mut [u8], s: &[u8], p: Points, b: Buffer) -> Reply
         × (queue (r .buffer) ≡ queueAfter (inputs p) (readOf (inputs p) (now (s .entry))) (queue b))
         × (r .size ≡ 4 + length (responseObjects (inputs p) (readOf (inputs p) (now (s .entry))) (queue b)))
         × (now (out .exit) ≡ splice (now (out .entry)) 4 (responseObjects (inputs p) (readOf (inputs p) (now (s .entry))) (queue b)))
-        × (r .buffer .count ≡ b .count) ⌝ }
+        × (r .buffer .count ≡ b .count)
+        × (r .plan .count ≤ headersMax) ⌝ }
 {
     let plan = static_objects::asked(s, p);
     let v = plan.verdict;

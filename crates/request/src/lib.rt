@@ -182,7 +182,7 @@ fn front(s: &[u8], binaries: u16, analogs: u16) -> Step
 
 // A plan with no headers.
 fn none(verdict: Verdict) -> Plan
-    ensures { λ r. ⌜ plannedOf r ≡ planned verdict [] ⌝ }
+    ensures { λ r. ⌜ (plannedOf r ≡ planned verdict []) × (r .count ≤ headersMax) ⌝ }
 {
     let blank = points_from(false, 0, 0);
     let list = [blank; HEADERS_MAX];
@@ -195,7 +195,7 @@ fn none(verdict: Verdict) -> Plan
 
 // The headers of a READ, of the bytes after control and function, where there are so many binaries and analogs.
 pub fn headers(s: &[u8], binaries: u16, analogs: u16) -> Plan
-    ensures { λ r. ⌜ plannedOf r ≡ parse binaries analogs (now (s .entry)) ⌝ }
+    ensures { λ r. ⌜ (plannedOf r ≡ parse binaries analogs (now (s .entry))) × (r .count ≤ headersMax) ⌝ }
 {
     let blank = points_from(false, 0, 0);
     let mut list = [blank; HEADERS_MAX];

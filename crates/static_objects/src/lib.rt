@@ -9,6 +9,7 @@ ghost use Rattle.octets.specs.Bytes.{splice};
 ghost use Rattle.points.specs.Inputs.{Inputs, inputs, noAnalog};
 ghost use Rattle.objects.specs.Values.{stateByte};
 ghost use Rattle.objects.specs.Runs.{objectBytes};
+ghost use Rattle.request.specs.Parse.{headersMax};
 ghost use Rattle.request.specs.Plans.{plannedOf};
 ghost use Rattle.static_objects.specs.declared.Shown.the-variants.{Binary, Analog};
 ghost use Rattle.static_objects.specs.Static.{
@@ -329,7 +330,7 @@ pub fn put_static(out: &mut [u8], at: usize, plan: Plan, p: Points) -> usize
 
 // What a READ asks for, or its fault, of the bytes after control and function.
 pub fn asked(s: &[u8], p: Points) -> Plan
-    ensures { λ r. ⌜ plannedOf r ≡ readOf (inputs p) (now (s .entry)) ⌝ }
+    ensures { λ r. ⌜ (plannedOf r ≡ readOf (inputs p) (now (s .entry))) × (r .count ≤ headersMax) ⌝ }
 {
     let binaries = points::installed(p.binary_count) as u16;
     let analogs = points::installed(p.analog_count) as u16;

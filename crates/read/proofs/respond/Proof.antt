@@ -25,14 +25,14 @@ select-requires c κs =
     let a = c .before .before .before .before .before .args in
     let q = c .before .before .asked in
     let i = inputs (a .p) in
-    fitting i (parse (length (i .binaries)) (length (i .analogs)) (a .s .now)) _ (sym (plan-headers (q .result) (c .enum-told .given .1)) ∙ q .ensures)
+    fitting i (parse (length (i .binaries)) (length (i .analogs)) (a .s .now)) _ (sym (plan-headers (q .result) (c .enum-told .given .1)) ∙ q .ensures .0)
 
 put-objects-requires : tie.Need-put-objects-requires
 put-objects-requires c κs =
     let a = c .before .before .before .before .before .before .before .args in
     let q = c .before .before .before .before .asked in
     let i = inputs (a .p) in
-    let f = fitting i (parse (length (i .binaries)) (length (i .analogs)) (a .s .now)) _ (sym (plan-headers (q .result) (c .before .before .enum-told .given .1)) ∙ q .ensures) in
+    let f = fitting i (parse (length (i .binaries)) (length (i .analogs)) (a .s .now)) _ (sym (plan-headers (q .result) (c .before .before .enum-told .given .1)) ∙ q .ensures .0) in
     let hs = take (q .result .count) (q .result .headers) in
     omega (arith, beside (classesOf hs) (length (staticBytes i hs)) (queue (a .b)) (queue (c .before .select .result)) f (c .before .select .ensures .0), c .before .before .before .before .before .before .before .pre)
 
@@ -54,20 +54,20 @@ same-length c = search needs
 returns : tie.Need-returns
 returns c =
     let q = c .before .before .before .before .before .before .before .asked in
-    let w = answered _ _ _ _ _ _ _ _ (sym (plan-headers (q .result) (c .before .before .before .before .before .enum-told .given .1)) ∙ q .ensures) (c .before .before .before .before .select .ensures .0) (c .before .before .put-objects .ensures .0) (c .before .before .put-objects .ensures .1) in
-    (q .ensures, w .0, w .1, w .2, c .before .before .before .before .select .ensures .1)
+    let w = answered _ _ _ _ _ _ _ _ (sym (plan-headers (q .result) (c .before .before .before .before .before .enum-told .given .1)) ∙ q .ensures .0) (c .before .before .before .before .select .ensures .0) (c .before .before .put-objects .ensures .0) (c .before .before .put-objects .ensures .1) in
+    (q .ensures .0, w .0, w .1, w .2, c .before .before .before .before .select .ensures .1, q .ensures .1)
 
 returns-2 : tie.Need-returns-2
 returns-2 c =
     let q = c .before .before .before .asked in
-    let w = refused _ _ _ _ (c .before .before .before .before .before .before .args .out .now) 2 (sym (plan-object (q .result) (c .before .enum-told2 .given .1)) ∙ q .ensures) (c .clear .ensures .0) in
-    (q .ensures, w .0, w .1, w .2, c .clear .ensures .1)
+    let w = refused _ _ _ _ (c .before .before .before .before .before .before .args .out .now) 2 (sym (plan-object (q .result) (c .before .enum-told2 .given .1)) ∙ q .ensures .0) (c .clear .ensures .0) in
+    (q .ensures .0, w .0, w .1, w .2, c .clear .ensures .1, q .ensures .1)
 
 returns-3 : tie.Need-returns-3
 returns-3 c =
     let q = c .before .before .before .asked in
-    let w = refused _ _ _ _ (c .before .before .before .before .before .before .args .out .now) 4 (sym (plan-parameter (q .result) (c .before .enum-told3 .given .1)) ∙ q .ensures) (c .clear2 .ensures .0) in
-    (q .ensures, w .0, w .1, w .2, c .clear2 .ensures .1)
+    let w = refused _ _ _ _ (c .before .before .before .before .before .before .args .out .now) 4 (sym (plan-parameter (q .result) (c .before .enum-told3 .given .1)) ∙ q .ensures .0) (c .clear2 .ensures .0) in
+    (q .ensures .0, w .0, w .1, w .2, c .clear2 .ensures .1, q .ensures .1)
 
 pub respond-spec : {M : Type 1} → statement M
 respond-spec =

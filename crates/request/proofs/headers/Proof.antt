@@ -25,7 +25,7 @@ none-requires : tie.Need-none-requires Inv-loop μ-loop
 none-requires c κs = search needs
 
 returns : tie.Need-returns Inv-loop μ-loop
-returns c = c .none .ensures ∙ over _ _ _ _ _ _ (c .before .before .before .loop .inv) (c .before .if1 .taken) (c .before .before .loop-test .taken)
+returns c = (c .none .ensures .0 ∙ over _ _ _ _ _ _ (c .before .before .before .loop .inv) (c .before .if1 .taken) (c .before .before .loop-test .taken), c .none .ensures .1)
 
 sub-front : tie.Need-sub-front Inv-loop μ-loop
 sub-front c = search needs
@@ -69,7 +69,7 @@ none-requires-2 : tie.Need-none-requires-2 Inv-loop μ-loop
 none-requires-2 c κs = search needs
 
 returns-2 : tie.Need-returns-2 Inv-loop μ-loop
-returns-2 c = c .none2 .ensures ∙ unknown _ _ _ _ _ _ (c .before .before .before .before .before .before .before .loop .inv) (c .before .before .before .before .before .if1 .left) (c .before .before .before .before .before .before .loop-test .taken) (sym (c .before .before .before .front .ensures) ∙ c .before .enum-told .given .1)
+returns-2 c = (c .none2 .ensures .0 ∙ unknown _ _ _ _ _ _ (c .before .before .before .before .before .before .before .loop .inv) (c .before .before .before .before .before .if1 .left) (c .before .before .before .before .before .before .loop-test .taken) (sym (c .before .before .before .front .ensures) ∙ c .before .enum-told .given .1), c .none2 .ensures .1)
 
 enum-told-2 : tie.Need-enum-told-2 Inv-loop μ-loop
 enum-told-2 c = search needs
@@ -78,11 +78,11 @@ none-requires-3 : tie.Need-none-requires-3 Inv-loop μ-loop
 none-requires-3 c κs = search needs
 
 returns-3 : tie.Need-returns-3 Inv-loop μ-loop
-returns-3 c = c .none3 .ensures ∙ bad _ _ _ _ _ _ (c .before .before .before .before .before .before .before .loop .inv) (c .before .before .before .before .before .if1 .left) (c .before .before .before .before .before .before .loop-test .taken) (sym (c .before .before .before .front .ensures) ∙ c .before .enum-told2 .given .1)
+returns-3 c = (c .none3 .ensures .0 ∙ bad _ _ _ _ _ _ (c .before .before .before .before .before .before .before .loop .inv) (c .before .before .before .before .before .if1 .left) (c .before .before .before .before .before .before .loop-test .taken) (sym (c .before .before .before .front .ensures) ∙ c .before .enum-told2 .given .1), c .none3 .ensures .1)
 
 returns-4 : tie.Need-returns-4 Inv-loop μ-loop
 unfolding plannedOf
-returns-4 c = all _ _ _ _ _ _ (c .before .loop .inv) (c .loop-test .left)
+returns-4 c = (all _ _ _ _ _ _ (c .before .loop .inv) (c .loop-test .left), c .before .loop .inv .few)
 
 pub headers-spec : {M : Type 1} → statement M
 headers-spec =

@@ -46,8 +46,8 @@ returns c =
     let q = c .before .before .before .before .before .headers in
     let hb : length (a .p .binaries) ≡ 64 = search (long, needs) in
     let ha : length (a .p .analogs) ≡ 64 = search (long, needs) in
-    let e = parsed-as (q .result) _ _ _ _ _ (q .ensures) (binaries-count (a .p) _ hb (c .before .before .before .before .before .before .before .installed .ensures)) (analogs-count (a .p) _ ha (c .before .before .before .before .before .before .installed2 .ensures)) in
-    plan-parameter _ refl ∙ too-long (inputs (a .p)) _ _ _ (sym (plan-headers (q .result) (c .before .before .before .enum-told .given .1)) ∙ e) (c .before .before .static-size .ensures .0) (c .before .if1 .taken)
+    let e = parsed-as (q .result) _ _ _ _ _ (q .ensures .0) (binaries-count (a .p) _ hb (c .before .before .before .before .before .before .before .installed .ensures)) (analogs-count (a .p) _ ha (c .before .before .before .before .before .before .installed2 .ensures)) in
+    (plan-parameter _ refl ∙ too-long (inputs (a .p)) _ _ _ (sym (plan-headers (q .result) (c .before .before .before .enum-told .given .1)) ∙ e) (c .before .before .static-size .ensures .0) (c .before .if1 .taken), q .ensures .1)
 
 returns-2 : tie.Need-returns-2
 returns-2 c =
@@ -55,9 +55,9 @@ returns-2 c =
     let q = c .before .before .before .before .headers in
     let hb : length (a .p .binaries) ≡ 64 = search (long, needs) in
     let ha : length (a .p .analogs) ≡ 64 = search (long, needs) in
-    let e = parsed-as (q .result) _ _ _ _ _ (q .ensures) (binaries-count (a .p) _ hb (c .before .before .before .before .before .before .installed .ensures)) (analogs-count (a .p) _ ha (c .before .before .before .before .before .installed2 .ensures)) in
+    let e = parsed-as (q .result) _ _ _ _ _ (q .ensures .0) (binaries-count (a .p) _ hb (c .before .before .before .before .before .before .installed .ensures)) (analogs-count (a .p) _ ha (c .before .before .before .before .before .installed2 .ensures)) in
     let f = plan-headers (q .result) (c .before .before .enum-told .given .1) in
-    f ∙ short (inputs (a .p)) _ _ _ (sym f ∙ e) (c .before .static-size .ensures .0) (c .if1 .left)
+    (f ∙ short (inputs (a .p)) _ _ _ (sym f ∙ e) (c .before .static-size .ensures .0) (c .if1 .left), q .ensures .1)
 
 returns-3 : tie.Need-returns-3
 returns-3 c =
@@ -65,9 +65,9 @@ returns-3 c =
     let q = c .before .before .headers in
     let hb : length (a .p .binaries) ≡ 64 = search (long, needs) in
     let ha : length (a .p .analogs) ≡ 64 = search (long, needs) in
-    let e = parsed-as (q .result) _ _ _ _ _ (q .ensures) (binaries-count (a .p) _ hb (c .before .before .before .before .installed .ensures)) (analogs-count (a .p) _ ha (c .before .before .before .installed2 .ensures)) in
+    let e = parsed-as (q .result) _ _ _ _ _ (q .ensures .0) (binaries-count (a .p) _ hb (c .before .before .before .before .installed .ensures)) (analogs-count (a .p) _ ha (c .before .before .before .installed2 .ensures)) in
     let f = plan-object (q .result) (c .enum-told2 .given .1) in
-    f ∙ faulty (inputs (a .p)) _ 2 (sym f ∙ e)
+    (f ∙ faulty (inputs (a .p)) _ 2 (sym f ∙ e), q .ensures .1)
 
 returns-4 : tie.Need-returns-4
 returns-4 c =
@@ -75,9 +75,9 @@ returns-4 c =
     let q = c .before .before .headers in
     let hb : length (a .p .binaries) ≡ 64 = search (long, needs) in
     let ha : length (a .p .analogs) ≡ 64 = search (long, needs) in
-    let e = parsed-as (q .result) _ _ _ _ _ (q .ensures) (binaries-count (a .p) _ hb (c .before .before .before .before .installed .ensures)) (analogs-count (a .p) _ ha (c .before .before .before .installed2 .ensures)) in
+    let e = parsed-as (q .result) _ _ _ _ _ (q .ensures .0) (binaries-count (a .p) _ hb (c .before .before .before .before .installed .ensures)) (analogs-count (a .p) _ ha (c .before .before .before .installed2 .ensures)) in
     let f = plan-parameter (q .result) (c .enum-told3 .given .1) in
-    f ∙ faulty (inputs (a .p)) _ 4 (sym f ∙ e)
+    (f ∙ faulty (inputs (a .p)) _ 4 (sym f ∙ e), q .ensures .1)
 
 pub asked-spec : {M : Type 1} → statement M
 asked-spec =
