@@ -273,7 +273,7 @@ struct pomarisco_crobs {           /* the first `count`, in the order asked */
     size_t count;
 };
 
-struct pomarisco_fragment_answer { /* kind 0: the answer is the first `length` lent bytes; 1: accepted, not answered; 2: a CONFIRM was accepted; any other: refused */
+struct pomarisco_fragment_answer { /* kind 0: the answer is the first `length` lent bytes; 1: accepted, not answered; 2: a CONFIRM was accepted; 3: refused */
     size_t length;
     uint8_t kind;
     uint8_t refusal;

@@ -192,8 +192,10 @@ fn lengths(pair: &mut Pair, call: &str) -> Result<(), String> {
         "frame_write, link_data and link_reply" => {
             for n in [0, 1, 2, 15, 16, 17, 32, 33, 249, 250, 251, 292, 1000] {
                 for len in both_sides(header::FRAME) {
-                    let user = bytes.bytes(n);
-                    calls(pair, [Call::FrameWrite(len, 0xC4, 1, 2, user)])?;
+                    for control in [0xC4, 0x00, 0x0B, 0x0F] {
+                        let user = bytes.bytes(n);
+                        calls(pair, [Call::FrameWrite(len, control, 1, 2, user)])?;
+                    }
                 }
             }
         }

@@ -136,6 +136,14 @@ fn code<T>(result: &Result<T, u8>) -> u8 {
     result.as_ref().err().copied().unwrap_or(0)
 }
 
+/// The control byte that a reply goes out with: one of the three.
+fn reply_control(control: u8) -> u8 {
+    match control {
+        0x00 | 0x0B => control,
+        _ => 0x0F,
+    }
+}
+
 impl Pair {
     pub fn new(seed: u64, other: bool) -> Pair {
         let mut random = Random(seed);
@@ -380,7 +388,7 @@ impl Pair {
         let writes: [(Write, u8, &[u8]); 3] = [
             (&|out| header::frame_write(out, control, destination, source, &input), control, user),
             (&|out| header::link_data(out, source, destination, &input), 0x44, user),
-            (&|out| header::link_reply(out, source, destination, control), control, &[]),
+            (&|out| header::link_reply(out, source, destination, control), reply_control(control), &[]),
         ];
         for (write, control, user) in writes {
             let mut lent = Lent::new(len, &mut self.random);
