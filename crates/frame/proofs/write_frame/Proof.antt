@@ -17,7 +17,7 @@ returns c =
 returns-2 : tie.Need-returns-2
 returns-2 c =
     let a = c .before .before .before .before .args in
-    written-by _ _ (a .out .now) _ (refused 16) (into-long (length (a .out .now)) (parts (a .control) (a .destination) (a .source) (a .user .now)) (c .before .if1 .left) (c .if2 .taken)) refl refl
+    written-by _ _ (a .out .now) _ (refused 16) (into-long (length (a .out .now)) (parts (a .control) (a .destination) (a .source) (a .user .now)) (c .before .if1 .left) (omega arith)) refl refl
 
 add-k : tie.Need-add-k
 add-k c = omega arith
