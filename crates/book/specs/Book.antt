@@ -85,6 +85,7 @@ withShared s b = record { shared = s; master = b .master }
 abbrev pub withMaster : Master → Book → Book
 withMaster m b = record { shared = b .shared; master = m }
 
+-- "an accepted one sets the clock"
 abbrev pub atTime : ℕ → Book → Book
 atTime time b = withShared (withClock time (b .shared)) b
 
@@ -161,7 +162,7 @@ enterEvent e m =
     (withWarning true (withRows (m .rows ++ (record { event = e; mark = dropped } ∷ [])) m))
     (withRows (m .rows ++ (record { event = e; mark = held } ∷ [])) m)
 
--- "an accepted one sets the clock"
+-- a reading that is taken sets clock and points, and enters its event, if it raises one
 unfoldable pub enterReading : Book → Reading → Heard → Book
 enterReading b r h =
     withShared (withInputs (h .inputs) (withClock (r .time) (b .shared)))
@@ -198,6 +199,7 @@ picks m k i (r ∷ rs) =
 abbrev pub picked : Book → List Header → List ℕ
 picked b hs = picks (classesOf hs) (emptyPack (roomBeside (b .shared .inputs) hs)) 0 (b .master .rows)
 
+-- CON is set where it carries a row or shows the warning
 abbrev pub readWait : Book → ℕ → ℕ → List Header → Wait
 readWait b q time hs =
     cond (not (isNil (picked b hs)) || b .master .warning) (awaiting q time (picked b hs) (length (b .master .rows)) (b .master .built)) idle

@@ -64,7 +64,7 @@ withShared s w = record { shared = s; master = w .master }
 abbrev pub withMaster : Master → World → World
 withMaster m w = record { shared = w .shared; master = m }
 
--- ---- the outstation's
+-- ---- what an outstation stands for
 
 unfoldable pub exchangeOf : Session → Exchange
 exchangeOf s = record { restarted = s .restarted; wait = s .wait; last = lastOf (s .last); latch = latchOf (s .latch) }
