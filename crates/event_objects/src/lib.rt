@@ -42,7 +42,7 @@ fn variation(kind: u8) -> u8
 }
 
 // Puts a header at the offset, and answers the offset after it.
-fn put_heading(out: &mut [u8], at: usize, kind: u8, n: u16) -> usize
+pub fn put_heading(out: &mut [u8], at: usize, kind: u8, n: u16) -> usize
     requires { ⌜ at + 5 ≤ length (now out) ⌝ }
     ensures { λ r. ⌜ (r ≡ at + 5) × (now (out .exit) ≡ splice (now (out .entry)) at (eventHeading kind 0 n)) ⌝ }
 {
@@ -54,7 +54,7 @@ fn put_heading(out: &mut [u8], at: usize, kind: u8, n: u16) -> usize
 }
 
 // Puts an event's object at the offset, and answers the offset after it.
-fn put_event(out: &mut [u8], at: usize, e: Event) -> usize
+pub fn put_event(out: &mut [u8], at: usize, e: Event) -> usize
     requires { ⌜ at + length (eventBytes e) ≤ length (now out) ⌝ }
     ensures { λ r. ⌜
         (r ≡ at + length (eventBytes e))
@@ -78,7 +78,7 @@ fn put_event(out: &mut [u8], at: usize, e: Event) -> usize
 }
 
 // The kind of a held event, 0 where it is not carried.
-fn carried_kind(h: Held) -> u8
+pub fn carried_kind(h: Held) -> u8
     ensures { λ r. ⌜ r ≡ carriedKind h ⌝ }
 {
     if h.carried {

@@ -191,7 +191,7 @@ pub enum Turn {
     Carry(Pack),
 }
 
-fn weigh(m: Classes, k: Pack, e: Event) -> Turn
+pub fn weigh(m: Classes, k: Pack, e: Event) -> Turn
     ensures { λ r. ⌜ r ≡ turnOf m k e ⌝ }
 {
     if asks(m, e.class) {
@@ -283,7 +283,7 @@ fn left_of(h: Held, class: u8) -> bool
 }
 
 // Whether one of the class was seen earlier, or this is one.
-fn seen(earlier: bool, h: Held, class: u8) -> bool
+pub fn seen(earlier: bool, h: Held, class: u8) -> bool
     ensures { λ r. ⌜ r ≡ (earlier || leftOf class h) ⌝ }
 {
     if earlier { true } else { left_of(h, class) }

@@ -24,7 +24,7 @@ pub struct Reply {
     pub size: usize,
 }
 
-fn classes(plan: Plan) -> Classes
+pub fn classes(plan: Plan) -> Classes
     ensures { λ r. ⌜ r ≡ classesOf (take (plan .count) (plan .headers)) ⌝ }
 {
     Classes {

@@ -77,7 +77,7 @@ fn group(analog: bool) -> u8
     if analog { 30 } else { 1 }
 }
 
-fn variation(s: Shown) -> u8
+pub fn variation(s: Shown) -> u8
     ensures { λ r. ⌜ r ≡ variationOf s ⌝ }
 {
     match s {
@@ -91,7 +91,7 @@ fn variation(s: Shown) -> u8
 }
 
 // The bytes of what a point shows.
-fn size(s: Shown) -> usize
+pub fn size(s: Shown) -> usize
     ensures { λ r. ⌜ (r ≡ length (pointBytes s)) × (r ≤ 5) ⌝ }
 {
     match s {
@@ -105,7 +105,7 @@ fn size(s: Shown) -> usize
 }
 
 // Puts a header of the point `first` and m more at the offset, and answers the offset after it.
-fn put_heading(
+pub fn put_heading(
     out: &mut [u8],
     at: usize,
     analog: bool,
@@ -127,7 +127,7 @@ fn put_heading(
 }
 
 // Puts what a point shows at the offset, and answers the offset after it.
-fn put_point(out: &mut [u8], at: usize, s: Shown) -> usize
+pub fn put_point(out: &mut [u8], at: usize, s: Shown) -> usize
     requires { ⌜ at + length (pointBytes s) ≤ length (now out) ⌝ }
     ensures { λ r. ⌜
         (r ≡ at + length (pointBytes s))
@@ -148,7 +148,7 @@ fn put_point(out: &mut [u8], at: usize, s: Shown) -> usize
 // ---- binaries: all of one variation, so one header
 
 // The bytes that n binaries take.
-fn binaries_size(n: usize) -> usize
+pub fn binaries_size(n: usize) -> usize
     requires { ⌜ n < 200000 ⌝ }
     ensures { λ r. ⌜ ((i : Inputs) (from : ℕ) → r ≡ length (rangeBytes i false from n)) × (r ≤ 7 + n) ⌝ }
 {
@@ -221,7 +221,7 @@ fn analogs_size(p: Points, from: usize, n: usize) -> usize
 }
 
 // Puts the header of a run that ends, of the point `first` and m more. The variation 0 stands for no run.
-fn end_run(out: &mut [u8], at: usize, variation: u8, first: usize, m: usize)
+pub fn end_run(out: &mut [u8], at: usize, variation: u8, first: usize, m: usize)
     requires { ⌜
         (at + length (cond (eqb variation 0) [] (staticHeading true variation first (m + 1))) ≤ length (now out))
         × (first + m < 200000) ⌝ }
