@@ -113,7 +113,7 @@ module _ (u : Setup) (b : Bounds u) where
 
 -- the points that a setup gives
 pub set-points : (u : Setup) (bs : List BinaryPoint) (ps : List AnalogPoint) → bs ≡ map freshBinary (u .classes) → ps ≡ map freshAnalog (u .analogs)
-    → inputs (record { binaries = bs; «binary_count» = u .«binary_count»; analogs = ps; «analog_count» = u .«analog_count» }) ≡ restarted u .inputs
+    → inputs (record { binaries = bs; «binary_count» = u .«binary_count»; analogs = ps; «analog_count» = u .«analog_count» }) ≡ restarted u .shared .inputs
 unfolding restarted inputs binaryClasses analogSetups
 set-points u bs ps eb ep =
     λ k.
@@ -123,7 +123,7 @@ set-points u bs ps eb ep =
     }
 
 -- the outstation that a setup gives
-pub set-up : (u : Setup) (p : Points) (b : Buffer) (s : Session) → inputs p ≡ restarted u .inputs → queue b ≡ record { held = []; overflow = false } → exchangeOf s ≡ freshExchange
+pub set-up : (u : Setup) (p : Points) (b : Buffer) (s : Session) → inputs p ≡ restarted u .shared .inputs → queue b ≡ record { held = []; overflow = false } → exchangeOf s ≡ freshExchange
     → world
     (record {
       «arm_time» = u .«arm_time»;
@@ -139,11 +139,6 @@ unfolding restarted
 set-up u p b s i q x =
     λ k.
     record {
-      armTime = u .«arm_time»;
-      confirmTime = u .«confirm_time»;
-      outputs = u .outputs;
-      clock = 0;
-      inputs = i k;
-      queue = q k;
-      exchange = x k;
+      shared = record { armTime = u .«arm_time»; confirmTime = u .«confirm_time»; outputs = u .outputs; clock = 0; inputs = i k };
+      master = record { queue = q k; exchange = x k };
     }

@@ -29,11 +29,11 @@ use Rattle.outstation.specs.Singly.{after, eachTaken, Singly}
 
 -- ---- one reading
 
-pub refused-same : (r : Reading) (w : World) (n : ℕ) → hear (w .clock) (w .inputs) r ≡ refused n → readingStep r w ≡ record { state = w; answer = took 0 n }
+pub refused-same : (r : Reading) (w : World) (n : ℕ) → hear (w .shared .clock) (w .shared .inputs) r ≡ refused n → readingStep r w ≡ record { state = w; answer = took 0 n }
 unfolding readingStep
 refused-same r w n h = rw h
 
-pub accepted-taken : (r : Reading) (w : World) (h : Heard) → hear (w .clock) (w .inputs) r ≡ accepted h → readingStep r w ≡ record { state = taken w r h; answer = took 1 0 }
+pub accepted-taken : (r : Reading) (w : World) (h : Heard) → hear (w .shared .clock) (w .shared .inputs) r ≡ accepted h → readingStep r w ≡ record { state = taken w r h; answer = took 1 0 }
 unfolding readingStep
 accepted-taken r w h e = rw e
 
@@ -101,8 +101,8 @@ hear-numbered : (clock : ℕ) (i : Inputs) (r : Reading) → Numbered (hear cloc
 unfolding hear
 hear-numbered clock i r = either (badTime clock (r .time)) _ _ (no _ 1 (omega arith)) (by-numbered (r .measured) i r)
 
-pub refused-some : (r : Reading) (w : World) (n : ℕ) → hear (w .clock) (w .inputs) r ≡ refused n → 0 < n
-refused-some r w n h = numberIn Heard n (subst (λ (x : Outcome Heard). Numbered x) h (hear-numbered (w .clock) (w .inputs) r))
+pub refused-some : (r : Reading) (w : World) (n : ℕ) → hear (w .shared .clock) (w .shared .inputs) r ≡ refused n → 0 < n
+refused-some r w n h = numberIn Heard n (subst (λ (x : Outcome Heard). Numbered x) h (hear-numbered (w .shared .clock) (w .shared .inputs) r))
 
 -- ---- a table
 
@@ -126,7 +126,7 @@ counted-none j w =
     }
 
 module _ (r : Reading) (rs : List Reading) (j : ℕ) (w : World) where
-  counted-more : (h : Heard) → hear (w .clock) (w .inputs) r ≡ accepted h → Counted rs (suc j) (taken w r h) → Counted (r ∷ rs) j w
+  counted-more : (h : Heard) → hear (w .shared .clock) (w .shared .inputs) r ≡ accepted h → Counted rs (suc j) (taken w r h) → Counted (r ∷ rs) j w
   unfolding tableFrom
   counted-more h e t =
       let s = accepted-taken r w h e in
@@ -147,7 +147,7 @@ module _ (r : Reading) (rs : List Reading) (j : ℕ) (w : World) where
             };
       }
 
-  counted-stop : (n : ℕ) → hear (w .clock) (w .inputs) r ≡ refused n → Counted (r ∷ rs) j w
+  counted-stop : (n : ℕ) → hear (w .shared .clock) (w .shared .inputs) r ≡ refused n → Counted (r ∷ rs) j w
   unfolding tableFrom
   counted-stop n e =
       let some : 0 < n = refused-some r w n e in
@@ -175,7 +175,7 @@ by-outcome (refused n) f g = g n refl
 pub counted : (rs : List Reading) (j : ℕ) (w : World) → Counted rs j w
 counted [] j w = counted-none j w
 counted (r ∷ rs) j w =
-    by-outcome (hear (w .clock) (w .inputs) r)
+    by-outcome (hear (w .shared .clock) (w .shared .inputs) r)
     (λ h e. counted-more r rs j w h e (counted rs (suc j) (taken w r h)))
     (λ n e. counted-stop r rs j w n e)
 

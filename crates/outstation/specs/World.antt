@@ -20,6 +20,14 @@ use Rattle.outstation.specs.declared.Outstation.{Outstation}
 use Rattle.outstation.specs.declared.Setup.{Setup}
 use Rattle.outstation.specs.Setup.{binaryClasses, analogSetups}
 
+-- what all masters share: the times that are set up, the number of outputs, the clock and the points
+pub record Shared : Type 0 where
+  pub armTime : ℕ
+  pub confirmTime : ℕ
+  pub outputs : ℕ
+  pub clock : ℕ
+  pub inputs : Inputs
+
 -- the exchange with the master: IIN1.7, the awaited confirmation, the last accepted request with its answer, the select latch
 pub record Exchange : Type 0 where
   pub restarted : Bool
@@ -27,14 +35,36 @@ pub record Exchange : Type 0 where
   pub last : Memory
   pub latch : Selection
 
-pub record World : Type 0 where
-  pub armTime : ℕ
-  pub confirmTime : ℕ
-  pub outputs : ℕ
-  pub clock : ℕ
-  pub inputs : Inputs
+-- what belongs to one master: the events held for it with IIN2.3, and the exchange with it
+pub record Master : Type 0 where
   pub queue : Queue
   pub exchange : Exchange
+
+pub record World : Type 0 where
+  pub shared : Shared
+  pub master : Master
+
+-- ---- one part set, all else as it was
+
+abbrev pub withClock : ℕ → Shared → Shared
+withClock time s = record { armTime = s .armTime; confirmTime = s .confirmTime; outputs = s .outputs; clock = time; inputs = s .inputs }
+
+abbrev pub withInputs : Inputs → Shared → Shared
+withInputs i s = record { armTime = s .armTime; confirmTime = s .confirmTime; outputs = s .outputs; clock = s .clock; inputs = i }
+
+abbrev pub withQueue : Queue → Master → Master
+withQueue k m = record { queue = k; exchange = m .exchange }
+
+abbrev pub withExchange : Exchange → Master → Master
+withExchange x m = record { queue = m .queue; exchange = x }
+
+abbrev pub withShared : Shared → World → World
+withShared s w = record { shared = s; master = w .master }
+
+abbrev pub withMaster : Master → World → World
+withMaster m w = record { shared = w .shared; master = m }
+
+-- ---- the outstation's
 
 unfoldable pub exchangeOf : Session → Exchange
 exchangeOf s = record { restarted = s .restarted; wait = s .wait; last = lastOf (s .last); latch = latchOf (s .latch) }
@@ -42,13 +72,15 @@ exchangeOf s = record { restarted = s .restarted; wait = s .wait; last = lastOf 
 abbrev pub world : Outstation → World
 world o =
     record {
-      armTime = o .«arm_time»;
-      confirmTime = o .«confirm_time»;
-      outputs = o .outputs;
-      clock = o .clock;
-      inputs = inputs (o .points);
-      queue = queue (o .buffer);
-      exchange = exchangeOf (o .session);
+      shared =
+          record {
+            armTime = o .«arm_time»;
+            confirmTime = o .«confirm_time»;
+            outputs = o .outputs;
+            clock = o .clock;
+            inputs = inputs (o .points);
+          };
+      master = record { queue = queue (o .buffer); exchange = exchangeOf (o .session) };
     }
 
 -- ---- no count passes its array: from restart on this holds after every call, so a host that prints the counts may rely on it
@@ -74,13 +106,15 @@ freshExchange = record { restarted = true; wait = Idle; last = nothing; latch = 
 unfoldable pub restarted : Setup → World
 restarted u =
     record {
-      armTime = u .«arm_time»;
-      confirmTime = u .«confirm_time»;
-      outputs = u .outputs;
-      clock = 0;
-      inputs = record { binaries = map freshBinary (binaryClasses u); analogs = map freshAnalog (analogSetups u) };
-      queue = record { held = []; overflow = false };
-      exchange = freshExchange;
+      shared =
+          record {
+            armTime = u .«arm_time»;
+            confirmTime = u .«confirm_time»;
+            outputs = u .outputs;
+            clock = 0;
+            inputs = record { binaries = map freshBinary (binaryClasses u); analogs = map freshAnalog (analogSetups u) };
+          };
+      master = record { queue = record { held = []; overflow = false }; exchange = freshExchange };
     }
 
 -- a setup with no points and no outputs: what a refused setup is replaced by, so that nothing can be reported or operated
