@@ -25,6 +25,7 @@ ghost use Rattle.link.specs.Station.{
 };
 
 // The addresses of the station and of its master.
+#[repr(C)]
 pub struct Station {
     pub own: u16,
     pub master: u16,
@@ -43,6 +44,7 @@ pub const NOT_SUPPORTED: u8 = 0x0F;
 pub const USER_DATA: u8 = 0x44;
 
 // The line record, kept by the host: counts of accepted frames and of refusals 11 to 15 and 17.
+#[repr(C)]
 pub struct LineRecord {
     pub accepted: u16,
     pub short: u16,

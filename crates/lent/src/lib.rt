@@ -1,0 +1,315 @@
+// The outstation in words that the host lends, and a small head by value: one reading.
+ghost use mathlib.Core.Path.{_≡_};
+ghost use Prim.Native.Nat.{_<_, _^_, min};
+ghost use Rattle.laws.specs.Limits.{pointsMax};
+ghost use Rattle.points.specs.Reading.{analogTakenOf};
+ghost use Rattle.words.specs.Numbers.{holds};
+ghost use Rattle.outstation.specs.Readings.{onAnalog, hearBy};
+ghost use Rattle.lent.specs.Lent.{ReadingDid, waitOf, statusOf, measuredOf, readingOf};
+ghost use Rattle.lent.specs.Hearing.{BinaryDid, AnalogDid, TakenDid};
+use application::ApplicationSequence;
+use event_store::BufferStatus;
+use event_store::EVENT_WORDS;
+use events::CAPACITY;
+use events::Event;
+use events::Shown;
+use outstation::Measured;
+use outstation::Reading;
+use outstation::Wait;
+use point_store::ANALOG_WORDS;
+use point_store::BINARY_WORDS;
+use points::AnalogTaken;
+use points::BinaryTaken;
+
+// All of the state that is no array. A truth is any number but 0. So many binaries and analogs are installed, so many events held; of the lent bytes the first
+// so many are the last request, its answer, and the latch's objects. `wait_kind` 0: nothing is awaited.
+#[repr(C)]
+pub struct Head {
+    pub arm_time: u64,
+    pub confirm_time: u64,
+    pub clock: u64,
+    pub wait_time: u64,
+    pub latch_time: u64,
+    pub binary_count: usize,
+    pub analog_count: usize,
+    pub count: usize,
+    pub request_len: usize,
+    pub answer_len: usize,
+    pub latch_len: usize,
+    pub outputs: u16,
+    pub overflow: u8,
+    pub restarted: u8,
+    pub wait_kind: u8,
+    pub wait_sequence: u8,
+    pub wait_shown: u8,
+    pub wait_since: u8,
+    pub last_held: u8,
+    pub latch_armed: u8,
+    pub latch_sequence: u8,
+}
+
+// What a reading comes to: the refusal's number, 0 where it was taken.
+#[repr(C)]
+pub struct Took {
+    pub head: Head,
+    pub refusal: u8,
+}
+
+pub fn truth(n: u8) -> bool
+    ensures { λ r. ⌜ r ≡ holds n ⌝ }
+{
+    words::truth(n as u32)
+}
+
+pub fn truth_byte(b: bool) -> u8
+    ensures { λ r. ⌜ holds r ≡ b ⌝ }
+{
+    if b { 1 } else { 0 }
+}
+
+// How many events are held, and whether some were dropped.
+pub fn status_of(h: Head) -> BufferStatus
+    ensures { λ r. ⌜ r ≡ statusOf h ⌝ }
+{
+    BufferStatus {
+        count: h.count,
+        overflow: truth(h.overflow),
+    }
+}
+
+// The awaited confirmation.
+pub fn wait_of(h: Head) -> Wait
+    ensures { λ r. ⌜ r ≡ waitOf h ⌝ }
+{
+    if h.wait_kind == 0 {
+        return Wait::Idle;
+    }
+    Wait::Awaiting {
+        sequence: ApplicationSequence(h.wait_sequence),
+        time: h.wait_time,
+        shown: truth(h.wait_shown),
+        since: truth(h.wait_since),
+    }
+}
+
+// A reading that is taken, its point being stored: the clock, and the event where it raises one. A drop while a response awaits
+// confirmation is noted; while none does, the note says nothing.
+fn taken(h: Head, held: &mut [u64; EVENT_WORDS], time: u64, raised: bool, e: Event) -> Head
+    requires { ⌜ e .time < 2 ^ 48 ⌝ }
+    ensures { λ r. ⌜ TakenDid h (now (held .entry)) time raised e r (now (held .exit)) ⌝ }
+{
+    let mut next = h;
+    next.clock = time;
+    if raised {
+        let t = event_store::push(held, status_of(h), e);
+        next.count = t.count;
+        next.overflow = truth_byte(t.overflow);
+        if h.count < CAPACITY {
+            return next;
+        }
+        next.wait_since = 1;
+        return next;
+    }
+    next
+}
+
+fn hear_binary(
+    h: Head,
+    binaries: &mut [u32; BINARY_WORDS],
+    held: &mut [u64; EVENT_WORDS],
+    r: Reading,
+    state: bool,
+) -> Took
+    requires { ⌜ r .time < 2 ^ 48 ⌝ }
+    ensures { λ t. ⌜ BinaryDid h (now (binaries .entry)) (now (held .entry)) r (λ i. hearBy (Measured.State state) i r) (t .refusal) (t .head) (now (binaries .exit)) (now (held .exit)) ⌝ }
+{
+    let n = points::installed(h.binary_count);
+    let i = r.point as usize;
+    if i < n {
+        let t = points::read_binary(point_store::load_binary(binaries, i), state, r.flags);
+        match t {
+            BinaryTaken::Taken(q, raised) => {
+                point_store::store_binary(binaries, i, q);
+                let s = Shown::State(q.state);
+                let e = Event {
+                    time: r.time,
+                    shown: s,
+                    point: r.point,
+                    flags: q.flags,
+                    class: q.class,
+                };
+                let next = taken(h, held, r.time, raised, e);
+                Took {
+                    head: next,
+                    refusal: 0,
+                }
+            }
+            BinaryTaken::HostFlags => Took {
+                head: h,
+                refusal: 4,
+            },
+        }
+    } else {
+        Took {
+            head: h,
+            refusal: 2,
+        }
+    }
+}
+
+// What an analog reading comes to.
+fn hear_analog(
+    h: Head,
+    analogs: &mut [u32; ANALOG_WORDS],
+    held: &mut [u64; EVENT_WORDS],
+    r: Reading,
+    t: AnalogTaken,
+) -> Took
+    requires { ⌜ (r .time < 2 ^ 48) × (r .point < min (h .«analog_count») pointsMax) ⌝ }
+    ensures { λ q. ⌜ AnalogDid h (now (analogs .entry)) (now (held .entry)) r (λ i. onAnalog i r (analogTakenOf t)) (q .refusal) (q .head) (now (analogs .exit)) (now (held .exit)) ⌝ }
+{
+    match t {
+        AnalogTaken::Taken(q, raised) => {
+            let i = r.point as usize;
+            point_store::store_analog(analogs, i, q);
+            let v = q.value;
+            let s = Shown::Analog(v);
+            let e = Event {
+                time: r.time,
+                shown: s,
+                point: r.point,
+                flags: q.flags,
+                class: q.class,
+            };
+            let next = taken(h, held, r.time, raised, e);
+            Took {
+                head: next,
+                refusal: 0,
+            }
+        }
+        AnalogTaken::OtherKind => Took {
+            head: h,
+            refusal: 2,
+        },
+        AnalogTaken::NotFinite => Took {
+            head: h,
+            refusal: 3,
+        },
+        AnalogTaken::HostFlags => Took {
+            head: h,
+            refusal: 4,
+        },
+    }
+}
+
+fn hear_whole(
+    h: Head,
+    analogs: &mut [u32; ANALOG_WORDS],
+    held: &mut [u64; EVENT_WORDS],
+    r: Reading,
+    z: i32,
+) -> Took
+    requires { ⌜ r .time < 2 ^ 48 ⌝ }
+    ensures { λ q. ⌜ AnalogDid h (now (analogs .entry)) (now (held .entry)) r (λ i. hearBy (Measured.Whole z) i r) (q .refusal) (q .head) (now (analogs .exit)) (now (held .exit)) ⌝ }
+{
+    let n = points::installed(h.analog_count);
+    let i = r.point as usize;
+    if i < n {
+        let t = points::read_whole(point_store::load_analog(analogs, i), z, r.flags);
+        return hear_analog(h, analogs, held, r, t);
+    }
+    Took {
+        head: h,
+        refusal: 2,
+    }
+}
+
+fn hear_real(
+    h: Head,
+    analogs: &mut [u32; ANALOG_WORDS],
+    held: &mut [u64; EVENT_WORDS],
+    r: Reading,
+    x: f32,
+) -> Took
+    requires { ⌜ r .time < 2 ^ 48 ⌝ }
+    ensures { λ q. ⌜ AnalogDid h (now (analogs .entry)) (now (held .entry)) r (λ i. hearBy (Measured.Real x) i r) (q .refusal) (q .head) (now (analogs .exit)) (now (held .exit)) ⌝ }
+{
+    let n = points::installed(h.analog_count);
+    let i = r.point as usize;
+    if i < n {
+        let t = points::read_float(point_store::load_analog(analogs, i), x, r.flags);
+        return hear_analog(h, analogs, held, r, t);
+    }
+    Took {
+        head: h,
+        refusal: 2,
+    }
+}
+
+// One reading: refused and nothing changed, or taken.
+pub fn reading(
+    h: Head,
+    binaries: &mut [u32; BINARY_WORDS],
+    analogs: &mut [u32; ANALOG_WORDS],
+    held: &mut [u64; EVENT_WORDS],
+    r: Reading,
+) -> Took
+    ensures { λ t. ⌜ ReadingDid h (record { binaries = now (binaries .entry); analogs = now (analogs .entry); held = now (held .entry) }) r (t .refusal) (t .head) (record { binaries = now (binaries .exit); analogs = now (analogs .exit); held = now (held .exit) }) ⌝ }
+{
+    if outstation::bad_time(h.clock, r.time) {
+        return Took {
+            head: h,
+            refusal: 1,
+        };
+    }
+    let m = r.measured;
+    match m {
+        Measured::State(state) => hear_binary(h, binaries, held, r, state),
+        Measured::Whole(z) => hear_whole(h, analogs, held, r, z),
+        Measured::Real(x) => hear_real(h, analogs, held, r, x),
+    }
+}
+
+// ---- for a host in C
+
+// A reading as numbers. Kind 0: a binary's state; 1: a whole reading; any other: a float's.
+#[repr(C)]
+pub struct ReadingWords {
+    pub time: u64,
+    pub bits: u32,
+    pub point: u16,
+    pub kind: u8,
+    pub flags: u8,
+}
+
+fn measured_of(kind: u8, bits: u32) -> Measured
+    ensures { λ r. ⌜ r ≡ measuredOf kind bits ⌝ }
+{
+    if kind == 0 {
+        return Measured::State(words::truth(bits));
+    }
+    if kind == 1 {
+        return Measured::Whole(words::signed(bits));
+    }
+    Measured::Real(words::float(bits))
+}
+
+#[no_mangle]
+pub extern "C" fn reading_from_c(
+    h: Head,
+    binaries: &mut [u32; BINARY_WORDS],
+    analogs: &mut [u32; ANALOG_WORDS],
+    held: &mut [u64; EVENT_WORDS],
+    w: ReadingWords,
+) -> Took
+    ensures { λ t. ⌜ ReadingDid h (record { binaries = now (binaries .entry); analogs = now (analogs .entry); held = now (held .entry) }) (readingOf w) (t .refusal) (t .head) (record { binaries = now (binaries .exit); analogs = now (analogs .exit); held = now (held .exit) }) ⌝ }
+{
+    let m = measured_of(w.kind, w.bits);
+    let r = Reading {
+        time: w.time,
+        point: w.point,
+        measured: m,
+        flags: w.flags,
+    };
+    reading(h, binaries, analogs, held, r)
+}
