@@ -1,4 +1,4 @@
-// The outstation in words that the host lends, and a small head by value: one reading.
+// The outstation in memory that the host lends, and a small head by value: one reading.
 ghost use mathlib.Core.Path.{_≡_};
 ghost use Prim.Native.Nat.{_<_, _^_, min};
 ghost use Rattle.laws.specs.Limits.{pointsMax};
@@ -21,8 +21,8 @@ use point_store::BINARY_WORDS;
 use points::AnalogTaken;
 use points::BinaryTaken;
 
-// All of the state that is no array. A truth is any number but 0. So many binaries and analogs are installed, so many events held; of the lent bytes the first
-// so many are the last request, its answer, and the latch's objects. `wait_kind` 0: nothing is awaited.
+// All of the state that is no array. `count` events are held; of the lent bytes the first `request_len`, `answer_len` and `latch_len` are the
+// last request, its answer and the select latch's objects. A truth is any number but 0. `wait_kind` 0: nothing is awaited.
 #[repr(C)]
 pub struct Head {
     pub arm_time: u64,
@@ -55,12 +55,14 @@ pub struct Took {
     pub refusal: u8,
 }
 
+// Any number but 0 is true.
 pub fn truth(n: u8) -> bool
     ensures { λ r. ⌜ r ≡ holds n ⌝ }
 {
     words::truth(n as u32)
 }
 
+// 1 or 0.
 pub fn truth_byte(b: bool) -> u8
     ensures { λ r. ⌜ holds r ≡ b ⌝ }
 {
@@ -294,6 +296,7 @@ fn measured_of(kind: u8, bits: u32) -> Measured
     Measured::Real(words::float(bits))
 }
 
+// One reading, as `reading`.
 #[no_mangle]
 pub extern "C" fn reading_from_c(
     h: Head,
