@@ -87,7 +87,7 @@ Gives u rows = answersTo (map (λ (r : Row). r .call) rows) (restarted u) ≡ ma
 
 -- the number of events held after these rows
 abbrev pub heldAfter : Setup → List Row → ℕ
-heldAfter u rows = length (worldAfter (map (λ (r : Row). r .call) rows) (restarted u) .queue .held)
+heldAfter u rows = length (worldAfter (map (λ (r : Row). r .call) rows) (restarted u) .master .queue .held)
 
 -- ---- the table
 

@@ -61,7 +61,7 @@ sayings (c ∷ cs) b = enter c b .said ∷ sayings cs (enter c b .book)
 
 -- one event was raised, carried and released; the wrong CONFIRM was refused
 run :
-    (bookAfter calls (opened oneBinary) .rows
+    (bookAfter calls (opened oneBinary) .master .rows
     ≡ record { event = record { point = 0; shown = State true; flags = 1; time = 1000; class = 1 }; mark = released } ∷ [])
     × (sayings calls (opened oneBinary)
     ≡ takes 1 0 ∷ takes 1 0 ∷ carries (0 ∷ []) [] ∷ refuses 32 ∷ accepts ∷ [])

@@ -167,7 +167,7 @@ numbered-steps =
     }
 
 abbrev pub NumberedBy : Book → List Happening → Type 0
-NumberedBy b h = Numbered (b .wait) (b .rows) h
+NumberedBy b h = Numbered (b .master .wait) (b .master .rows) h
 
 pub enter-numbered : (c : Call) (b : Book) (h : List Happening) → NumberedBy b h → NumberedBy (B.enter c b .book) (B.enter c b .news ++ h)
 enter-numbered c b h k = enter-on NumberedOf numbered-steps c b h k

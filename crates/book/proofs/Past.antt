@@ -289,7 +289,7 @@ kept-steps =
     }
 
 abbrev pub KeptBy : Book → List Happening → Type 0
-KeptBy b h = Kept (b .wait) (b .rows) (b .warning) (b .built) h
+KeptBy b h = Kept (b .master .wait) (b .master .rows) (b .master .warning) (b .master .built) h
 
 pub enter-kept : (c : Call) (b : Book) (h : List Happening) → KeptBy b h → KeptBy (B.enter c b .book) (B.enter c b .news ++ h)
 enter-kept c b h k = enter-on Kept kept-steps c b h k

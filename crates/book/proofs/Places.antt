@@ -394,7 +394,7 @@ placing-steps =
     }
 
 abbrev pub PlacingBy : Book → List Happening → Type 0
-PlacingBy b h = Placing (b .wait) (b .rows) (b .built) h
+PlacingBy b h = Placing (b .master .wait) (b .master .rows) (b .master .built) h
 
 pub enter-placing : (c : Call) (b : Book) (h : List Happening) → PlacingBy b h → PlacingBy (B.enter c b .book) (B.enter c b .news ++ h)
 enter-placing c b h k = enter-on PlacingOf placing-steps c b h k

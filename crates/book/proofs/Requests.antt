@@ -123,9 +123,9 @@ pub record Ends (k : Queue) (d : Deed) : Type 0 where
   pub queue : d .queue ≡ cleared k
   pub wait : d .wait ≡ Idle
 
-pub deed-ends : (w : World) (q function time : ℕ) (o : List ℕ) → Ends (w .queue) (deedBy w q function time o)
+pub deed-ends : (w : World) (q function time : ℕ) (o : List ℕ) → Ends (w .master .queue) (deedBy w q function time o)
 deed-ends w q function time o =
-    let P : Deed → Type 0 = Ends (w .queue) in
+    let P : Deed → Type 0 = Ends (w .master .queue) in
     split P (eqb function 2) (λ _. record { queue = refl; wait = refl })
     (λ _. split P (eqb function 3) (λ _. record { queue = refl; wait = refl })
     (λ _. split P (eqb function 4) (λ _. record { queue = refl; wait = refl })
@@ -169,8 +169,8 @@ pub deed-bears : (w : World) (q function time : ℕ) (o : List ℕ) → eqb func
     → Bears (saidOf function o) (deedBy w q function time o .objects)
 unfolding saidOf
 deed-bears w q function time o t₆ =
-    let echoed : (g : ControlFunction) → isUnanswered g ≡ false → Echo (formed o) o (effectOf (w .outputs) (w .armTime) (w .exchange .latch) g q time o .echo)
-    = λ g u. echo-of (w .outputs) (w .armTime) (w .exchange .latch) g u q time o in
+    let echoed : (g : ControlFunction) → isUnanswered g ≡ false → Echo (formed o) o (effectOf (w .shared .outputs) (w .shared .armTime) (w .master .exchange .latch) g q time o .echo)
+    = λ g u. echo-of (w .shared .outputs) (w .shared .armTime) (w .master .exchange .latch) g u q time o in
     by (eqb function 2)
     (λ t. rw (eqb-true function 2 t) refl)
     (λ t₂. by (eqb function 3)

@@ -65,24 +65,24 @@ latchFor (selected q t o) = record { armed = true; sequence = record { 0 = q }; 
 abbrev pub outstationFor : World → Outstation
 outstationFor w =
     record {
-      «arm_time» = w .armTime;
-      «confirm_time» = w .confirmTime;
-      outputs = w .outputs;
-      clock = w .clock;
+      «arm_time» = w .shared .armTime;
+      «confirm_time» = w .shared .confirmTime;
+      outputs = w .shared .outputs;
+      clock = w .shared .clock;
       points =
           record {
-            binaries = padded pointsMax noBinary (w .inputs .binaries);
-            «binary_count» = length (w .inputs .binaries);
-            analogs = padded pointsMax noAnalog (w .inputs .analogs);
-            «analog_count» = length (w .inputs .analogs);
+            binaries = padded pointsMax noBinary (w .shared .inputs .binaries);
+            «binary_count» = length (w .shared .inputs .binaries);
+            analogs = padded pointsMax noAnalog (w .shared .inputs .analogs);
+            «analog_count» = length (w .shared .inputs .analogs);
           };
-      buffer = record { held = padded eventsMax noHeld (w .queue .held); count = length (w .queue .held); overflow = w .queue .overflow };
+      buffer = record { held = padded eventsMax noHeld (w .master .queue .held); count = length (w .master .queue .held); overflow = w .master .queue .overflow };
       session =
           record {
-            restarted = w .exchange .restarted;
-            wait = w .exchange .wait;
-            last = lastFor (w .exchange .last);
-            latch = latchFor (w .exchange .latch);
+            restarted = w .master .exchange .restarted;
+            wait = w .master .exchange .wait;
+            last = lastFor (w .master .exchange .last);
+            latch = latchFor (w .master .exchange .latch);
           };
     }
 
@@ -100,11 +100,11 @@ pub world-for : (w : World) → world (outstationFor w) ≡ w
 unfolding inputs queue exchangeOf
 world-for w =
     rw (
-      take-append-seam (w .inputs .binaries) (replicate (pointsMax - length (w .inputs .binaries)) noBinary),
-      take-append-seam (w .inputs .analogs) (replicate (pointsMax - length (w .inputs .analogs)) noAnalog),
-      take-append-seam (w .queue .held) (replicate (eventsMax - length (w .queue .held)) noHeld),
-      last-for (w .exchange .last),
-      latch-for (w .exchange .latch),
+      take-append-seam (w .shared .inputs .binaries) (replicate (pointsMax - length (w .shared .inputs .binaries)) noBinary),
+      take-append-seam (w .shared .inputs .analogs) (replicate (pointsMax - length (w .shared .inputs .analogs)) noAnalog),
+      take-append-seam (w .master .queue .held) (replicate (eventsMax - length (w .master .queue .held)) noHeld),
+      last-for (w .master .exchange .last),
+      latch-for (w .master .exchange .latch),
     )
 
 -- the call c of the outstation for w, which leaves one whose counts do not pass their arrays: so what is padded has the array's length
@@ -172,13 +172,15 @@ all256 carried = events carried 226 1 true ++ newest
 abbrev pub stateAt : (clock : ℕ) → List Held → (overflow : Bool) → Exchange → World
 stateAt clock held overflow exchange =
     record {
-      armTime = 5000;
-      confirmTime = 5000;
-      outputs = 16;
-      clock = clock;
-      inputs = record { binaries = record { class = 1; seen = true; state = true; flags = 1; reported = 1 } ∷ []; analogs = [] };
-      queue = record { held = held; overflow = overflow };
-      exchange = exchange;
+      shared =
+          record {
+            armTime = 5000;
+            confirmTime = 5000;
+            outputs = 16;
+            clock = clock;
+            inputs = record { binaries = record { class = 1; seen = true; state = true; flags = 1; reported = 1 } ∷ []; analogs = [] };
+          };
+      master = record { queue = record { held = held; overflow = overflow }; exchange = exchange };
     }
 
 abbrev pub exchangeWith : (restarted : Bool) → D.Wait → Memory → Exchange
@@ -298,7 +300,7 @@ readAnswer control = answers (control ∷ 0x81 ∷ 0x82 ∷ 0x08 ∷ eventsBytes
 
 -- of any state behind the table, by the events that are marked
 module _ (clock time q : ℕ) (f : List ℕ) (held after : List Held) (x : Exchange) where
-  read-at : R.badTime clock time ≡ false → Q.ask (stateAt clock held true x .inputs) f ≡ Q.reads q (eventsOf 1 ∷ [])
+  read-at : R.badTime clock time ≡ false → Q.ask (stateAt clock held true x .shared .inputs) f ≡ Q.reads q (eventsOf 1 ∷ [])
       → K.carry class1 (E.emptyPack 2044) (map (K.marked false) held) ≡ after
       → step (fragment time f 2048) (stateAt clock held true x)
       ≡ record {
@@ -310,7 +312,7 @@ module _ (clock time q : ℕ) (f : List ℕ) (held after : List Held) (x : Excha
 
 -- the classes are read from the state's own inputs, whatever it holds
 abbrev pub points : Inputs
-points = stateAt 0 [] false (exchangeWith true Idle nothing) .inputs
+points = stateAt 0 [] false (exchangeWith true Idle nothing) .shared .inputs
 
 pub asks₁ : Q.ask points (read 0xC1) ≡ Q.reads 1 (eventsOf 1 ∷ [])
 unfolding Q.ask F.classified F.malformed A.headersOf H.headerOf H.objectOf H.classHeader A.asksFor staticBytes rangeBytes pointObjects encoded runs allBytes
@@ -345,7 +347,7 @@ by-read₁ =
 pub by-read₂ : step (fragment 8000 (read 0xC2) 2048) w₂ ≡ record { state = w₄; answer = readAnswer 0xE2 }
 unfolding I.responseOf
 by-read₂ =
-    read-at 2000 8000 2 (read 0xC2) (all256 true) (all256 true) (w₂ .exchange) (in-time .1) asks₂
+    read-at 2000 8000 2 (read 0xC2) (all256 true) (all256 true) (w₂ .master .exchange) (in-time .1) asks₂
     (ap (K.carry class1 (E.emptyPack 2044)) (unmarked-all true) ∙ marks)
     ∙ ap (λ (a : Answer). record { state = w₄; answer = a }) (read-bytes 2 0xE2 refl)
 
@@ -365,7 +367,7 @@ confirm-at held m = refl
 pub by-confirm : step (fragment 9000 (confirm 0xC2) 2048) w₄ ≡ record { state = w₅; answer = accepts }
 by-confirm =
     confirm-at (all256 true) (kept (read 0xC2) [])
-    ∙ ap (λ (l : List Held). record { state = stateAt 9000 l false (w₅ .exchange); answer = accepts }) waiting-30
+    ∙ ap (λ (l : List Held). record { state = stateAt 9000 l false (w₅ .master .exchange); answer = accepts }) waiting-30
 
 -- ---- WRITE, and its repeat
 

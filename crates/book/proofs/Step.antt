@@ -29,7 +29,7 @@ use Rattle.outstation.specs.declared.Setup.{Setup}
 use Rattle.outstation.specs.declared.Reading.{Reading}
 use Rattle.outstation.specs.declared.Wait as D
 use Rattle.outstation.specs.declared.Wait.the-variants.{Idle, Awaiting}
-use Rattle.outstation.specs.World.{World, restarted}
+use Rattle.outstation.specs.World.{World, withMaster, restarted}
 use Rattle.outstation.specs.Readings.{badTime, Heard, hear}
 use Rattle.read.specs.Response.{classesOf, roomBeside}
 use Rattle.outstation.specs.Requests.{Ask, malformed, confirms, reads, misreads, asks, ask, confirmed}
@@ -70,18 +70,24 @@ waitView shown rows (B.awaiting q t ws n k) = Awaiting (record { 0 = q }) t show
 abbrev pub view : Book → Extra → World
 view b x =
     record {
-      armTime = x .armTime;
-      confirmTime = b .confirmTime;
-      outputs = x .outputs;
-      clock = b .clock;
-      inputs = b .inputs;
-      queue = record { held = collect (waitRows (b .wait)) 0 (b .rows); overflow = b .warning };
-      exchange =
+      shared =
           record {
-            restarted = x .restarted;
-            wait = waitView (x .shown) (b .rows) (b .wait);
-            last = x .last;
-            latch = x .latch;
+            armTime = x .armTime;
+            confirmTime = b .shared .confirmTime;
+            outputs = x .outputs;
+            clock = b .shared .clock;
+            inputs = b .shared .inputs;
+          };
+      master =
+          record {
+            queue = record { held = collect (waitRows (b .master .wait)) 0 (b .master .rows); overflow = b .master .warning };
+            exchange =
+                record {
+                  restarted = x .restarted;
+                  wait = waitView (x .shown) (b .master .rows) (b .master .wait);
+                  last = x .last;
+                  latch = x .latch;
+                };
           };
     }
 
@@ -98,8 +104,8 @@ Stored (kept f answer) last = eqb (functionOf f) 1 ≡ false → again last ≡ 
 
 -- and the book's last request is the one that is kept, with its answer
 pub record Fits (b : Book) (x : Extra) (last : Answer) : Type 0 where
-  pub inv : Inv (b .wait) (b .rows) (b .warning) (x .shown)
-  pub request : lastBytes (x .last) ≡ b .last
+  pub inv : Inv (b .master .wait) (b .master .rows) (b .master .warning) (x .shown)
+  pub request : lastBytes (x .last) ≡ b .master .last
   pub stored : Stored (x .last) last
 
 pub record Sim (w : World) (b : Book) (last : Answer) : Type 0 where
@@ -110,7 +116,7 @@ pub record Sim (w : World) (b : Book) (last : Answer) : Type 0 where
 -- a step and an entry, h the history before the call and last the answer to the last request
 pub record Match (h : List Happening) (last : Answer) (r : Result) (e : Entry) : Type 0 where
   pub sim : Sim (r .state) (e .book) (keptBy (e .said) last (r .answer))
-  pub told : Told h last (e .book .rows) (e .said) (r .answer)
+  pub told : Told h last (e .book .master .rows) (e .said) (r .answer)
 
 -- ---- an event raised
 
@@ -150,20 +156,21 @@ module _ (w : B.Wait) (rows : List Row) (warning shown : Bool) (i : Inv w rows w
         quiet = λ a d. let z : true ≡ false = sym (since-dropped (waitFrom w) rows e (i .from)) ∙ d in cc;
       }
 
-raise-ok : (b : Book) (x : Extra) (last : Answer) (e : Event) → Fits b x last → Sim (S.raise e (view b x)) (B.enterEvent e b) last
+raise-ok : (b : Book) (x : Extra) (last : Answer) (e : Event) → Fits b x last
+    → Sim (withMaster (S.raise e (view b x .master)) (view b x)) (B.withMaster (B.enterEvent e (b .master)) b) last
 unfolding S.raise pushed B.enterEvent B.full
 raise-ok b x last e i =
-    let l : length (collect (waitRows (b .wait)) 0 (b .rows)) ≡ count rowHeld (b .rows) = length-collect (waitRows (b .wait)) 0 (b .rows) in
-    by (ltb (count rowHeld (b .rows)) eventsMax)
+    let l : length (collect (waitRows (b .master .wait)) 0 (b .master .rows)) ≡ count rowHeld (b .master .rows) = length-collect (waitRows (b .master .wait)) 0 (b .master .rows) in
+    by (ltb (count rowHeld (b .master .rows)) eventsMax)
     (λ t. rw (l, t) (record {
       extra = x;
-      is = rw (collect-held (b .wait) (b .rows) (b .warning) (x .shown) (i .inv) e, wait-held (x .shown) (b .rows) (b .wait) e (i .inv .from));
-      fits = record { inv = inv-held (b .wait) (b .rows) (b .warning) (x .shown) (i .inv) e; request = i .request; stored = i .stored };
+      is = rw (collect-held (b .master .wait) (b .master .rows) (b .master .warning) (x .shown) (i .inv) e, wait-held (x .shown) (b .master .rows) (b .master .wait) e (i .inv .from));
+      fits = record { inv = inv-held (b .master .wait) (b .master .rows) (b .master .warning) (x .shown) (i .inv) e; request = i .request; stored = i .stored };
     }))
     (λ t. rw (l, t) (record {
       extra = x;
-      is = rw (collect-dropped (b .wait) (b .rows) (b .warning) (x .shown) (i .inv) e, wait-dropped (x .shown) (b .rows) (b .wait) e (i .inv .from));
-      fits = record { inv = inv-dropped (b .wait) (b .rows) (b .warning) (x .shown) (i .inv) e; request = i .request; stored = i .stored };
+      is = rw (collect-dropped (b .master .wait) (b .master .rows) (b .master .warning) (x .shown) (i .inv) e, wait-dropped (x .shown) (b .master .rows) (b .master .wait) e (i .inv .from));
+      fits = record { inv = inv-dropped (b .master .wait) (b .master .rows) (b .master .warning) (x .shown) (i .inv) e; request = i .request; stored = i .stored };
     }))
 
 -- ---- readings
@@ -177,15 +184,16 @@ on-heard R (refused n) p q = q n
 taken-ok : (b : Book) (x : Extra) (last : Answer) (r : Reading) (a : Heard) → Fits b x last → Sim (S.taken (view b x) r a) (B.enterReading b r a) last
 unfolding S.takenWith B.enterReading
 taken-ok b x last r a i =
-    both (λ w b. Sim w b last) (a .raised)
-    (λ _. raise-ok (B.withInputs b (r .time) (a .inputs)) x last (a .event) (record { inv = i .inv; request = i .request; stored = i .stored }))
+    let b₁ = B.withShared (B.withInputs (a .inputs) (B.withClock (r .time) (b .shared))) b in
+    both (λ m n. Sim (withMaster m (view b₁ x)) (B.withMaster n b₁) last) (a .raised)
+    (λ _. raise-ok b₁ x last (a .event) (record { inv = i .inv; request = i .request; stored = i .stored }))
     (λ _. record { extra = x; is = refl; fits = record { inv = i .inv; request = i .request; stored = i .stored } })
 
 module _ (h : List Happening) (last : Answer) where
   reading-ok : (r : Reading) (b : Book) (x : Extra) → Fits b x last → Match h last (S.readingStep r (view b x)) (B.readingEntry r b)
   unfolding S.readingStep B.readingEntry
   reading-ok r b x i =
-      on-heard (Match h last) (hear (b .clock) (b .inputs) r)
+      on-heard (Match h last) (hear (b .shared .clock) (b .shared .inputs) r)
       (λ a. record { sim = taken-ok b x last r a i; told = refl })
       (λ n. record { sim = record { extra = x; is = refl; fits = i }; told = refl })
 
@@ -194,9 +202,9 @@ module _ (h : List Happening) (last : Answer) where
   unfolding S.tableFrom B.tableFrom
   table-ok [] k ns b x i = record { sim = record { extra = x; is = refl; fits = i }; told = refl }
   table-ok (r ∷ rs) k ns b x i =
-      on-heard (Match h last) (hear (b .clock) (b .inputs) r)
+      on-heard (Match h last) (hear (b .shared .clock) (b .shared .inputs) r)
       (λ a. let m = taken-ok b x last r a i in
-      rw (m .is) (table-ok rs (suc k) (B.readingNews b a ++ ns) (B.enterReading b r a) (m .extra) (m .fits)))
+      rw (m .is) (table-ok rs (suc k) (B.readingNews (b .master) a ++ ns) (B.enterReading b r a) (m .extra) (m .fits)))
       (λ n. record { sim = record { extra = x; is = refl; fits = i }; told = refl })
 
   refused-ok : (n : ℕ) (b : Book) (x : Extra) → Fits b x last → Match h last (S.refusal n (view b x)) (B.refusedEntry n b)
@@ -209,22 +217,12 @@ idle-inv rows warning = record { below = λ j h. let z : _≡_ {A = ℕ} 0 1 = c
 
 -- the book that a new request leaves
 abbrev afterRequest : Book → ℕ → List ℕ → B.Wait → ℕ → Book
-afterRequest b time f wait built =
-    record {
-      confirmTime = b .confirmTime;
-      clock = time;
-      inputs = b .inputs;
-      rows = b .rows;
-      wait = wait;
-      warning = b .warning;
-      last = f;
-      built = built;
-    }
+afterRequest b time f wait built = B.atTime time (B.withMaster (B.withWait wait (B.withRequest f built (b .master))) b)
 
 -- the outstation that it leaves, by what it does to the queue and the wait, and its answer a
 done-ok : (b : Book) (x : Extra) (time : ℕ) (f answer : List ℕ) (a : Answer) (d : Deed) (wait : B.Wait) (built : ℕ) (shown : Bool)
-    → d .queue ≡ record { held = collect (waitRows wait) 0 (b .rows); overflow = b .warning } → d .wait ≡ waitView shown (b .rows) wait
-    → Inv wait (b .rows) (b .warning) shown → Stored (kept f answer) a
+    → d .queue ≡ record { held = collect (waitRows wait) 0 (b .master .rows); overflow = b .master .warning } → d .wait ≡ waitView shown (b .master .rows) wait
+    → Inv wait (b .master .rows) (b .master .warning) shown → Stored (kept f answer) a
     → Sim (S.done (view b x) time f answer d) (afterRequest b time f wait built) a
 done-ok b x time f answer a d wait built shown queued waited inv stored =
     record {
@@ -281,77 +279,77 @@ module _ (q time : ℕ) (hs : List Header) (b : Book) (x : Extra) where
   deed = S.readDeed (view b x) q time hs
 
   abbrev newWait : B.Wait
-  newWait = cond (not (isNil (picked b hs)) || b .warning) (B.awaiting q time (picked b hs) (length (b .rows)) (b .built)) B.idle
+  newWait = B.readWait b q time hs
 
-  unmarked : map (marked false) (collect (waitRows (b .wait)) 0 (b .rows)) ≡ collect [] 0 (b .rows)
-  unmarked = collect-none (waitRows (b .wait)) 0 (b .rows)
+  unmarked : map (marked false) (collect (waitRows (b .master .wait)) 0 (b .master .rows)) ≡ collect [] 0 (b .master .rows)
+  unmarked = collect-none (waitRows (b .master .wait)) 0 (b .master .rows)
 
-  read-objects : deed .objects ≡ eventsBytes (map (eventAt (b .rows)) (picked b hs)) ++ staticBytes (b .inputs) hs
-  read-objects = rw (unmarked, carried-bytes, carried-events (classesOf hs) (emptyPack (roomBeside (b .inputs) hs)) [] 0 (b .rows) refl)
+  read-objects : deed .objects ≡ eventsBytes (map (eventAt (b .master .rows)) (picked b hs)) ++ staticBytes (b .shared .inputs) hs
+  read-objects = rw (unmarked, carried-bytes, carried-events (classesOf hs) (emptyPack (roomBeside (b .shared .inputs) hs)) [] 0 (b .master .rows) refl)
 
-  read-queue : deed .queue ≡ record { held = collect (waitRows newWait) 0 (b .rows); overflow = b .warning }
+  read-queue : deed .queue ≡ record { held = collect (waitRows newWait) 0 (b .master .rows); overflow = b .master .warning }
   read-queue =
-      rw (unmarked, carry-collect (classesOf hs) (emptyPack (roomBeside (b .inputs) hs)) 0 (b .rows))
-      (by (not (isNil (picked b hs)) || b .warning)
+      rw (unmarked, carry-collect (classesOf hs) (emptyPack (roomBeside (b .shared .inputs) hs)) 0 (b .master .rows))
+      (by (not (isNil (picked b hs)) || b .master .warning)
       (λ c. rw c)
-      (λ c. rw (c, isNil-nil (picked b hs) (nor-left (isNil (picked b hs)) (b .warning) c))))
+      (λ c. rw (c, isNil-nil (picked b hs) (nor-left (isNil (picked b hs)) (b .master .warning) c))))
 
-  read-wait : deed .wait ≡ waitView (b .warning) (b .rows) newWait
+  read-wait : deed .wait ≡ waitView (b .master .warning) (b .master .rows) newWait
   read-wait =
-      rw (unmarked, some-carried (classesOf hs) (emptyPack (roomBeside (b .inputs) hs)) (b .rows))
-      (by (not (isNil (picked b hs)) || b .warning) (λ c. rw (c, drop-length)) (λ c. rw c))
+      rw (unmarked, some-carried (classesOf hs) (emptyPack (roomBeside (b .shared .inputs) hs)) (b .master .rows))
+      (by (not (isNil (picked b hs)) || b .master .warning) (λ c. rw (c, drop-length)) (λ c. rw c))
 
-  read-inv : Inv newWait (b .rows) (b .warning) (b .warning)
+  read-inv : Inv newWait (b .master .rows) (b .master .warning) (b .master .warning)
   read-inv =
-      split (λ w. Inv w (b .rows) (b .warning) (b .warning)) (not (isNil (picked b hs)) || b .warning)
+      split (λ w. Inv w (b .master .rows) (b .master .warning) (b .master .warning)) (not (isNil (picked b hs)) || b .master .warning)
       (λ _. record {
-        below = λ j h. omega (arith, picks-below (classesOf hs) (emptyPack (roomBeside (b .inputs) hs)) j 0 (b .rows) h);
+        below = λ j h. omega (arith, picks-below (classesOf hs) (emptyPack (roomBeside (b .shared .inputs) hs)) j 0 (b .master .rows) h);
         from = le-refl _;
         quiet = λ h d. h;
       })
-      (λ _. record { below = idle-inv (b .rows) (b .warning) .below; from = omega arith; quiet = λ h d. h })
+      (λ _. record { below = idle-inv (b .master .rows) (b .master .warning) .below; from = omega arith; quiet = λ h d. h })
 
-  read-ok : (h : List Happening) (last : Answer) (f : List ℕ) → eqb (functionOf f) 1 ≡ true → ((b .warning ≡ true) ↔ Pending h)
+  read-ok : (h : List Happening) (last : Answer) (f : List ℕ) → eqb (functionOf f) 1 ≡ true → ((b .master .warning ≡ true) ↔ Pending h)
       → Match h last (S.readStep (view b x) q time f deed) (B.readEntry b q time f hs)
   unfolding S.readStep B.readEntry
   read-ok h last f t p =
       let a = answers (S.responseBytes q deed) [] in
       record {
-        sim = done-ok b x time f [] a deed newWait (suc (b .built)) (b .warning) read-queue read-wait read-inv (read-stored f [] a t);
-        told = building-of h q deed [] (eventsBytes (map (eventAt (b .rows)) (picked b hs)) ++ staticBytes (b .inputs) hs) read-objects p;
+        sim = done-ok b x time f [] a deed newWait (suc (b .master .built)) (b .master .warning) read-queue read-wait read-inv (read-stored f [] a t);
+        told = building-of h q deed [] (eventsBytes (map (eventAt (b .master .rows)) (picked b hs)) ++ staticBytes (b .shared .inputs) hs) read-objects p;
       }
 
 -- any other request that is no repeat; d is what it does
-module _ (h : List Happening) (last : Answer) (q time : ℕ) (f : List ℕ) (b : Book) (x : Extra) (d : Deed) (e : Ends (view b x .queue) d)
-    (p : (b .warning ≡ true) ↔ Pending h) where
-  other-queue : d .queue ≡ record { held = collect [] 0 (b .rows); overflow = b .warning }
-  other-queue = e .queue ∙ rw (collect-none (waitRows (b .wait)) 0 (b .rows))
+module _ (h : List Happening) (last : Answer) (q time : ℕ) (f : List ℕ) (b : Book) (x : Extra) (d : Deed) (e : Ends (view b x .master .queue) d)
+    (p : (b .master .warning ≡ true) ↔ Pending h) where
+  other-queue : d .queue ≡ record { held = collect [] 0 (b .master .rows); overflow = b .master .warning }
+  other-queue = e .queue ∙ rw (collect-none (waitRows (b .master .wait)) 0 (b .master .rows))
 
   other-sim : (answer : List ℕ) (a : Answer) (built : ℕ) → Stored (kept f answer) a
       → Sim (S.done (view b x) time f answer d) (afterRequest b time f B.idle built) a
   other-sim answer a built stored =
-      done-ok b x time f answer a d B.idle built true other-queue (e .wait) (idle-inv (b .rows) (b .warning)) stored
+      done-ok b x time f answer a d B.idle built true other-queue (e .wait) (idle-inv (b .master .rows) (b .master .warning)) stored
 
   misread-ok : d .objects ≡ [] → eqb (functionOf f) 1 ≡ true → Match h last (S.readStep (view b x) q time f d) (B.otherEntry b true B.plain time f)
   unfolding S.readStep B.otherEntry
   misread-ok o t =
       let a = answers (S.responseBytes q d) [] in
-      record { sim = other-sim [] a (suc (b .built)) (read-stored f [] a t); told = building-of h q d [] [] o (rw (e .queue) p) }
+      record { sim = other-sim [] a (suc (b .master .built)) (read-stored f [] a t); told = building-of h q d [] [] o (rw (e .queue) p) }
 
   -- function 6, and all others
   silent-ok : eqb (functionOf f) 6 ≡ true
       → Match h last (record { state = S.done (view b x) time f [] d; answer = silent (d .operated) }) (B.otherEntry b false B.unanswered time f)
   unfolding B.otherEntry
-  silent-ok t = record { sim = other-sim [] (silent (d .operated)) (b .built) (λ r. rw t); told = record { operated = d .operated; is = refl } }
+  silent-ok t = record { sim = other-sim [] (silent (d .operated)) (b .master .built) (λ r. rw t); told = record { operated = d .operated; is = refl } }
 
   answered-ok : (said : Said) → Bears said (d .objects) → eqb (functionOf f) 6 ≡ false
       → Match h last (record { state = S.done (view b x) time f (S.responseBytes q d) d; answer = answers (S.responseBytes q d) (d .operated) })
       (B.otherEntry b true said time f)
   unfolding B.otherEntry
   answered-ok said bears t =
-      let (same, told) = told-of h last (b .rows) said q d (d .operated) bears (rw (e .queue) p) in
+      let (same, told) = told-of h last (b .master .rows) said q d (d .operated) bears (rw (e .queue) p) in
       record {
-        sim = rw same (other-sim (S.responseBytes q d) (answers (S.responseBytes q d) (d .operated)) (suc (b .built)) (λ r. rw t));
+        sim = rw same (other-sim (S.responseBytes q d) (answers (S.responseBytes q d) (d .operated)) (suc (b .master .built)) (λ r. rw t));
         told = told;
       }
 
@@ -385,18 +383,18 @@ clear-eq false true w h = refl
 clear-eq false false w h = h refl refl
 
 module _ (h : List Happening) (last : Answer) where
-  confirmed-ok : (time q t : ℕ) (ws : List ℕ) (n k : ℕ) (b : Book) (x : Extra) → b .wait ≡ B.awaiting q t ws n k → Fits b x last
-      → Match h last (S.confirmedStep (view b x) time (x .shown) (dropSince n (b .rows))) (B.confirmedEntry b time ws n k)
+  confirmed-ok : (time q t : ℕ) (ws : List ℕ) (n k : ℕ) (b : Book) (x : Extra) → b .master .wait ≡ B.awaiting q t ws n k → Fits b x last
+      → Match h last (S.confirmedStep (view b x) time (x .shown) (dropSince n (b .master .rows))) (B.confirmedEntry b time ws n k)
   unfolding S.confirmedStep B.confirmedEntry
   confirmed-ok time q t ws n k b x e i =
       record {
         sim =
             record {
               extra = record { armTime = x .armTime; outputs = x .outputs; restarted = x .restarted; last = x .last; latch = x .latch; shown = true };
-              is = rw (e, keep-collect ws 0 (b .rows), clear-eq (x .shown) (dropSince n (b .rows)) (b .warning) (rw e at (i .inv .quiet)));
+              is = rw (e, keep-collect ws 0 (b .master .rows), clear-eq (x .shown) (dropSince n (b .master .rows)) (b .master .warning) (rw e at (i .inv .quiet)));
               fits =
                   record {
-                    inv = idle-inv (release ws 0 (b .rows)) (cond (dropSince n (b .rows)) (b .warning) false);
+                    inv = idle-inv (release ws 0 (b .master .rows)) (cond (dropSince n (b .master .rows)) (b .master .warning) false);
                     request = i .request;
                     stored = i .stored;
                   };
@@ -404,31 +402,31 @@ module _ (h : List Happening) (last : Answer) where
         told = refl;
       }
 
-  confirm-ok : (q : ℕ) (uns : Bool) (time : ℕ) (b : Book) (x : Extra) (w : B.Wait) → b .wait ≡ w → Fits b x last
-      → Match h last (S.confirmStep (view b x) (waitView (x .shown) (b .rows) w) q uns time) (B.confirmEntry b w q uns time)
+  confirm-ok : (q : ℕ) (uns : Bool) (time : ℕ) (b : Book) (x : Extra) (w : B.Wait) → b .master .wait ≡ w → Fits b x last
+      → Match h last (S.confirmStep (view b x) (waitView (x .shown) (b .master .rows) w) q uns time) (B.confirmEntry b w q uns time)
   unfolding S.confirmStep B.confirmEntry
   confirm-ok q uns time b x B.idle e i = refused-ok h last 32 b x i
   confirm-ok q uns time b x (B.awaiting q₁ t₁ ws n k) e i =
-      both (Match h last) (confirmed (b .confirmTime) q uns time q₁ t₁)
+      both (Match h last) (confirmed (b .shared .confirmTime) q uns time q₁ t₁)
       (λ _. confirmed-ok time q₁ t₁ ws n k b x e i)
       (λ _. refused-ok h last 32 b x i)
 
 -- ---- fragments
 
-module _ (h : List Happening) (last : Answer) (b : Book) (x : Extra) (i : Fits b x last) (p : (b .warning ≡ true) ↔ Pending h) where
-  ask-ok : (a : Ask) (time : ℕ) (f : List ℕ) → ask (b .inputs) f ≡ a → Match h last (S.onAsk a (view b x) time f) (B.askEntry a b time f)
+module _ (h : List Happening) (last : Answer) (b : Book) (x : Extra) (i : Fits b x last) (p : (b .master .warning ≡ true) ↔ Pending h) where
+  ask-ok : (a : Ask) (time : ℕ) (f : List ℕ) → ask (b .shared .inputs) f ≡ a → Match h last (S.onAsk a (view b x) time f) (B.askEntry a b time f)
   ask-ok malformed time f e = refused-ok h last 31 b x i
-  ask-ok (confirms q uns) time f e = confirm-ok h last q uns time b x (b .wait) refl i
-  ask-ok (reads q hs) time f e = read-ok q time hs b x h last f (reads-function (b .inputs) f q hs e) p
+  ask-ok (confirms q uns) time f e = confirm-ok h last q uns time b x (b .master .wait) refl i
+  ask-ok (reads q hs) time f e = read-ok q time hs b x h last f (reads-function (b .shared .inputs) f q hs e) p
   ask-ok (misreads q n) time f e =
       misread-ok h last q time f b x (S.plainDeed (view b x) (S.readFault n) (x .restarted)) (record { queue = refl; wait = refl }) p refl
-      (misreads-function (b .inputs) f q n e)
+      (misreads-function (b .shared .inputs) f q n e)
   ask-ok (asks q function) time f e =
-      let a = asks-inverse (b .inputs) f q function e in
-      let s : isRepeat (x .last) f ≡ same f (b .last) = rw (← i .request) (repeat-same (x .last) f (rw (a .is) (a .other)) (a .long)) in
+      let a = asks-inverse (b .shared .inputs) f q function e in
+      let s : isRepeat (x .last) f ≡ same f (b .master .last) = rw (← i .request) (repeat-same (x .last) f (rw (a .is) (a .other)) (a .long)) in
       let d = S.deedBy (view b x) q function time (objectsOf f) in
       rw s
-      (both (Match h last) (same f (b .last))
+      (both (Match h last) (same f (b .master .last))
       (λ t. repeat-ok h last function time f b x i (a .is) (a .other) (repeated (x .last) f (a .long) (rw (i .request) t)))
       (λ _. request-ok h last q time f b x d (deed-ends (view b x) q function time (objectsOf f)) p function (a .is)
       (deed-bears (view b x) q function time (objectsOf f))))
@@ -436,9 +434,9 @@ module _ (h : List Happening) (last : Answer) (b : Book) (x : Extra) (i : Fits b
   fragment-ok : (time : ℕ) (f : List ℕ) (room : ℕ) → Match h last (S.fragmentStep time f room (view b x)) (B.fragmentEntry time f room b)
   unfolding S.fragmentStep B.fragmentEntry
   fragment-ok time f room =
-      both (Match h last) (badTime (b .clock) time)
+      both (Match h last) (badTime (b .shared .clock) time)
       (λ _. refused-ok h last 1 b x i)
-      (λ _. both (Match h last) (ltb room fragmentMax) (λ _. refused-ok h last 33 b x i) (λ _. ask-ok (ask (b .inputs) f) time f refl))
+      (λ _. both (Match h last) (ltb room fragmentMax) (λ _. refused-ok h last 33 b x i) (λ _. ask-ok (ask (b .shared .inputs) f) time f refl))
 
   step-view : (c : Call) → Match h last (S.step c (view b x)) (B.enter c b)
   unfolding S.step B.enter
@@ -447,7 +445,7 @@ module _ (h : List Happening) (last : Answer) (b : Book) (x : Extra) (i : Fits b
   step-view (fragment time f room) = fragment-ok time f room
 
 -- one call, from any outstation that is a view of the book
-pub step-ok : (h : List Happening) (last : Answer) (c : Call) (w : World) (b : Book) → ((b .warning ≡ true) ↔ Pending h) → Sim w b last
+pub step-ok : (h : List Happening) (last : Answer) (c : Call) (w : World) (b : Book) → ((b .master .warning ≡ true) ↔ Pending h) → Sim w b last
     → Match h last (S.step c w) (B.enter c b)
 step-ok h last c w b p m = rw (m .is) (step-view h last b (m .extra) (m .fits) p c)
 

@@ -36,8 +36,8 @@ places (r ∷ rs) =
     [ held ↦ omega arith | released ↦ omega arith | dropped ↦ omega arith ]
 
 -- the warning stands exactly when a drop is pending
-warns : (b : Book) (h : List Happening) → KeptBy b h → (b .warning ≡ true) ↔ Pending h
-warns b h k = (k .warned, λ p. by (b .warning) (λ t. t) (λ t. absurd (k .clear t p)))
+warns : (b : Book) (h : List Happening) → KeptBy b h → (b .master .warning ≡ true) ↔ Pending h
+warns b h k = (k .warned, λ p. by (b .master .warning) (λ t. t) (λ t. absurd (k .clear t p)))
 
 placing-after : (cs : List Call) (b : Book) (h : List Happening) → PlacingBy b h → PlacingBy (bookAfter cs b) (historyAfter cs b h)
 placing-after [] b h p = p
@@ -71,14 +71,14 @@ module _ (O : Type 0) (worldOf : O → World) (did : O → Call → Answer → O
   demand3 u {o} {o₂} {cs} {ans} e r =
       let (ts, v) = all-told (opened u) [] (silent []) (rw e (start-ok u)) (opened-kept u) r in
       let b = bookAfter cs (opened u) in
-      let hs : worldOf o₂ .queue .held ≡ collect (waitRows (b .wait)) 0 (b .rows) = ap (λ (w : World). w .queue .held) (v .sim .is) in
+      let hs : worldOf o₂ .master .queue .held ≡ collect (waitRows (b .master .wait)) 0 (b .master .rows) = ap (λ (w : World). w .master .queue .held) (v .sim .is) in
       let p = placing-after cs (opened u) [] (opened-placing u) in
       let n = numbered-after cs (opened u) [] (opened-numbered u) in
       record {
         told = ts;
-        placed = λ i l. placed (b .wait) (b .rows) (b .built) (historyAfter cs (opened u) []) p (n .sound) i l;
-        holds = rw hs (events-collect (waitRows (b .wait)) 0 (b .rows));
-        places = rw (hs, length-collect) (places (b .rows));
+        placed = λ i l. placed (b .master .wait) (b .master .rows) (b .master .built) (historyAfter cs (opened u) []) p (n .sound) i l;
+        holds = rw hs (events-collect (waitRows (b .master .wait)) 0 (b .master .rows));
+        places = rw (hs, length-collect) (places (b .master .rows));
       }
 
 -- of the outstation's own states and contracts

@@ -53,70 +53,70 @@ heard-of P (refused n) p q = q n
 
 module _ (K : Wait → List Row → Bool → ℕ → List Happening → Type 0) where
   abbrev pub On : Book → List Happening → Type 0
-  On b h = K (b .wait) (b .rows) (b .warning) (b .built) h
+  On b h = K (b .master .wait) (b .master .rows) (b .master .warning) (b .master .built) h
 
   abbrev pub OnEntry : List Happening → Entry → Type 0
   OnEntry h e = On (e .book) (e .news ++ h)
 
 module _ (K : Wait → List Row → Bool → ℕ → List Happening → Type 0) (S : Steps K) where
-  heard-on : (r : Reading) (x : Heard) (b : Book) (h : List Happening) → On K b h → On K (B.enterReading b r x) (B.readingNews b x ++ h)
+  heard-on : (r : Reading) (x : Heard) (b : Book) (h : List Happening) → On K b h → On K (B.enterReading b r x) (B.readingNews (b .master) x ++ h)
   unfolding B.enterReading B.readingNews B.enterEvent B.full
   heard-on r x b h k =
       by (x .raised)
-      (λ t. by (ltb (count rowHeld (b .rows)) eventsMax)
-      (λ f. rw (t, f) (S .held (b .wait) (b .rows) (b .warning) (b .built) h (x .event) f k))
-      (λ f. rw (t, f) (S .dropped (b .wait) (b .rows) (b .warning) (b .built) h (x .event) f k)))
+      (λ t. by (ltb (count rowHeld (b .master .rows)) eventsMax)
+      (λ f. rw (t, f) (S .held (b .master .wait) (b .master .rows) (b .master .warning) (b .master .built) h (x .event) f k))
+      (λ f. rw (t, f) (S .dropped (b .master .wait) (b .master .rows) (b .master .warning) (b .master .built) h (x .event) f k)))
       (λ t. rw t k)
 
   reading-on : (r : Reading) (b : Book) (h : List Happening) → On K b h → OnEntry K h (B.readingEntry r b)
   unfolding B.readingEntry
-  reading-on r b h k = heard-of (OnEntry K h) (hear (b .clock) (b .inputs) r) (λ x. heard-on r x b h k) (λ n. k)
+  reading-on r b h k = heard-of (OnEntry K h) (hear (b .shared .clock) (b .shared .inputs) r) (λ x. heard-on r x b h k) (λ n. k)
 
   table-on : (rs : List Reading) (j : ℕ) (ns : List Happening) (b : Book) (h : List Happening) → On K b (ns ++ h)
       → OnEntry K h (B.tableFrom rs j ns b)
   unfolding B.tableFrom
   table-on [] j ns b h k = k
   table-on (r ∷ rs) j ns b h k =
-      heard-of (OnEntry K h) (hear (b .clock) (b .inputs) r)
-      (λ x. table-on rs (suc j) (B.readingNews b x ++ ns) (B.enterReading b r x) h (rw append-assoc (heard-on r x b (ns ++ h) k)))
+      heard-of (OnEntry K h) (hear (b .shared .clock) (b .shared .inputs) r)
+      (λ x. table-on rs (suc j) (B.readingNews (b .master) x ++ ns) (B.enterReading b r x) h (rw append-assoc (heard-on r x b (ns ++ h) k)))
       (λ n. k)
 
   other-on : (answered : Bool) (said : Said) (t : ℕ) (f : List ℕ) (b : Book) (h : List Happening) → On K b h
       → OnEntry K h (B.otherEntry b answered said t f)
   unfolding B.otherEntry
-  other-on true said t f b h k = S .built (b .wait) (b .rows) (b .warning) (b .built) h [] k
-  other-on false said t f b h k = S .ended (b .wait) (b .rows) (b .warning) (b .built) h k
+  other-on true said t f b h k = S .built (b .master .wait) (b .master .rows) (b .master .warning) (b .master .built) h [] k
+  other-on false said t f b h k = S .ended (b .master .wait) (b .master .rows) (b .master .warning) (b .master .built) h k
 
   read-on : (q t : ℕ) (f : List ℕ) (hs : List Header) (b : Book) (h : List Happening) → On K b h → OnEntry K h (B.readEntry b q t f hs)
   unfolding B.readEntry
   read-on q t f hs b h k =
-      split (λ w. K w (b .rows) (b .warning) (suc (b .built)) (built! (b .built) (picked b hs) ∷ h)) (not (isNil (picked b hs)) || b .warning)
-      (λ _. S .awaited (b .wait) (b .rows) (b .warning) (b .built) h q t (classesOf hs) (emptyPack (roomBeside (b .inputs) hs)) k)
-      (λ _. S .built (b .wait) (b .rows) (b .warning) (b .built) h (picked b hs) k)
+      split (λ w. K w (b .master .rows) (b .master .warning) (suc (b .master .built)) (built! (b .master .built) (picked b hs) ∷ h)) (not (isNil (picked b hs)) || b .master .warning)
+      (λ _. S .awaited (b .master .wait) (b .master .rows) (b .master .warning) (b .master .built) h q t (classesOf hs) (emptyPack (roomBeside (b .shared .inputs) hs)) k)
+      (λ _. S .built (b .master .wait) (b .master .rows) (b .master .warning) (b .master .built) h (picked b hs) k)
 
-  confirm-on : (q : ℕ) (uns : Bool) (t : ℕ) (b : Book) (h : List Happening) (w : Wait) → b .wait ≡ w → On K b h
+  confirm-on : (q : ℕ) (uns : Bool) (t : ℕ) (b : Book) (h : List Happening) (w : Wait) → b .master .wait ≡ w → On K b h
       → OnEntry K h (B.confirmEntry b w q uns t)
   unfolding B.confirmEntry B.confirmedEntry
   confirm-on q uns t b h idle e k = k
   confirm-on q uns t b h (awaiting q₁ t₁ ws n j) e k =
-      split (OnEntry K h) (confirmed (b .confirmTime) q uns t q₁ t₁)
-      (λ _. S .confirmed (b .rows) (b .warning) (b .built) h q₁ t₁ ws n j (rw e at k))
+      split (OnEntry K h) (confirmed (b .shared .confirmTime) q uns t q₁ t₁)
+      (λ _. S .confirmed (b .master .rows) (b .master .warning) (b .master .built) h q₁ t₁ ws n j (rw e at k))
       (λ _. k)
 
   ask-on : (a : Ask) (t : ℕ) (f : List ℕ) (b : Book) (h : List Happening) → On K b h → OnEntry K h (B.askEntry a b t f)
   unfolding B.repeatEntry
   ask-on malformed t f b h k = k
-  ask-on (confirms q uns) t f b h k = confirm-on q uns t b h (b .wait) refl k
+  ask-on (confirms q uns) t f b h k = confirm-on q uns t b h (b .master .wait) refl k
   ask-on (reads q hs) t f b h k = read-on q t f hs b h k
   ask-on (misreads q n) t f b h k = other-on true B.plain t f b h k
   ask-on (asks q function) t f b h k =
-      split (OnEntry K h) (same f (b .last)) (λ _. k) (λ _. other-on (not (eqb function 6)) (B.saidOf function (objectsOf f)) t f b h k)
+      split (OnEntry K h) (same f (b .master .last)) (λ _. k) (λ _. other-on (not (eqb function 6)) (B.saidOf function (objectsOf f)) t f b h k)
 
   pub enter-on : (c : Call) (b : Book) (h : List Happening) → On K b h → OnEntry K h (B.enter c b)
   unfolding B.enter B.fragmentEntry
   enter-on (reading r) b h k = reading-on r b h k
   enter-on (table rs) b h k = table-on rs 0 [] b h k
   enter-on (fragment t f room) b h k =
-      split (OnEntry K h) (badTime (b .clock) t)
+      split (OnEntry K h) (badTime (b .shared .clock) t)
       (λ _. k)
-      (λ _. split (OnEntry K h) (ltb room fragmentMax) (λ _. k) (λ _. ask-on (ask (b .inputs) f) t f b h k))
+      (λ _. split (OnEntry K h) (ltb room fragmentMax) (λ _. k) (λ _. ask-on (ask (b .shared .inputs) f) t f b h k))

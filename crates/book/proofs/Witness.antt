@@ -93,14 +93,8 @@ released-226 = refl
 abbrev bookAt : (clock : ℕ) → List Row → Wait → (warning : Bool) (last : List ℕ) (built : ℕ) → Book
 bookAt clock rows wait warning last built =
     record {
-      confirmTime = 5000;
-      clock = clock;
-      inputs = points;
-      rows = rows;
-      wait = wait;
-      warning = warning;
-      last = last;
-      built = built;
+      shared = record { confirmTime = 5000; clock = clock; inputs = points };
+      master = record { rows = rows; wait = wait; warning = warning; last = last; built = built };
     }
 
 book-table : enter (table readings) (opened oneBinary) .book ≡ bookAt 257 (all257 held) idle true [] 0
@@ -140,12 +134,12 @@ module _ (rows : List Row) where
   book-repeat warning built = refl
 
 -- the rows after the calls
-rows-after : bookAfter calls (opened oneBinary) .rows ≡ all257 released
+rows-after : bookAfter calls (opened oneBinary) .master .rows ≡ all257 released
 rows-after =
     let rows = all257 held in
     let ws = picked rows in
     let warning = cond (dropSince (length rows) rows) true false in
-    ap (λ (b : Book). b .rows)
+    ap (λ (b : Book). b .master .rows)
     (ap (bookAfter (drop 1 calls)) book-table
     ∙ ap (bookAfter (drop 2 calls)) (book-read rows 257 2000 1 (read 0xC1) [] idle 0 (in-time .0) asks₁)
     ∙ ap (bookAfter (drop 3 calls)) (book-late rows ws (length rows) 0 (read 0xC1) 1)
@@ -249,9 +243,9 @@ pub record Witness (u : Setup) (o : Outstation) (cs : List Call) (l : List Answe
   -- a repeat has the same answer again
   pub repeated : answerAt l 6 ≡ answerAt l 5
   -- of 257 events raised one was dropped, and 226 were released
-  pub raised : length (bookAfter cs (opened u) .rows) ≡ 257
-  pub dropped : count rowDropped (bookAfter cs (opened u) .rows) ≡ 1
-  pub released : count rowReleased (bookAfter cs (opened u) .rows) ≡ 226
+  pub raised : length (bookAfter cs (opened u) .master .rows) ≡ 257
+  pub dropped : count rowDropped (bookAfter cs (opened u) .master .rows) ≡ 1
+  pub released : count rowReleased (bookAfter cs (opened u) .master .rows) ≡ 226
 
 pub witness : Witness oneBinary (outstationFor (restarted oneBinary)) calls ans (outstationFor w₇)
 unfolding setupOk U.binaryClasses U.analogSetups

@@ -40,15 +40,55 @@ pub data Wait : Type 0 where
   idle : Wait
   awaiting : (sequence time : ℕ) (rows : List ℕ) (upto number : ℕ) → Wait
 
-pub record Book : Type 0 where
+-- what all masters share: the confirm time, the clock and the points
+pub record Shared : Type 0 where
   pub confirmTime : ℕ
   pub clock : ℕ
   pub inputs : Inputs
+
+-- what belongs to one master; built: how many responses were newly built for it
+pub record Master : Type 0 where
   pub rows : List Row
   pub wait : Wait
   pub warning : Bool
   pub last : List ℕ
   pub built : ℕ
+
+pub record Book : Type 0 where
+  pub shared : Shared
+  pub master : Master
+
+-- ---- one part set, all else as it was
+
+abbrev pub withClock : ℕ → Shared → Shared
+withClock time s = record { confirmTime = s .confirmTime; clock = time; inputs = s .inputs }
+
+abbrev pub withInputs : Inputs → Shared → Shared
+withInputs i s = record { confirmTime = s .confirmTime; clock = s .clock; inputs = i }
+
+abbrev pub withRows : List Row → Master → Master
+withRows rows m = record { rows = rows; wait = m .wait; warning = m .warning; last = m .last; built = m .built }
+
+abbrev pub withWait : Wait → Master → Master
+withWait wait m = record { rows = m .rows; wait = wait; warning = m .warning; last = m .last; built = m .built }
+
+abbrev pub withWarning : Bool → Master → Master
+withWarning warning m = record { rows = m .rows; wait = m .wait; warning = warning; last = m .last; built = m .built }
+
+-- the last request, and how many responses were newly built with its own
+abbrev pub withRequest : (last : List ℕ) (built : ℕ) → Master → Master
+withRequest last built m = record { rows = m .rows; wait = m .wait; warning = m .warning; last = last; built = built }
+
+abbrev pub withShared : Shared → Book → Book
+withShared s b = record { shared = s; master = b .master }
+
+abbrev pub withMaster : Master → Book → Book
+withMaster m b = record { shared = b .shared; master = m }
+
+abbrev pub atTime : ℕ → Book → Book
+atTime time b = withShared (withClock time (b .shared)) b
+
+-- ---- marks
 
 abbrev pub isHeld : Mark → Bool
 isHeld held = true
@@ -112,66 +152,36 @@ refusedEntry n b = record { book = b; said = refuses n; news = [] }
 
 -- ---- readings: "A raised event is a new row, dropped if 256 are held, else held; a drop sets the warning."
 
-unfoldable pub full : Book → Bool
-full b = not (ltb (count rowHeld (b .rows)) eventsMax)
+unfoldable pub full : Master → Bool
+full m = not (ltb (count rowHeld (m .rows)) eventsMax)
 
-unfoldable pub enterEvent : Event → Book → Book
-enterEvent e b =
-    cond (full b)
-    (record {
-      confirmTime = b .confirmTime;
-      clock = b .clock;
-      inputs = b .inputs;
-      rows = b .rows ++ (record { event = e; mark = dropped } ∷ []);
-      wait = b .wait;
-      warning = true;
-      last = b .last;
-      built = b .built;
-    })
-    (record {
-      confirmTime = b .confirmTime;
-      clock = b .clock;
-      inputs = b .inputs;
-      rows = b .rows ++ (record { event = e; mark = held } ∷ []);
-      wait = b .wait;
-      warning = b .warning;
-      last = b .last;
-      built = b .built;
-    })
+unfoldable pub enterEvent : Event → Master → Master
+enterEvent e m =
+    cond (full m)
+    (withWarning true (withRows (m .rows ++ (record { event = e; mark = dropped } ∷ [])) m))
+    (withRows (m .rows ++ (record { event = e; mark = held } ∷ [])) m)
 
 -- "an accepted one sets the clock"
-abbrev pub withInputs : Book → ℕ → Inputs → Book
-withInputs b time i =
-    record {
-      confirmTime = b .confirmTime;
-      clock = time;
-      inputs = i;
-      rows = b .rows;
-      wait = b .wait;
-      warning = b .warning;
-      last = b .last;
-      built = b .built;
-    }
-
 unfoldable pub enterReading : Book → Reading → Heard → Book
 enterReading b r h =
-    cond (h .raised) (enterEvent (h .event) (withInputs b (r .time) (h .inputs))) (withInputs b (r .time) (h .inputs))
+    withShared (withInputs (h .inputs) (withClock (r .time) (b .shared)))
+    (withMaster (cond (h .raised) (enterEvent (h .event) (b .master)) (b .master)) b)
 
-unfoldable pub readingNews : Book → Heard → List Happening
-readingNews b h = cond (h .raised) (cond (full b) (drop! (length (b .rows)) ∷ []) (hold! (length (b .rows)) ∷ [])) []
+unfoldable pub readingNews : Master → Heard → List Happening
+readingNews m h = cond (h .raised) (cond (full m) (drop! (length (m .rows)) ∷ []) (hold! (length (m .rows)) ∷ [])) []
 
 unfoldable pub readingEntry : Reading → Book → Entry
 readingEntry r b =
-    onHeard (hear (b .clock) (b .inputs) r)
-    (λ h. record { book = enterReading b r h; said = takes 1 0; news = readingNews b h })
+    onHeard (hear (b .shared .clock) (b .shared .inputs) r)
+    (λ h. record { book = enterReading b r h; said = takes 1 0; news = readingNews (b .master) h })
     (λ n. record { book = b; said = takes 0 n; news = [] })
 
 -- "A table counts as its readings up to a refused one": from the k-th on, the news so far handed on
 unfoldable pub tableFrom : List Reading → ℕ → List Happening → Book → Entry
 tableFrom [] k ns b = record { book = b; said = takes k 0; news = ns }
 tableFrom (r ∷ rs) k ns b =
-    onHeard (hear (b .clock) (b .inputs) r)
-    (λ h. tableFrom rs (suc k) (readingNews b h ++ ns) (enterReading b r h))
+    onHeard (hear (b .shared .clock) (b .shared .inputs) r)
+    (λ h. tableFrom rs (suc k) (readingNews (b .master) h ++ ns) (enterReading b r h))
     (λ n. record { book = b; said = takes k n; news = ns })
 
 -- ---- requests: "Requests except repeats end the wait. A faultless READ carries the held rows that its rule picks; with CON it
@@ -186,27 +196,18 @@ picks m k i (r ∷ rs) =
     (picks m k (suc i) rs)
 
 abbrev pub picked : Book → List Header → List ℕ
-picked b hs = picks (classesOf hs) (emptyPack (roomBeside (b .inputs) hs)) 0 (b .rows)
+picked b hs = picks (classesOf hs) (emptyPack (roomBeside (b .shared .inputs) hs)) 0 (b .master .rows)
+
+abbrev pub readWait : Book → ℕ → ℕ → List Header → Wait
+readWait b q time hs =
+    cond (not (isNil (picked b hs)) || b .master .warning) (awaiting q time (picked b hs) (length (b .master .rows)) (b .master .built)) idle
 
 unfoldable pub readEntry : Book → ℕ → ℕ → List ℕ → List Header → Entry
 readEntry b q time f hs =
     record {
-      book =
-          record {
-            confirmTime = b .confirmTime;
-            clock = time;
-            inputs = b .inputs;
-            rows = b .rows;
-            wait =
-                cond (not (isNil (picked b hs)) || b .warning)
-                (awaiting q time (picked b hs) (length (b .rows)) (b .built))
-                idle;
-            warning = b .warning;
-            last = f;
-            built = suc (b .built);
-          };
-      said = carries (picked b hs) (staticBytes (b .inputs) hs);
-      news = built! (b .built) (picked b hs) ∷ [];
+      book = atTime time (withMaster (withWait (readWait b q time hs) (withRequest f (suc (b .master .built)) (b .master))) b);
+      said = carries (picked b hs) (staticBytes (b .shared .inputs) hs);
+      news = built! (b .master .built) (picked b hs) ∷ [];
     }
 
 -- a request that is no READ and no repeat, by its function: "Function 6 is never answered"; the answer to 3 to 5 "echoes header and
@@ -218,24 +219,14 @@ saidOf function o = cond (eqb function 6) unanswered (cond (member function (3 �
 unfoldable pub otherEntry : Book → (answered : Bool) → Said → ℕ → List ℕ → Entry
 otherEntry b answered said time f =
     record {
-      book =
-          record {
-            confirmTime = b .confirmTime;
-            clock = time;
-            inputs = b .inputs;
-            rows = b .rows;
-            wait = idle;
-            warning = b .warning;
-            last = f;
-            built = cond answered (suc (b .built)) (b .built);
-          };
+      book = atTime time (withMaster (withWait idle (withRequest f (cond answered (suc (b .master .built)) (b .master .built)) (b .master))) b);
       said = said;
-      news = cond answered (built! (b .built) [] ∷ []) [];
+      news = cond answered (built! (b .master .built) [] ∷ []) [];
     }
 
 -- "A repeat's answer is not newly built."
 unfoldable pub repeatEntry : Book → ℕ → Entry
-repeatEntry b time = record { book = withInputs b time (b .inputs); said = repeats; news = [] }
+repeatEntry b time = record { book = atTime time b; said = repeats; news = [] }
 
 -- ---- CONFIRM: "An accepted CONFIRM ends the wait, marks those rows released and, with no drop since that response, clears the
 -- warning."
@@ -249,20 +240,16 @@ release ws i (r ∷ rs) = record { event = r .event; mark = cond (member i ws) r
 abbrev pub dropSince : ℕ → List Row → Bool
 dropSince n rows = some rowDropped (drop n rows)
 
+abbrev pub confirmedMaster : List ℕ → (upto : ℕ) → Master → Master
+confirmedMaster ws upto m =
+    withWait idle
+    (withWarning (cond (dropSince upto (m .rows)) (m .warning) false)
+    (withRows (release ws 0 (m .rows)) m))
+
 unfoldable pub confirmedEntry : Book → ℕ → List ℕ → ℕ → ℕ → Entry
 confirmedEntry b time ws upto number =
     record {
-      book =
-          record {
-            confirmTime = b .confirmTime;
-            clock = time;
-            inputs = b .inputs;
-            rows = release ws 0 (b .rows);
-            wait = idle;
-            warning = cond (dropSince upto (b .rows)) (b .warning) false;
-            last = b .last;
-            built = b .built;
-          };
+      book = atTime time (withMaster (confirmedMaster ws upto (b .master)) b);
       said = accepts;
       news = confirmed! number ∷ [];
     }
@@ -270,22 +257,22 @@ confirmedEntry b time ws upto number =
 unfoldable pub confirmEntry : Book → Wait → ℕ → Bool → ℕ → Entry
 confirmEntry b idle q uns time = refusedEntry 32 b
 confirmEntry b (awaiting awaited sent ws upto number) q uns time =
-    cond (confirmed (b .confirmTime) q uns time awaited sent) (confirmedEntry b time ws upto number) (refusedEntry 32 b)
+    cond (confirmed (b .shared .confirmTime) q uns time awaited sent) (confirmedEntry b time ws upto number) (refusedEntry 32 b)
 
 -- ---- fragments
 
 abbrev pub askEntry : Ask → Book → ℕ → List ℕ → Entry
 askEntry malformed b time f = refusedEntry 31 b
-askEntry (confirms q uns) b time f = confirmEntry b (b .wait) q uns time
+askEntry (confirms q uns) b time f = confirmEntry b (b .master .wait) q uns time
 askEntry (reads q hs) b time f = readEntry b q time f hs
 askEntry (misreads q n) b time f = otherEntry b true plain time f
 askEntry (asks q function) b time f =
-    cond (same f (b .last)) (repeatEntry b time) (otherEntry b (not (eqb function 6)) (saidOf function (objectsOf f)) time f)
+    cond (same f (b .master .last)) (repeatEntry b time) (otherEntry b (not (eqb function 6)) (saidOf function (objectsOf f)) time f)
 
 unfoldable pub fragmentEntry : (time : ℕ) (bytes : List ℕ) (room : ℕ) → Book → Entry
 fragmentEntry time f room b =
-    cond (badTime (b .clock) time) (refusedEntry 1 b)
-    (cond (ltb room fragmentMax) (refusedEntry 33 b) (askEntry (ask (b .inputs) f) b time f))
+    cond (badTime (b .shared .clock) time) (refusedEntry 1 b)
+    (cond (ltb room fragmentMax) (refusedEntry 33 b) (askEntry (ask (b .shared .inputs) f) b time f))
 
 unfoldable pub enter : Call → Book → Entry
 enter (reading r) b = readingEntry r b
@@ -296,12 +283,11 @@ enter (fragment time f room) b = fragmentEntry time f room b
 unfoldable pub opened : Setup → Book
 opened u =
     record {
-      confirmTime = u .«confirm_time»;
-      clock = 0;
-      inputs = record { binaries = map freshBinary (binaryClasses u); analogs = map freshAnalog (analogSetups u) };
-      rows = [];
-      wait = idle;
-      warning = false;
-      last = [];
-      built = 0;
+      shared =
+          record {
+            confirmTime = u .«confirm_time»;
+            clock = 0;
+            inputs = record { binaries = map freshBinary (binaryClasses u); analogs = map freshAnalog (analogSetups u) };
+          };
+      master = record { rows = []; wait = idle; warning = false; last = []; built = 0 };
     }

@@ -109,7 +109,7 @@ AllTold b h last [] [] = Unit {0}
 AllTold b h last [] (a ∷ ans) = ⊥
 AllTold b h last (c ∷ cs) [] = ⊥
 AllTold b h last (c ∷ cs) (a ∷ ans) =
-    Told h last (enter c b .book .rows) (enter c b .said) a
+    Told h last (enter c b .book .master .rows) (enter c b .said) a
     × AllTold (enter c b .book) (enter c b .news ++ h) (keptBy (enter c b .said) last a) cs ans
 
 abbrev pub bookAfter : List Call → Book → Book
@@ -181,12 +181,12 @@ pub record Demand3 (u : Setup) (cs : List Call) (ans : List Answer) (w : World) 
   -- the first request there is no answer to repeat, and no repeat
   pub told : AllTold (opened u) [] (silent []) cs ans
   -- every event raised is in exactly one place
-  pub placed : (i : ℕ) → i < length (bookAfter cs (opened u) .rows) → Placed (bookAfter cs (opened u) .rows) (historyAfter cs (opened u) []) i
+  pub placed : (i : ℕ) → i < length (bookAfter cs (opened u) .master .rows) → Placed (bookAfter cs (opened u) .master .rows) (historyAfter cs (opened u) []) i
   -- it holds exactly the book's held events, in that order
-  pub holds : map (λ (x : Held). x .event) (w .queue .held) ≡ map rowEvent (filter rowHeld (bookAfter cs (opened u) .rows))
+  pub holds : map (λ (x : Held). x .event) (w .master .queue .held) ≡ map rowEvent (filter rowHeld (bookAfter cs (opened u) .master .rows))
   -- raised = held + released + dropped
-  pub places : length (bookAfter cs (opened u) .rows)
-      ≡ length (w .queue .held) + count rowReleased (bookAfter cs (opened u) .rows) + count rowDropped (bookAfter cs (opened u) .rows)
+  pub places : length (bookAfter cs (opened u) .master .rows)
+      ≡ length (w .master .queue .held) + count rowReleased (bookAfter cs (opened u) .master .rows) + count rowDropped (bookAfter cs (opened u) .master .rows)
 
 -- a list of calls, each on what the one before left; `did` is what a call's contract ensures
 module _ (O : Type 0) (did : O → Call → Answer → O → Type 0) where

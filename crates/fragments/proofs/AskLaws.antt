@@ -62,23 +62,23 @@ module _ (o : Outstation) (time : ℕ) (f : List ℕ) (room : ℕ) (r : Answered
   fragment-small t s h = rw (t, s) h
 
   module _ (t : badTime (o .clock) time ≡ false) (s : ltb room fragmentMax ≡ false) (k : Fragment) (is : fragmentOf k ≡ classified f) where
-    by-outcome : (x : Outcome Kind) → x ≡ classified f → Given o r b a (onAsk (outcomeAsk (world o .inputs) f x) (world o) time f)
+    by-outcome : (x : Outcome Kind) → x ≡ classified f → Given o r b a (onAsk (outcomeAsk (world o .shared .inputs) f x) (world o) time f)
         → Given o r b a (step (fragment time f room) (world o))
     unfolding step fragmentStep ask
     by-outcome x e h =
-        rw (t, s) (subst (λ (y : Outcome Kind). Given o r b a (onAsk (outcomeAsk (world o .inputs) f y) (world o) time f)) e h)
+        rw (t, s) (subst (λ (y : Outcome Kind). Given o r b a (onAsk (outcomeAsk (world o .shared .inputs) f y) (world o) time f)) e h)
 
     pub fragment-malformed : k ≡ Ks.Malformed → Given o r b a (refusal 31 (world o)) → Given o r b a (step (fragment time f room) (world o))
     fragment-malformed e h = by-outcome (fragmentOf Ks.Malformed) (sym (ap fragmentOf e) ∙ is) h
 
     pub fragment-confirm : (q : ApplicationSequence) (uns : Bool) → k ≡ Ks.Confirm q uns
-        → Given o r b a (confirmStep (world o) (world o .exchange .wait) (q .0) uns time) → Given o r b a (step (fragment time f room) (world o))
+        → Given o r b a (confirmStep (world o) (world o .master .exchange .wait) (q .0) uns time) → Given o r b a (step (fragment time f room) (world o))
     fragment-confirm q uns e h = by-outcome (fragmentOf (Ks.Confirm q uns)) (sym (ap fragmentOf e) ∙ is) h
 
     asked-by : (w : World) (q function : ℕ) (c : Bool) (p : Parsed)
         → Given o r b a
         (cond c (readStep w q time f (readDeedBy w q time p))
-        (cond (isRepeat (w .exchange .last) f) (repeatStep w function time) (requestStep w q function time f (deedBy w q function time (objectsOf f)))))
+        (cond (isRepeat (w .master .exchange .last) f) (repeatStep w function time) (requestStep w q function time f (deedBy w q function time (objectsOf f)))))
         → Given o r b a (onAsk (cond c (readAsk q p) (asks q function)) w time f)
     asked-by w q function true (headers hs) h = h
     asked-by w q function true (fault n) h = h
@@ -88,4 +88,4 @@ module _ (o : Outstation) (time : ℕ) (f : List ℕ) (room : ℕ) (r : Answered
         → Given o r b a (requestBy (world o) (q .0) function time f) → Given o r b a (step (fragment time f room) (world o))
     fragment-request q function e h =
         by-outcome (fragmentOf (Ks.Request q function)) (sym (ap fragmentOf e) ∙ is)
-        (asked-by (world o) (q .0) function (eqb function 1) (readOf (world o .inputs) (objectsOf f)) h)
+        (asked-by (world o) (q .0) function (eqb function 1) (readOf (world o .shared .inputs) (objectsOf f)) h)

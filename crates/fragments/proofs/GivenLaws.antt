@@ -82,7 +82,7 @@ module _ (w : World) (v : Wait) (q : ℕ) (uns : Bool) (time : ℕ) where
   confirm-idle e = rw e
 
   module _ (awaited : ApplicationSequence) (sent : ℕ) (shown since : Bool) (e : v ≡ Awaiting awaited sent shown since) (limit : ℕ)
-      (same : w .confirmTime ≡ limit) where
+      (same : w .shared .confirmTime ≡ limit) where
     pub confirm-late : confirmed limit q uns time (awaited .0) sent ≡ false → confirmStep w v q uns time ≡ refusal 32 w
     unfolding confirmStep
     confirm-late t = rw (e, same, t)
@@ -99,11 +99,11 @@ confirm-given o r b a v q uns time x y is e given =
     subst (Given o r b a) (sym (is (world o) refl ∙ ap (λ (z : Confirmation). confirmBy z (world o) time) e)) given
 
 -- the state after an accepted CONFIRM
-pub confirmed-state : (o : Outstation) (s : World) (time : ℕ) (shown since : Bool) (k : Queue) (x : Exchange) → s ≡ leftWith (world o) time (world o .inputs) k x
+pub confirmed-state : (o : Outstation) (s : World) (time : ℕ) (shown since : Bool) (k : Queue) (x : Exchange) → s ≡ leftWith (world o) time (world o .shared .inputs) k x
     → k ≡ clearing shown since (released (queue (o .buffer))) → x ≡ withWait Idle (exchangeOf (o .session))
     → s ≡ confirmedStep (world o) time shown since .state
 unfolding confirmedStep
-confirmed-state o s time shown since k x leaves waits idles = leaves ∙ ap₂ (leftWith (world o) time (world o .inputs)) waits idles
+confirmed-state o s time shown since k x leaves waits idles = leaves ∙ ap₂ (leftWith (world o) time (world o .shared .inputs)) waits idles
 
 -- ---- an answer
 
@@ -147,14 +147,14 @@ counted-kept x m l last latch request answer objects = record { request = rw las
 -- ---- what is left
 
 module _ (w s : World) (r : Deed) (b a₁ : List ℕ) (d : S.Deed) (worked : Worked r b a₁ d) (k : Queue) (marked : k ≡ d .queue) (x : Exchange)
-    (time : ℕ) (m : Memory) (f a : List ℕ) (leaves : s ≡ leftWith w time (w .inputs) k x)
+    (time : ℕ) (m : Memory) (f a : List ℕ) (leaves : s ≡ leftWith w time (w .shared .inputs) k x)
     (holds : x ≡ record { restarted = r .restarted; wait = r .wait; last = m; latch = latchOf (r .latch) }) (keeps : m ≡ kept f a) where
   left-exchange : x ≡ record { restarted = d .restarted; wait = d .wait; last = kept f a; latch = d .latch }
   left-exchange =
       holds ∙ (λ i. record { restarted = worked .restarted i; wait = worked .wait i; last = keeps i; latch = worked .latch i })
 
   pub left-done : s ≡ done w time f a d
-  left-done = leaves ∙ ap₂ (leftWith w time (w .inputs)) marked left-exchange
+  left-done = leaves ∙ ap₂ (leftWith w time (w .shared .inputs)) marked left-exchange
 
 -- ---- a deed's objects
 
@@ -163,7 +163,7 @@ pub objects-most : (w : World) (q function time : ℕ) (o : List ℕ) → length
 objects-most w q function time o = go (eqb function 2) (eqb function 3) (eqb function 4) (eqb function 5) (eqb function 6)
   where
     most : (f : ControlFunction) → length (controlDeed w f q time o .objects) ≤ 109
-    most f = echo-most (w .outputs) (w .armTime) (w .exchange .latch) f q time o
+    most f = echo-most (w .shared .outputs) (w .shared .armTime) (w .master .exchange .latch) f q time o
 
     go : (a b c d e : Bool)
         → length
@@ -172,7 +172,7 @@ objects-most w q function time o = go (eqb function 2) (eqb function 3) (eqb fun
         (cond c (controlDeed w Operate q time o)
         (cond d (controlDeed w DirectOperate q time o)
         (cond e (controlDeed w DirectOperateNoResponse q time o)
-        (S.plainDeed w Fault.FunctionUnknown (w .exchange .restarted)))))) .objects) ≤ 109
+        (S.plainDeed w Fault.FunctionUnknown (w .master .exchange .restarted)))))) .objects) ≤ 109
     go true b c d e = omega arith
     go false true c d e = most Select
     go false false true d e = most Operate
@@ -184,20 +184,20 @@ objects-most w q function time o = go (eqb function 2) (eqb function 3) (eqb fun
 pub silent-objects : (w : World) (q function time : ℕ) (o : List ℕ) → function ≡ 6 → deedBy w q function time o .objects ≡ []
 silent-objects w q function time o e =
     ap (λ (n : ℕ). deedBy w q n time o .objects) e
-    ∙ unanswered-echo (w .outputs) (w .armTime) (w .exchange .latch) DirectOperateNoResponse q time o refl
+    ∙ unanswered-echo (w .shared .outputs) (w .shared .armTime) (w .master .exchange .latch) DirectOperateNoResponse q time o refl
 
 -- the events that a request other than READ leaves
-pub deed-queue : (w : World) (q function time : ℕ) (o : List ℕ) → cleared (w .queue) ≡ deedBy w q function time o .queue
+pub deed-queue : (w : World) (q function time : ℕ) (o : List ℕ) → cleared (w .master .queue) ≡ deedBy w q function time o .queue
 deed-queue w q function time o = go (eqb function 2) (eqb function 3) (eqb function 4) (eqb function 5) (eqb function 6)
   where
     go : (a b c d e : Bool)
-        → cleared (w .queue)
+        → cleared (w .master .queue)
         ≡ (cond a (S.writeDeed w o)
         (cond b (controlDeed w Select q time o)
         (cond c (controlDeed w Operate q time o)
         (cond d (controlDeed w DirectOperate q time o)
         (cond e (controlDeed w DirectOperateNoResponse q time o)
-        (S.plainDeed w Fault.FunctionUnknown (w .exchange .restarted)))))) .queue)
+        (S.plainDeed w Fault.FunctionUnknown (w .master .exchange .restarted)))))) .queue)
     go true b c d e = refl
     go false true c d e = refl
     go false false true d e = refl
@@ -208,7 +208,7 @@ deed-queue w q function time o = go (eqb function 2) (eqb function 3) (eqb funct
 -- ---- the answered request
 
 module _ (o s : Outstation) (q time : ℕ) (f : List ℕ) (r : Deed) (b a₁ : List ℕ) (d : S.Deed) (worked : Worked r b a₁ d) (k : Queue)
-    (marked : k ≡ d .queue) (x : Exchange) (m : Memory) (leaves : world s ≡ leftWith (world o) time (world o .inputs) k x)
+    (marked : k ≡ d .queue) (x : Exchange) (m : Memory) (leaves : world s ≡ leftWith (world o) time (world o .shared .inputs) k x)
     (holds : x ≡ record { restarted = r .restarted; wait = r .wait; last = m; latch = latchOf (r .latch) }) (counts : Counted o → Counted s) where
   silent-given : (function : ℕ) → eqb function 6 ≡ true → d .objects ≡ [] → m ≡ kept f []
       → Given o (record { answer = Fs.Silent; operated = r .operated; state = s }) b a₁ (requestStep (world o) q function time f d)
@@ -280,15 +280,15 @@ kept-most false n size h m = omega (arith, h, m)
 -- ---- a request by its function
 
 module _ (o : Outstation) (w : World) (q function time : ℕ) (f : List ℕ) (r : Answered) (b a : List ℕ) where
-  pub by-read : eqb function 1 ≡ true → Given o r b a (readStep w q time f (readDeedBy w q time (readOf (w .inputs) (objectsOf f))))
+  pub by-read : eqb function 1 ≡ true → Given o r b a (readStep w q time f (readDeedBy w q time (readOf (w .shared .inputs) (objectsOf f))))
       → Given o r b a (requestBy w q function time f)
   by-read e h = rw e h
 
   module _ (e : eqb function 1 ≡ false) where
-    pub by-repeat : isRepeat (w .exchange .last) f ≡ true → Given o r b a (repeatStep w function time) → Given o r b a (requestBy w q function time f)
+    pub by-repeat : isRepeat (w .master .exchange .last) f ≡ true → Given o r b a (repeatStep w function time) → Given o r b a (requestBy w q function time f)
     by-repeat t h = rw (e, t) h
 
-    pub by-other : isRepeat (w .exchange .last) f ≡ false → Given o r b a (requestStep w q function time f (deedBy w q function time (objectsOf f)))
+    pub by-other : isRepeat (w .master .exchange .last) f ≡ false → Given o r b a (requestStep w q function time f (deedBy w q function time (objectsOf f)))
         → Given o r b a (requestBy w q function time f)
     by-other t h = rw (e, t) h
 
@@ -309,29 +309,29 @@ module _ (o s : Outstation) (function time : ℕ) (none : Crobs) (b : List ℕ) 
   unfolding repeatStep
   repeat-silent e = rw e (record { state = same; answer = ap silent (no .objects); size = refl; operated = no; lent = refl; counted = counts })
 
-  repeat-given : (a : List ℕ) (n : ℕ) → eqb function 6 ≡ false → a ≡ splice b 0 (answerOf (world o .exchange .last))
-      → n ≡ length (answerOf (world o .exchange .last)) → n ≤ length b
+  repeat-given : (a : List ℕ) (n : ℕ) → eqb function 6 ≡ false → a ≡ splice b 0 (answerOf (world o .master .exchange .last))
+      → n ≡ length (answerOf (world o .master .exchange .last)) → n ≤ length b
       → Given o (record { answer = Fs.Answer n; operated = none; state = s }) b a (repeatStep (world o) function time)
   unfolding repeatStep
   repeat-given a n e put size room =
       rw e
       (record {
         state = same;
-        answer = ap₂ answers (answer-taken b a (answerOf (world o .exchange .last)) n put size room) (no .objects);
+        answer = ap₂ answers (answer-taken b a (answerOf (world o .master .exchange .last)) n put size room) (no .objects);
         size = size;
         operated = no;
         lent = put;
         counted = counts;
       })
 
-  pub repeat-any : (a : List ℕ) (n : ℕ) (is : FragmentAnswer) → a ≡ cond (eqb function 6) b (splice b 0 (answerOf (world o .exchange .last)))
-      → n ≡ cond (eqb function 6) 0 (length (answerOf (world o .exchange .last))) → n ≤ length b
+  pub repeat-any : (a : List ℕ) (n : ℕ) (is : FragmentAnswer) → a ≡ cond (eqb function 6) b (splice b 0 (answerOf (world o .master .exchange .last)))
+      → n ≡ cond (eqb function 6) 0 (length (answerOf (world o .master .exchange .last))) → n ≤ length b
       → is ≡ cond (eqb function 6) Fs.Silent (Fs.Answer n)
       → Given o (record { answer = is; operated = none; state = s }) b a (repeatStep (world o) function time)
   repeat-any a n is put size room said = go (eqb function 6) refl put size said
     where
-      go : (e : Bool) → eqb function 6 ≡ e → a ≡ cond e b (splice b 0 (answerOf (world o .exchange .last)))
-          → n ≡ cond e 0 (length (answerOf (world o .exchange .last))) → is ≡ cond e Fs.Silent (Fs.Answer n)
+      go : (e : Bool) → eqb function 6 ≡ e → a ≡ cond e b (splice b 0 (answerOf (world o .master .exchange .last)))
+          → n ≡ cond e 0 (length (answerOf (world o .master .exchange .last))) → is ≡ cond e Fs.Silent (Fs.Answer n)
           → Given o (record { answer = is; operated = none; state = s }) b a (repeatStep (world o) function time)
       go true e p z t =
           subst (λ (x : FragmentAnswer). Given o (record { answer = x; operated = none; state = s }) b a (repeatStep (world o) function time)) (sym t)

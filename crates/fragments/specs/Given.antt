@@ -23,7 +23,7 @@ use Rattle.request.specs.declared.Verdict.{Verdict}
 use Rattle.request.specs.declared.Verdict.the-variants as Vs
 use Rattle.request.specs.Parse.{Parsed, headers, fault}
 use Rattle.outstation.specs.declared.Outstation.{Outstation}
-use Rattle.outstation.specs.World.{World, Exchange, world, Counted}
+use Rattle.outstation.specs.World.{World, Exchange, withClock, withInputs, withQueue, withExchange, withShared, withMaster, world, Counted}
 use Rattle.outstation.specs.Step.{Answer, took, answers, silent, accepts, refuses, handed, lentAfter, Result, readDeed, plainDeed, readFault, isFaultless, readStep, repeatStep, requestStep, deedBy, refusal, confirmedStep, confirmStep}
 use Rattle.outstation.specs.Step as S
 use Rattle.fragments.specs.declared.FragmentAnswer.{FragmentAnswer}
@@ -102,13 +102,19 @@ WorkedStill r d = (w : World) (lent : List ℕ) → Worked r lent lent (d w)
 abbrev pub seenWorld : Seen → Queue → World
 seenWorld s k =
     record {
-      armTime = s .«arm_time»;
-      confirmTime = 0;
-      outputs = s .outputs;
-      clock = 0;
-      inputs = record { binaries = []; analogs = [] };
-      queue = k;
-      exchange = record { restarted = s .restarted; wait = Idle; last = nothing; latch = latchOf (s .latch) };
+      shared =
+          record {
+            armTime = s .«arm_time»;
+            confirmTime = 0;
+            outputs = s .outputs;
+            clock = 0;
+            inputs = record { binaries = []; analogs = [] };
+          };
+      master =
+          record {
+            queue = k;
+            exchange = record { restarted = s .restarted; wait = Idle; last = nothing; latch = latchOf (s .latch) };
+          };
     }
 
 -- WRITE, by IIN1.7 before it
@@ -118,20 +124,12 @@ writeDeedBy w restarted o = plainDeed w (writeFault o) (cond (isFaultless (write
 -- the state with another clock, inputs, events and exchange
 abbrev pub leftWith : World → ℕ → Inputs → Queue → Exchange → World
 leftWith w time i k x =
-    record {
-      armTime = w .armTime;
-      confirmTime = w .confirmTime;
-      outputs = w .outputs;
-      clock = time;
-      inputs = i;
-      queue = k;
-      exchange = x;
-    }
+    withShared (withInputs i (withClock time (w .shared))) (withMaster (withExchange x (withQueue k (w .master))) w)
 
 -- a READ, faultless or not
 abbrev pub readDeedBy : World → ℕ → ℕ → Parsed → S.Deed
 readDeedBy w q time (headers hs) = readDeed w q time hs
-readDeedBy w q time (fault n) = plainDeed w (readFault n) (w .exchange .restarted)
+readDeedBy w q time (fault n) = plainDeed w (readFault n) (w .master .exchange .restarted)
 
 -- a faultless READ's deed, by whether an event is carried and whether some were dropped: what is not in the lent bytes
 pub record ReadDone (r : Deed) (q time : ℕ) (carried overflow : Bool) (size : ℕ) (before : Bool) : Type 0 where
@@ -157,11 +155,11 @@ confirmBy (Cs.Accepted shown since) w time = confirmedStep w time shown since
 
 -- the same, told from the confirm time and the awaited confirmation of any state
 abbrev pub Confirms : Confirmation → ℕ → Wait → ℕ → Bool → ℕ → Type 0
-Confirms x confirmTime v q uns time = (w : World) → w .confirmTime ≡ confirmTime → confirmStep w v q uns time ≡ confirmBy x w time
+Confirms x confirmTime v q uns time = (w : World) → w .shared .confirmTime ≡ confirmTime → confirmStep w v q uns time ≡ confirmBy x w time
 
 -- a request by its function: a READ, a repeat, or another
 abbrev pub requestBy : World → ℕ → ℕ → ℕ → List ℕ → Result
 requestBy w q function time f =
-    cond (eqb function 1) (readStep w q time f (readDeedBy w q time (readOf (w .inputs) (objectsOf f))))
-    (cond (isRepeat (w .exchange .last) f) (repeatStep w function time)
+    cond (eqb function 1) (readStep w q time f (readDeedBy w q time (readOf (w .shared .inputs) (objectsOf f))))
+    (cond (isRepeat (w .master .exchange .last) f) (repeatStep w function time)
     (requestStep w q function time f (deedBy w q function time (objectsOf f))))

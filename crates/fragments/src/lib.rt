@@ -419,7 +419,7 @@ fn answer_read(
     out: &mut [u8],
 ) -> Answered
     requires { ⌜ (2 ≤ length (now f)) × (length (now f) ≤ 2048) × (2048 ≤ length (now out)) ⌝ }
-    ensures { λ r. ⌜ Given o r (now (out .entry)) (now (out .exit)) (readStep (world o) (q .0) time (now (f .entry)) (readDeedBy (world o) (q .0) time (readOf (world o .inputs) (objectsOf (now (f .entry)))))) ⌝ }
+    ensures { λ r. ⌜ Given o r (now (out .entry)) (now (out .exit)) (readStep (world o) (q .0) time (now (f .entry)) (readDeedBy (world o) (q .0) time (readOf (world o .shared .inputs) (objectsOf (now (f .entry)))))) ⌝ }
 {
     let x = o.session;
     let p = o.points;

@@ -26,7 +26,7 @@ use Rattle.outstation.specs.declared.Reading.{Reading}
 use Rattle.outstation.specs.declared.Wait.{Wait}
 use Rattle.outstation.specs.declared.Wait.the-variants.{Idle, Awaiting}
 use Rattle.outstation.specs.declared.Setup.{Setup}
-use Rattle.outstation.specs.World.{World, restarted}
+use Rattle.outstation.specs.World.{World, Master, withMaster, restarted}
 use Rattle.outstation.specs.Readings.{badTime, Heard, hear}
 use Rattle.outstation.specs.Requests.{Ask, malformed, confirms, asks, ask, readAsk, confirmed}
 use Rattle.outstation.specs.Step as S
@@ -41,7 +41,7 @@ abbrev actedOf : Deed → Acted
 actedOf d = record { carried = d .operated; latch = d .latch }
 
 deed-acts : (w : World) (r : Request) (n : ℕ)
-    → actedOf (S.deedBy w (sequenceIn r) n (r .time) (objectsIn r)) ≡ byFunction (w .outputs) (w .armTime) n (w .exchange .latch) r
+    → actedOf (S.deedBy w (sequenceIn r) n (r .time) (objectsIn r)) ≡ byFunction (w .shared .outputs) (w .shared .armTime) n (w .master .exchange .latch) r
 deed-acts w r n =
     by (eqb n 2)
     (λ t. rw (eqb-true n 2 t))
@@ -121,18 +121,17 @@ module _ (outputs arm : ℕ) where
   abbrev pub view : List Request → Extra → World
   view h x =
       record {
-        armTime = arm;
-        confirmTime = x .confirmTime;
-        outputs = outputs;
-        clock = x .clock;
-        inputs = x .inputs;
-        queue = x .queue;
-        exchange =
+        shared = record { armTime = arm; confirmTime = x .confirmTime; outputs = outputs; clock = x .clock; inputs = x .inputs };
+        master =
             record {
-              restarted = x .restarted;
-              wait = x .wait;
-              last = after outputs arm h .last;
-              latch = after outputs arm h .latch;
+              queue = x .queue;
+              exchange =
+                  record {
+                    restarted = x .restarted;
+                    wait = x .wait;
+                    last = after outputs arm h .last;
+                    latch = after outputs arm h .latch;
+                  };
             };
       }
 
@@ -161,7 +160,7 @@ module _ (outputs arm : ℕ) where
   raisedTo x k v =
       record { confirmTime = x .confirmTime; clock = x .clock; inputs = x .inputs; queue = k; restarted = x .restarted; wait = v }
 
-  raise-ok : (h : List Request) (x : Extra) → Since (x .clock) h → (e : Event) → Sim (S.raise e (view h x)) h
+  raise-ok : (h : List Request) (x : Extra) → Since (x .clock) h → (e : Event) → Sim (withMaster (S.raise e (view h x .master)) (view h x)) h
   unfolding S.raise
   raise-ok h x k e =
       by (ltb (length (x .queue .held)) eventsMax)
@@ -173,9 +172,10 @@ module _ (outputs arm : ℕ) where
   unfolding S.takenWith
   taken-ok h x k r a e =
       let l = since-later h (x .clock) (r .time) (heard-time (x .clock) (x .inputs) r a e) k in
-      split (λ (w : World). Sim w h) (a .raised)
-      (λ _. raise-ok h (heardAt x (r .time) (a .inputs)) l (a .event))
-      (λ _. record { extra = heardAt x (r .time) (a .inputs); is = refl; since = l })
+      let y = heardAt x (r .time) (a .inputs) in
+      split (λ (m : Master). Sim (withMaster m (view h y)) h) (a .raised)
+      (λ _. raise-ok h y l (a .event))
+      (λ _. record { extra = y; is = refl; since = l })
 
   reading-ok : (h : List Request) (r : Reading) (x : Extra) → Since (x .clock) h → Does h [] (S.readingStep r (view h x))
   unfolding S.readingStep
@@ -328,7 +328,7 @@ start-ok u =
           record {
             confirmTime = u .«confirm_time»;
             clock = 0;
-            inputs = restarted u .inputs;
+            inputs = restarted u .shared .inputs;
             queue = record { held = []; overflow = false };
             restarted = true;
             wait = Idle;

@@ -46,9 +46,9 @@ unfoldable pub requestOf : Call → World → List Request
 requestOf (reading r) w = []
 requestOf (table rs) w = []
 requestOf (fragment time f room) w =
-    cond (badTime (w .clock) time) []
+    cond (badTime (w .shared .clock) time) []
     (cond (ltb room fragmentMax) []
-    (requestBy (ask (w .inputs) f) w time f))
+    (requestBy (ask (w .shared .inputs) f) w time f))
 
 -- the accepted requests of a list of calls, the latest first, those of h before them
 abbrev pub requestsAfter : List Call → World → List Request → List Request

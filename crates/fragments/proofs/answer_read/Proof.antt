@@ -68,11 +68,11 @@ returns c =
     let raw =
     verdict-worked w (a .q .0) (a .time) (rd .result) (a .out .now) (re .last .0) (queue (re .result .buffer)) _ _ (re .result .plan) _ (re .ensures .0) (rd .ensures)
     (c .before .before .before .before .before .before .before .before .before .before .any-carried .ensures) (re .ensures .1) (re .ensures .2) (re .ensures .3) in
-    let worked : Worked (rd .result) (a .out .now) (re .last .0) (readDeedBy w (a .q .0) (a .time) (readOf (w .inputs) (objectsOf (a .f .now)))) =
-    subst (λ (x : List ℕ). Worked (rd .result) (a .out .now) (re .last .0) (readDeedBy w (a .q .0) (a .time) (readOf (w .inputs) x))) whole raw in
+    let worked : Worked (rd .result) (a .out .now) (re .last .0) (readDeedBy w (a .q .0) (a .time) (readOf (w .shared .inputs) (objectsOf (a .f .now)))) =
+    subst (λ (x : List ℕ). Worked (rd .result) (a .out .now) (re .last .0) (readDeedBy w (a .q .0) (a .time) (readOf (w .shared .inputs) x))) whole raw in
     let marked =
-    re .ensures .1 ∙ ap (λ (x : List ℕ). queueAfter (w .inputs) (readOf (w .inputs) x) (w .queue)) whole
-    ∙ sym (read-queue w (a .q .0) (a .time) (readOf (w .inputs) (objectsOf (a .f .now)))) in
+    re .ensures .1 ∙ ap (λ (x : List ℕ). queueAfter (w .shared .inputs) (readOf (w .shared .inputs) x) (w .master .queue)) whole
+    ∙ sym (read-queue w (a .q .0) (a .time) (readOf (w .shared .inputs) (objectsOf (a .f .now)))) in
     let most = read-most w (a .q .0) (a .time) (objectsOf (a .f .now)) in
     let size = worked .size in
     let room : rd .result .size ≤ length (a .out .now) = omega (arith, most, size, c .before .before .before .before .before .before .before .before .before .before .before .before .before .before .before .before .before .before .before .before .before .before .before .pre) in
