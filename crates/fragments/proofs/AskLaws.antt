@@ -19,13 +19,11 @@ use Rattle.application.specs.Fragment.{Kind, classified, fragmentOf, objectsOf}
 use Rattle.request.specs.Parse.{Parsed, headers, fault}
 use Rattle.static_objects.specs.Static.{readOf}
 use Rattle.repeat.specs.Repeat.{isRepeat}
-use Rattle.outstation.specs.declared.Outstation.{Outstation}
 use Rattle.outstation.specs.Readings.{badTime}
 use Rattle.outstation.specs.Requests.{asks, readAsk, outcomeAsk, ask}
-use Rattle.outstation.specs.World.{World, world}
-use Rattle.outstation.specs.Step.{fragment, step, fragmentStep, refusal, onAsk, readStep, repeatStep, requestStep, deedBy, confirmStep}
-use Rattle.fragments.specs.declared.Answered.{Answered}
-use Rattle.fragments.specs.Given.{Given, readDeedBy, requestBy}
+use Rattle.outstation.specs.World.{World}
+use Rattle.outstation.specs.Step.{Result, fragment, step, fragmentStep, refusal, onAsk, readStep, repeatStep, requestStep, deedBy, confirmStep}
+use Rattle.fragments.specs.Given.{readDeedBy, requestBy}
 
 -- ---- the sizes
 
@@ -51,41 +49,42 @@ request-sized f k q function e t = well-sized f (passed-no (F.malformed f) 31 _ 
 
 -- ---- the step
 
-module _ (o : Outstation) (time : ℕ) (f : List ℕ) (room : ℕ) (r : Answered) (b a : List ℕ) where
-  pub fragment-late : badTime (o .clock) time ≡ true → Given o r b a (refusal 1 (world o)) → Given o r b a (step (fragment time f room) (world o))
+-- what holds of the step by what the fragment is, holds of the call's step
+module _ (w : World) (time : ℕ) (f : List ℕ) (room : ℕ) (P : Result → Type 0) where
+  pub fragment-late : badTime (w .shared .clock) time ≡ true → P (refusal 1 w) → P (step (fragment time f room) w)
   unfolding step fragmentStep
   fragment-late t h = rw t h
 
-  pub fragment-small : badTime (o .clock) time ≡ false → ltb room fragmentMax ≡ true → Given o r b a (refusal 33 (world o))
-      → Given o r b a (step (fragment time f room) (world o))
+  pub fragment-small : badTime (w .shared .clock) time ≡ false → ltb room fragmentMax ≡ true → P (refusal 33 w)
+      → P (step (fragment time f room) w)
   unfolding step fragmentStep
   fragment-small t s h = rw (t, s) h
 
-  module _ (t : badTime (o .clock) time ≡ false) (s : ltb room fragmentMax ≡ false) (k : Fragment) (is : fragmentOf k ≡ classified f) where
-    by-outcome : (x : Outcome Kind) → x ≡ classified f → Given o r b a (onAsk (outcomeAsk (world o .shared .inputs) f x) (world o) time f)
-        → Given o r b a (step (fragment time f room) (world o))
+  module _ (t : badTime (w .shared .clock) time ≡ false) (s : ltb room fragmentMax ≡ false) (k : Fragment) (is : fragmentOf k ≡ classified f) where
+    by-outcome : (x : Outcome Kind) → x ≡ classified f → P (onAsk (outcomeAsk (w .shared .inputs) f x) w time f)
+        → P (step (fragment time f room) w)
     unfolding step fragmentStep ask
     by-outcome x e h =
-        rw (t, s) (subst (λ (y : Outcome Kind). Given o r b a (onAsk (outcomeAsk (world o .shared .inputs) f y) (world o) time f)) e h)
+        rw (t, s) (subst (λ (y : Outcome Kind). P (onAsk (outcomeAsk (w .shared .inputs) f y) w time f)) e h)
 
-    pub fragment-malformed : k ≡ Ks.Malformed → Given o r b a (refusal 31 (world o)) → Given o r b a (step (fragment time f room) (world o))
+    pub fragment-malformed : k ≡ Ks.Malformed → P (refusal 31 w) → P (step (fragment time f room) w)
     fragment-malformed e h = by-outcome (fragmentOf Ks.Malformed) (sym (ap fragmentOf e) ∙ is) h
 
     pub fragment-confirm : (q : ApplicationSequence) (uns : Bool) → k ≡ Ks.Confirm q uns
-        → Given o r b a (confirmStep (world o) (world o .master .exchange .wait) (q .0) uns time) → Given o r b a (step (fragment time f room) (world o))
+        → P (confirmStep w (w .master .exchange .wait) (q .0) uns time) → P (step (fragment time f room) w)
     fragment-confirm q uns e h = by-outcome (fragmentOf (Ks.Confirm q uns)) (sym (ap fragmentOf e) ∙ is) h
 
-    asked-by : (w : World) (q function : ℕ) (c : Bool) (p : Parsed)
-        → Given o r b a
+    asked-by : (q function : ℕ) (c : Bool) (p : Parsed)
+        → P
         (cond c (readStep w q time f (readDeedBy w q time p))
         (cond (isRepeat (w .master .exchange .last) f) (repeatStep w function time) (requestStep w q function time f (deedBy w q function time (objectsOf f)))))
-        → Given o r b a (onAsk (cond c (readAsk q p) (asks q function)) w time f)
-    asked-by w q function true (headers hs) h = h
-    asked-by w q function true (fault n) h = h
-    asked-by w q function false p h = h
+        → P (onAsk (cond c (readAsk q p) (asks q function)) w time f)
+    asked-by q function true (headers hs) h = h
+    asked-by q function true (fault n) h = h
+    asked-by q function false p h = h
 
     pub fragment-request : (q : ApplicationSequence) (function : ℕ) → k ≡ Ks.Request q function
-        → Given o r b a (requestBy (world o) (q .0) function time f) → Given o r b a (step (fragment time f room) (world o))
+        → P (requestBy w (q .0) function time f) → P (step (fragment time f room) w)
     fragment-request q function e h =
         by-outcome (fragmentOf (Ks.Request q function)) (sym (ap fragmentOf e) ∙ is)
-        (asked-by (world o) (q .0) function (eqb function 1) (readOf (world o .shared .inputs) (objectsOf f)) h)
+        (asked-by (q .0) function (eqb function 1) (readOf (w .shared .inputs) (objectsOf f)) h)

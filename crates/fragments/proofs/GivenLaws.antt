@@ -36,18 +36,25 @@ use Rattle.outstation.specs.declared.Wait.the-variants.{Idle, Awaiting}
 use Rattle.application.specs.declared.ApplicationSequence.{ApplicationSequence}
 use Rattle.outstation.specs.Requests.{confirmed}
 use Rattle.outstation.specs.World.{World, Exchange, exchangeOf, world, SessionCounted, Counted}
-use Rattle.outstation.specs.Step.{Answer, answers, silent, refuses, refusal, done, atTime, indicationsOf, indications, responseBytes, controlDeed, deedBy, readStep, requestStep, repeatStep, withWait, clearing, confirmedStep, confirmStep}
+use Rattle.outstation.specs.Step.{Result, Answer, answers, silent, refuses, refusal, done, atTime, indicationsOf, indications, responseBytes, controlDeed, deedBy, readStep, requestStep, repeatStep, withWait, clearing, confirmedStep, confirmStep}
 use Rattle.outstation.specs.Step as S
 use Rattle.fragments.specs.declared.FragmentAnswer.{FragmentAnswer}
 use Rattle.fragments.specs.declared.FragmentAnswer.the-variants as Fs
 use Rattle.fragments.specs.declared.Answered.{Answered}
 use Rattle.fragments.specs.declared.Confirmation.{Confirmation}
 use Rattle.fragments.specs.declared.Deed.{Deed}
-use Rattle.fragments.specs.Given.{answerBy, sizeBy, Given, Still, Worked, leftWith, readDeedBy, requestBy, confirmBy, Confirms}
+use Rattle.fragments.specs.Given.{answerBy, sizeBy, AnsweredAs, Given, Still, Worked, leftWith, readDeedBy, requestBy, confirmBy, Confirms}
 
 pub length-response : (q : ℕ) (con : Bool) (i : Indications) (f : Fault) → length (responseOf q con i f) ≡ 4
 unfolding responseOf
 length-response q con i f = refl
+
+-- ---- the by-value state
+
+pub given : (o : Outstation) (r : Answered) (b a : List ℕ) (x : Result) → AnsweredAs (world (r .state)) (r .answer) (r .operated) b a x
+    → (Counted o → Counted (r .state)) → Given o r b a x
+given o r b a x h counts =
+    record { state = h .state; answer = h .answer; size = h .size; operated = h .objects; lent = h .lent; counted = counts }
 
 -- ---- a refusal
 
@@ -92,11 +99,9 @@ module _ (w : World) (v : Wait) (q : ℕ) (uns : Bool) (time : ℕ) where
     confirm-good t = rw (e, same, t)
 
 -- the step of a CONFIRM, by what it comes to
-pub confirm-given : (o : Outstation) (r : Answered) (b a : List ℕ) (v : Wait) (q : ℕ) (uns : Bool) (time : ℕ) (x y : Confirmation)
-    → Confirms x (o .«confirm_time») v q uns time → x ≡ y → Given o r b a (confirmBy y (world o) time)
-    → Given o r b a (confirmStep (world o) v q uns time)
-confirm-given o r b a v q uns time x y is e given =
-    subst (Given o r b a) (sym (is (world o) refl ∙ ap (λ (z : Confirmation). confirmBy z (world o) time) e)) given
+pub confirm-given : (w : World) (P : Result → Type 0) (v : Wait) (q : ℕ) (uns : Bool) (time : ℕ) (x y : Confirmation)
+    → Confirms x (w .shared .confirmTime) v q uns time → x ≡ y → P (confirmBy y w time) → P (confirmStep w v q uns time)
+confirm-given w P v q uns time x y is e h = subst P (sym (is w refl ∙ ap (λ (z : Confirmation). confirmBy z w time) e)) h
 
 -- the state after an accepted CONFIRM
 pub confirmed-state : (o : Outstation) (s : World) (time : ℕ) (shown since : Bool) (k : Queue) (x : Exchange) → s ≡ leftWith (world o) time (world o .shared .inputs) k x
@@ -207,68 +212,65 @@ deed-queue w q function time o = go (eqb function 2) (eqb function 3) (eqb funct
 
 -- ---- the answered request
 
-module _ (o s : Outstation) (q time : ℕ) (f : List ℕ) (r : Deed) (b a₁ : List ℕ) (d : S.Deed) (worked : Worked r b a₁ d) (k : Queue)
-    (marked : k ≡ d .queue) (x : Exchange) (m : Memory) (leaves : world s ≡ leftWith (world o) time (world o .shared .inputs) k x)
-    (holds : x ≡ record { restarted = r .restarted; wait = r .wait; last = m; latch = latchOf (r .latch) }) (counts : Counted o → Counted s) where
+module _ (w s : World) (q time : ℕ) (f : List ℕ) (r : Deed) (b a₁ : List ℕ) (d : S.Deed) (worked : Worked r b a₁ d) (k : Queue)
+    (marked : k ≡ d .queue) (x : Exchange) (m : Memory) (leaves : s ≡ leftWith w time (w .shared .inputs) k x)
+    (holds : x ≡ record { restarted = r .restarted; wait = r .wait; last = m; latch = latchOf (r .latch) }) where
   silent-given : (function : ℕ) → eqb function 6 ≡ true → d .objects ≡ [] → m ≡ kept f []
-      → Given o (record { answer = Fs.Silent; operated = r .operated; state = s }) b a₁ (requestStep (world o) q function time f d)
+      → AnsweredAs s Fs.Silent (r .operated) b a₁ (requestStep w q function time f d)
   unfolding requestStep
   silent-given function e none keeps =
       rw e
       (record {
-        state = left-done (world o) (world s) r b a₁ d worked k marked x time m f [] leaves holds keeps;
+        state = left-done w s r b a₁ d worked k marked x time m f [] leaves holds keeps;
         answer = ap silent (worked .operated .objects);
         size = refl;
-        operated = worked .operated;
+        objects = worked .operated;
         lent = worked .lent ∙ ap (splice b 4) none ∙ splice-nil b 4;
-        counted = counts;
       })
 
   module _ (a₂ : List ℕ) (put : a₂ ≡ splice a₁ 0 (responseOf q (r .con) (indicationsOf k (r .restarted)) (r .fault))) (room : r .size ≤ length b) where
     request-given : (function : ℕ) → eqb function 6 ≡ false → m ≡ kept f (take (r .size) a₂)
-        → Given o (record { answer = Fs.Answer (r .size); operated = r .operated; state = s }) b a₂ (requestStep (world o) q function time f d)
+        → AnsweredAs s (Fs.Answer (r .size)) (r .operated) b a₂ (requestStep w q function time f d)
     unfolding requestStep
     request-given function e keeps =
         let bytes : take (r .size) a₂ ≡ responseBytes q d = answer-is q r b a₁ a₂ d worked k marked put room in
         rw e
         (record {
-          state = left-done (world o) (world s) r b a₁ d worked k marked x time m f (responseBytes q d) leaves holds (keeps ∙ ap (kept f) bytes);
+          state = left-done w s r b a₁ d worked k marked x time m f (responseBytes q d) leaves holds (keeps ∙ ap (kept f) bytes);
           answer = ap₂ answers bytes (worked .operated .objects);
           size = answer-size q r b a₁ a₂ d worked k marked put;
-          operated = worked .operated;
+          objects = worked .operated;
           lent = answer-lent q r b a₁ a₂ d worked k marked put;
-          counted = counts;
         })
 
     pub read-given : (none : Crobs) → Holding none [] → m ≡ kept f []
-        → Given o (record { answer = Fs.Answer (r .size); operated = none; state = s }) b a₂ (readStep (world o) q time f d)
+        → AnsweredAs s (Fs.Answer (r .size)) none b a₂ (readStep w q time f d)
     unfolding readStep
     read-given none e keeps =
         record {
-          state = left-done (world o) (world s) r b a₁ d worked k marked x time m f [] leaves holds keeps;
+          state = left-done w s r b a₁ d worked k marked x time m f [] leaves holds keeps;
           answer = ap₂ answers (answer-is q r b a₁ a₂ d worked k marked put room) (e .objects);
           size = answer-size q r b a₁ a₂ d worked k marked put;
-          operated = e;
+          objects = e;
           lent = answer-lent q r b a₁ a₂ d worked k marked put;
-          counted = counts;
         }
 
   pub request-any : (a₂ : List ℕ) (n : ℕ) (is : FragmentAnswer) (function : ℕ) → (function ≡ 6 → d .objects ≡ [])
       → a₂ ≡ cond (eqb function 6) a₁ (splice a₁ 0 (responseOf q (r .con) (indicationsOf k (r .restarted)) (r .fault)))
       → n ≡ cond (eqb function 6) 0 (r .size) → r .size ≤ length b → is ≡ cond (eqb function 6) Fs.Silent (Fs.Answer n) → m ≡ kept f (take n a₂)
-      → Given o (record { answer = is; operated = r .operated; state = s }) b a₂ (requestStep (world o) q function time f d)
+      → AnsweredAs s is (r .operated) b a₂ (requestStep w q function time f d)
   request-any a₂ n is function none put size room said keeps = go (eqb function 6) refl put size said
     where
       go : (e : Bool) → eqb function 6 ≡ e
           → a₂ ≡ cond e a₁ (splice a₁ 0 (responseOf q (r .con) (indicationsOf k (r .restarted)) (r .fault))) → n ≡ cond e 0 (r .size)
           → is ≡ cond e Fs.Silent (Fs.Answer n)
-          → Given o (record { answer = is; operated = r .operated; state = s }) b a₂ (requestStep (world o) q function time f d)
+          → AnsweredAs s is (r .operated) b a₂ (requestStep w q function time f d)
       go true e p z t =
-          subst (λ (x : FragmentAnswer). Given o (record { answer = x; operated = r .operated; state = s }) b a₂ (requestStep (world o) q function time f d)) (sym t)
-          (subst (λ (x : List ℕ). Given o (record { answer = Fs.Silent; operated = r .operated; state = s }) b x (requestStep (world o) q function time f d)) (sym p)
+          subst (λ (x : FragmentAnswer). AnsweredAs s x (r .operated) b a₂ (requestStep w q function time f d)) (sym t)
+          (subst (λ (x : List ℕ). AnsweredAs s Fs.Silent (r .operated) b x (requestStep w q function time f d)) (sym p)
           (silent-given function e (none (eqb-true function 6 e)) (keeps ∙ ap (λ (j : ℕ). kept f (take j a₂)) z)))
       go false e p z t =
-          subst (λ (x : FragmentAnswer). Given o (record { answer = x; operated = r .operated; state = s }) b a₂ (requestStep (world o) q function time f d))
+          subst (λ (x : FragmentAnswer). AnsweredAs s x (r .operated) b a₂ (requestStep w q function time f d))
           (sym (t ∙ ap Fs.Answer z))
           (request-given a₂ p room function e (keeps ∙ ap (λ (j : ℕ). kept f (take j a₂)) z))
 
@@ -279,17 +281,17 @@ kept-most false n size h m = omega (arith, h, m)
 
 -- ---- a request by its function
 
-module _ (o : Outstation) (w : World) (q function time : ℕ) (f : List ℕ) (r : Answered) (b a : List ℕ) where
-  pub by-read : eqb function 1 ≡ true → Given o r b a (readStep w q time f (readDeedBy w q time (readOf (w .shared .inputs) (objectsOf f))))
-      → Given o r b a (requestBy w q function time f)
+module _ (w : World) (q function time : ℕ) (f : List ℕ) (P : Result → Type 0) where
+  pub by-read : eqb function 1 ≡ true → P (readStep w q time f (readDeedBy w q time (readOf (w .shared .inputs) (objectsOf f))))
+      → P (requestBy w q function time f)
   by-read e h = rw e h
 
   module _ (e : eqb function 1 ≡ false) where
-    pub by-repeat : isRepeat (w .master .exchange .last) f ≡ true → Given o r b a (repeatStep w function time) → Given o r b a (requestBy w q function time f)
+    pub by-repeat : isRepeat (w .master .exchange .last) f ≡ true → P (repeatStep w function time) → P (requestBy w q function time f)
     by-repeat t h = rw (e, t) h
 
-    pub by-other : isRepeat (w .master .exchange .last) f ≡ false → Given o r b a (requestStep w q function time f (deedBy w q function time (objectsOf f)))
-        → Given o r b a (requestBy w q function time f)
+    pub by-other : isRepeat (w .master .exchange .last) f ≡ false → P (requestStep w q function time f (deedBy w q function time (objectsOf f)))
+        → P (requestBy w q function time f)
     by-other t h = rw (e, t) h
 
 -- ---- a repeat
@@ -303,40 +305,38 @@ kept-short m e = go (m .held)
     go true = simp length-take (omega arith)
     go false = omega arith
 
-module _ (o s : Outstation) (function time : ℕ) (none : Crobs) (b : List ℕ) (same : world s ≡ atTime time (world o)) (no : Holding none [])
-    (counts : Counted o → Counted s) where
-  repeat-silent : eqb function 6 ≡ true → Given o (record { answer = Fs.Silent; operated = none; state = s }) b b (repeatStep (world o) function time)
+module _ (w s : World) (function time : ℕ) (none : Crobs) (b : List ℕ) (same : s ≡ atTime time w) (no : Holding none []) where
+  repeat-silent : eqb function 6 ≡ true → AnsweredAs s Fs.Silent none b b (repeatStep w function time)
   unfolding repeatStep
-  repeat-silent e = rw e (record { state = same; answer = ap silent (no .objects); size = refl; operated = no; lent = refl; counted = counts })
+  repeat-silent e = rw e (record { state = same; answer = ap silent (no .objects); size = refl; objects = no; lent = refl })
 
-  repeat-given : (a : List ℕ) (n : ℕ) → eqb function 6 ≡ false → a ≡ splice b 0 (answerOf (world o .master .exchange .last))
-      → n ≡ length (answerOf (world o .master .exchange .last)) → n ≤ length b
-      → Given o (record { answer = Fs.Answer n; operated = none; state = s }) b a (repeatStep (world o) function time)
+  repeat-given : (a : List ℕ) (n : ℕ) → eqb function 6 ≡ false → a ≡ splice b 0 (answerOf (w .master .exchange .last))
+      → n ≡ length (answerOf (w .master .exchange .last)) → n ≤ length b
+      → AnsweredAs s (Fs.Answer n) none b a (repeatStep w function time)
   unfolding repeatStep
   repeat-given a n e put size room =
       rw e
       (record {
         state = same;
-        answer = ap₂ answers (answer-taken b a (answerOf (world o .master .exchange .last)) n put size room) (no .objects);
+        answer = ap₂ answers (answer-taken b a (answerOf (w .master .exchange .last)) n put size room) (no .objects);
         size = size;
-        operated = no;
+        objects = no;
         lent = put;
-        counted = counts;
       })
 
-  pub repeat-any : (a : List ℕ) (n : ℕ) (is : FragmentAnswer) → a ≡ cond (eqb function 6) b (splice b 0 (answerOf (world o .master .exchange .last)))
-      → n ≡ cond (eqb function 6) 0 (length (answerOf (world o .master .exchange .last))) → n ≤ length b
+  pub repeat-any : (a : List ℕ) (n : ℕ) (is : FragmentAnswer) → a ≡ cond (eqb function 6) b (splice b 0 (answerOf (w .master .exchange .last)))
+      → n ≡ cond (eqb function 6) 0 (length (answerOf (w .master .exchange .last))) → n ≤ length b
       → is ≡ cond (eqb function 6) Fs.Silent (Fs.Answer n)
-      → Given o (record { answer = is; operated = none; state = s }) b a (repeatStep (world o) function time)
+      → AnsweredAs s is none b a (repeatStep w function time)
   repeat-any a n is put size room said = go (eqb function 6) refl put size said
     where
-      go : (e : Bool) → eqb function 6 ≡ e → a ≡ cond e b (splice b 0 (answerOf (world o .master .exchange .last)))
-          → n ≡ cond e 0 (length (answerOf (world o .master .exchange .last))) → is ≡ cond e Fs.Silent (Fs.Answer n)
-          → Given o (record { answer = is; operated = none; state = s }) b a (repeatStep (world o) function time)
+      go : (e : Bool) → eqb function 6 ≡ e → a ≡ cond e b (splice b 0 (answerOf (w .master .exchange .last)))
+          → n ≡ cond e 0 (length (answerOf (w .master .exchange .last))) → is ≡ cond e Fs.Silent (Fs.Answer n)
+          → AnsweredAs s is none b a (repeatStep w function time)
       go true e p z t =
-          subst (λ (x : FragmentAnswer). Given o (record { answer = x; operated = none; state = s }) b a (repeatStep (world o) function time)) (sym t)
-          (subst (λ (x : List ℕ). Given o (record { answer = Fs.Silent; operated = none; state = s }) b x (repeatStep (world o) function time)) (sym p)
+          subst (λ (x : FragmentAnswer). AnsweredAs s x none b a (repeatStep w function time)) (sym t)
+          (subst (λ (x : List ℕ). AnsweredAs s Fs.Silent none b x (repeatStep w function time)) (sym p)
           (repeat-silent e))
       go false e p z t =
-          subst (λ (x : FragmentAnswer). Given o (record { answer = x; operated = none; state = s }) b a (repeatStep (world o) function time)) (sym t)
+          subst (λ (x : FragmentAnswer). AnsweredAs s x none b a (repeatStep w function time)) (sym t)
           (repeat-given a n e p z room)

@@ -9,6 +9,7 @@ use lib.ListN.{length, take}
 use Rattle.octets.specs.Bytes.{splice}
 use Rattle.application.specs.declared.Fault.the-variants.{Faultless, ObjectUnknown, BadParameter}
 use Rattle.control.specs.declared.Crob.{Crob}
+use Rattle.control.specs.declared.Crobs.{Crobs}
 use Rattle.control.specs.Objects.{echoMax, listOf, Holding}
 use Rattle.select.specs.Select.{noSelect, latchOf}
 use Rattle.points.specs.Inputs.{Inputs}
@@ -63,6 +64,15 @@ sizeIn (answers bytes operated) = length bytes
 sizeIn (silent operated) = 0
 sizeIn accepts = 0
 sizeIn (refuses n) = 0
+
+-- the answer a with these objects, of a call that left the state s and had these lent bytes before and after, is this step's: state, answer,
+-- its length, objects handed to the host, each lent byte
+pub record AnsweredAs (s : World) (a : FragmentAnswer) (operated : Crobs) (before after : List ℕ) (x : Result) : Type 0 where
+  pub state : s ≡ x .state
+  pub answer : answerBy a after (listOf operated) ≡ x .answer
+  pub size : sizeBy a ≡ sizeIn (x .answer)
+  pub objects : Holding operated (handed (x .answer))
+  pub lent : after ≡ lentAfter before (x .answer)
 
 -- the result r of a call on o that had these lent bytes before and after is this step's: new state, answer, its length, objects
 -- handed to the host, each lent byte; and no count of the state passes its array, where none did before

@@ -145,7 +145,7 @@ fn in_time(
 }
 
 // IIN2.3 after an accepted CONFIRM.
-fn still_dropped(shown: bool, since: bool, overflow: bool) -> bool
+pub fn still_dropped(shown: bool, since: bool, overflow: bool) -> bool
     ensures { λ r. ⌜ r ≡ cond (shown && not since) false overflow ⌝ }
 {
     if shown {
@@ -211,7 +211,13 @@ fn accept_confirm(o: Outstation, time: u64, shown: bool, since: bool) -> Answere
 }
 
 // Whether a CONFIRM is accepted, by the response that awaits it.
-fn confirm(confirm_time: u64, w: Wait, q: ApplicationSequence, uns: bool, time: u64) -> Confirmation
+pub fn confirm(
+    confirm_time: u64,
+    w: Wait,
+    q: ApplicationSequence,
+    uns: bool,
+    time: u64,
+) -> Confirmation
     ensures { λ r. ⌜ Confirms r «confirm_time» w (q .0) uns time ⌝ }
 {
     match w {
@@ -316,7 +322,7 @@ fn wait_for(con: bool, q: ApplicationSequence, time: u64, shown: bool) -> Wait
     }
 }
 
-fn either(a: bool, b: bool) -> bool
+pub fn either(a: bool, b: bool) -> bool
     ensures { λ r. ⌜ r ≡ (a || b) ⌝ }
 {
     if a { true } else { b }
@@ -444,7 +450,7 @@ fn answer_read(
 }
 
 // What a request other than READ does, by its function, of the bytes after control and function.
-fn deed_of(
+pub fn deed_of(
     seen: Seen,
     q: ApplicationSequence,
     function: u8,
@@ -495,7 +501,7 @@ fn put_answer(out: &mut [u8], q: ApplicationSequence, function: u8, d: Deed, b: 
     d.size
 }
 
-fn answer_as(function: u8, n: usize) -> FragmentAnswer
+pub fn answer_as(function: u8, n: usize) -> FragmentAnswer
     ensures { λ r. ⌜ r ≡ cond (eqb function 6) FragmentAnswer.Silent (FragmentAnswer.Answer n) ⌝ }
 {
     if function == 6 {

@@ -13,7 +13,7 @@ use Rattle.static_objects.specs.Static.{readOf}
 use Rattle.read.specs.Response.{queueAfter}
 use Rattle.outstation.specs.World.{world, exchangeOf}
 use Rattle.fragments.proofs.DeedLaws.{read-queue, verdict-worked, read-most}
-use Rattle.fragments.proofs.GivenLaws.{read-given, counted-left, counted-kept}
+use Rattle.fragments.proofs.GivenLaws.{given, read-given, counted-left, counted-kept}
 use Rattle.fragments.specs.Given.{Worked, readDeedBy}
 use Rattle.fragments.proofs.answer_read.Statement.{statement}
 use Rattle.fragments.proofs.answer_read.Tie as tie
@@ -83,8 +83,9 @@ returns c =
     counted-left (a .o) (c .left-with .result) _ _ (left .1) (left .2) (left .3)
     (λ k. omega (arith, re .ensures .4, k .events))
     (λ k. counted-kept _ _ _ (keeps .1) (keeps .2) (last .1) (last .2) (worked .counted)) in
-    read-given (a .o) (c .left-with .result) (a .q .0) (a .time) (a .f .now) (rd .result) (a .out .now) _ _ worked _ marked _ _ (left .0)
-    (keeps .0) counts _ (c .before .before .before .before .before .before .before .put-header .ensures) room (c .before .before .none .result) (c .before .before .none .ensures) (last .0)
+    given (a .o) _ (a .out .now) _ _
+    (read-given (world (a .o)) (world (c .left-with .result)) (a .q .0) (a .time) (a .f .now) (rd .result) (a .out .now) _ _ worked _ marked _ _ (left .0)
+    (keeps .0) _ (c .before .before .before .before .before .before .before .put-header .ensures) room (c .before .before .none .result) (c .before .before .none .ensures) (last .0)) counts
 
 pub answer-read-spec : {M : Type 1} → statement M
 answer-read-spec =

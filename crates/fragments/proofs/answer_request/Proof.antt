@@ -12,7 +12,7 @@ use Rattle.application.specs.Fragment.{objectsOf}
 use Rattle.events.specs.Queue.{queue}
 use Rattle.outstation.specs.Step.{deedBy}
 use Rattle.outstation.specs.World.{world, exchangeOf}
-use Rattle.fragments.proofs.GivenLaws.{objects-most, silent-objects, deed-queue, request-any, counted-left, counted-kept, kept-most}
+use Rattle.fragments.proofs.GivenLaws.{given, objects-most, silent-objects, deed-queue, request-any, counted-left, counted-kept, kept-most}
 use Rattle.fragments.specs.Given.{Worked}
 use Rattle.fragments.proofs.answer_request.Statement.{statement}
 use Rattle.fragments.proofs.answer_request.Tie as tie
@@ -110,9 +110,10 @@ returns c =
     counted-left (a .o) (c .left-with .result) _ _ (leaves .1) (leaves .2) (leaves .3)
     (λ k. omega (arith, c .before .before .before .before .before .before .before .before .before .clear .ensures .1, k .events))
     (λ k. counted-kept _ _ _ (keeps .1) (keeps .2) (last .1) (last .2) (worked .counted)) in
-    request-any (a .o) (c .left-with .result) (a .q .0) (a .time) (a .f .now) (dd .result) (a .out .now) _ _ worked _ left _ _ (leaves .0)
-    (keeps .0) counts _ (pa .result) _ (a .function) (silent-objects w (a .q .0) (a .function) (a .time) (objectsOf (a .f .now)))
-    (pa .ensures .0) (pa .ensures .1) room (c .before .answer-as .ensures) (last .0)
+    given (a .o) _ (a .out .now) _ _
+    (request-any w (world (c .left-with .result)) (a .q .0) (a .time) (a .f .now) (dd .result) (a .out .now) _ _ worked _ left _ _ (leaves .0)
+    (keeps .0) _ (pa .result) _ (a .function) (silent-objects w (a .q .0) (a .function) (a .time) (objectsOf (a .f .now)))
+    (pa .ensures .0) (pa .ensures .1) room (c .before .answer-as .ensures) (last .0)) counts
 
 pub answer-request-spec : {M : Type 1} → statement M
 answer-request-spec =

@@ -7,6 +7,7 @@ use lib.ListN.{length}
 use Rattle.outstation.specs.World.{world, exchangeOf}
 use Rattle.fragments.proofs.AskLaws.{request-sized, fragment-late, fragment-small, fragment-malformed, fragment-confirm, fragment-request}
 use Rattle.fragments.proofs.GivenLaws.{refused-given, confirm-given, by-read, by-repeat, by-other}
+use Rattle.fragments.specs.Given.{Given}
 use Rattle.fragments.specs.declared.FragmentAnswer.the-variants as Fs
 use Rattle.fragments.specs.declared.Confirmation.the-variants as Cs
 use Rattle.fragments.proofs.fragment.Statement.{statement}
@@ -21,7 +22,7 @@ refuse-requires c κs = search needs
 returns : tie.Need-returns
 returns c =
     let a = c .before .before .before .before .before .args in
-    fragment-late (a .o) (a .time) (a .f .now) (length (a .out .now)) (c .refuse .result) (a .out .now) (a .out .now)
+    fragment-late (world (a .o)) (a .time) (a .f .now) (length (a .out .now)) (Given (a .o) (c .refuse .result) (a .out .now) (a .out .now))
     (sym (c .before .before .bad-time .ensures) ∙ c .before .if1 .taken)
     (refused-given (c .refuse .result) (a .o) Fs.Time 1 (c .refuse .ensures .0) (c .refuse .ensures .1) (c .refuse .ensures .2) (λ d x. refl) refl (a .out .now))
 
@@ -31,7 +32,7 @@ refuse-requires-2 c κs = search needs
 returns-2 : tie.Need-returns-2
 returns-2 c =
     let a = c .before .before .before .before .before .before .args in
-    fragment-small (a .o) (a .time) (a .f .now) (length (a .out .now)) (c .refuse2 .result) (a .out .now) (a .out .now)
+    fragment-small (world (a .o)) (a .time) (a .f .now) (length (a .out .now)) (Given (a .o) (c .refuse2 .result) (a .out .now) (a .out .now))
     (sym (c .before .before .before .bad-time .ensures) ∙ c .before .before .if1 .left) (lt-ltb _ _ (c .before .if2 .taken))
     (refused-given (c .refuse2 .result) (a .o) Fs.AnswerLent 33 (c .refuse2 .ensures .0) (c .refuse2 .ensures .1) (c .refuse2 .ensures .2) (λ d x. refl) refl (a .out .now))
 
@@ -62,9 +63,9 @@ returns-3 c =
     let a = c .before .before .before .before .before .before .before .before .before .before .before .before .before .before .args in
     let cl = c .before .before .before .before .before .before .before .before .classify in
     let g = c .before .before .before .before .before .before .k .given in
-    fragment-confirm (a .o) (a .time) (a .f .now) (length (a .out .now)) (c .refuse4 .result) (a .out .now) (a .out .now)
+    fragment-confirm (world (a .o)) (a .time) (a .f .now) (length (a .out .now)) (Given (a .o) (c .refuse4 .result) (a .out .now) (a .out .now))
     (sym (c .before .before .before .before .before .before .before .before .before .before .before .bad-time .ensures) ∙ c .before .before .before .before .before .before .before .before .before .before .if1 .left) (le-ltb _ _ (c .before .before .before .before .before .before .before .before .before .if2 .left)) (cl .result) (cl .ensures) (g .0 .0) (g .0 .1 .0) (g .1)
-    (confirm-given (a .o) (c .refuse4 .result) (a .out .now) (a .out .now) (a .o .session .wait) (g .0 .0 .0) (g .0 .1 .0) (a .time) (c .before .before .before .confirm .result) Cs.Refused
+    (confirm-given (world (a .o)) (Given (a .o) (c .refuse4 .result) (a .out .now) (a .out .now)) (a .o .session .wait) (g .0 .0 .0) (g .0 .1 .0) (a .time) (c .before .before .before .confirm .result) Cs.Refused
     (c .before .before .before .confirm .ensures) (c .before .enum-told2 .given .1)
     (refused-given (c .refuse4 .result) (a .o) Fs.NotConfirmed 32 (c .refuse4 .ensures .0) (c .refuse4 .ensures .1) (c .refuse4 .ensures .2) (λ d x. refl) refl (a .out .now)))
 
@@ -81,9 +82,9 @@ returns-4 c =
     let cl = c .before .before .before .before .before .before .before .before .before .classify in
     let g = c .before .before .before .before .before .before .before .k .given in
     let h = c .before .before .c .given in
-    fragment-confirm (a .o) (a .time) (a .f .now) (length (a .out .now)) (c .accept-confirm .result) (a .out .now) (a .out .now)
+    fragment-confirm (world (a .o)) (a .time) (a .f .now) (length (a .out .now)) (Given (a .o) (c .accept-confirm .result) (a .out .now) (a .out .now))
     (sym (c .before .before .before .before .before .before .before .before .before .before .before .before .bad-time .ensures) ∙ c .before .before .before .before .before .before .before .before .before .before .before .if1 .left) (le-ltb _ _ (c .before .before .before .before .before .before .before .before .before .before .if2 .left)) (cl .result) (cl .ensures) (g .0 .0) (g .0 .1 .0) (g .1)
-    (confirm-given (a .o) (c .accept-confirm .result) (a .out .now) (a .out .now) (a .o .session .wait) (g .0 .0 .0) (g .0 .1 .0) (a .time) (c .before .before .before .before .confirm .result)
+    (confirm-given (world (a .o)) (Given (a .o) (c .accept-confirm .result) (a .out .now) (a .out .now)) (a .o .session .wait) (g .0 .0 .0) (g .0 .1 .0) (a .time) (c .before .before .before .before .confirm .result)
     (Cs.Accepted (h .0 .0) (h .0 .1 .0)) (c .before .before .before .before .confirm .ensures) (h .1) (c .accept-confirm .ensures (a .out .now)))
 
 enum-known-k-2 : tie.Need-enum-known-k-2
@@ -105,9 +106,9 @@ returns-5 c =
     let a = c .before .before .before .before .before .before .before .before .before .before .before .before .before .before .args in
     let cl = c .before .before .before .before .before .before .before .before .classify in
     let g = c .before .before .before .before .before .before .k2 .given in
-    fragment-request (a .o) (a .time) (a .f .now) (length (a .out .now)) (c .before .before .answer-read .result) (a .out .now) _
+    fragment-request (world (a .o)) (a .time) (a .f .now) (length (a .out .now)) (Given (a .o) (c .before .before .answer-read .result) (a .out .now) _)
     (sym (c .before .before .before .before .before .before .before .before .before .before .before .bad-time .ensures) ∙ c .before .before .before .before .before .before .before .before .before .before .if1 .left) (le-ltb _ _ (c .before .before .before .before .before .before .before .before .before .if2 .left)) (cl .result) (cl .ensures) (g .0 .0) (g .0 .1 .0) (g .1)
-    (by-read (a .o) (world (a .o)) (g .0 .0 .0) (g .0 .1 .0) (a .time) (a .f .now) (c .before .before .answer-read .result) (a .out .now) _ (eq-eqb _ _ (c .before .before .before .before .if3 .taken)) (c .before .before .answer-read .ensures))
+    (by-read (world (a .o)) (g .0 .0 .0) (g .0 .1 .0) (a .time) (a .f .now) (Given (a .o) (c .before .before .answer-read .result) (a .out .now) _) (eq-eqb _ _ (c .before .before .before .before .if3 .taken)) (c .before .before .answer-read .ensures))
 
 repeats-requires : tie.Need-repeats-requires
 repeats-requires c κs =
@@ -129,9 +130,9 @@ returns-6 c =
     let a = c .before .before .before .before .before .before .before .before .before .before .before .before .before .before .before .before .before .before .args in
     let cl = c .before .before .before .before .before .before .before .before .before .before .before .before .classify in
     let g = c .before .before .before .before .before .before .before .before .before .before .k2 .given in
-    fragment-request (a .o) (a .time) (a .f .now) (length (a .out .now)) (c .before .before .repeat-request .result) (a .out .now) _
+    fragment-request (world (a .o)) (a .time) (a .f .now) (length (a .out .now)) (Given (a .o) (c .before .before .repeat-request .result) (a .out .now) _)
     (sym (c .before .before .before .before .before .before .before .before .before .before .before .before .before .before .before .bad-time .ensures) ∙ c .before .before .before .before .before .before .before .before .before .before .before .before .before .before .if1 .left) (le-ltb _ _ (c .before .before .before .before .before .before .before .before .before .before .before .before .before .if2 .left)) (cl .result) (cl .ensures) (g .0 .0) (g .0 .1 .0) (g .1)
-    (by-repeat (a .o) (world (a .o)) (g .0 .0 .0) (g .0 .1 .0) (a .time) (a .f .now) (c .before .before .repeat-request .result) (a .out .now) _ (ne-eqb _ _ (c .before .before .before .before .before .before .before .before .if3 .left)) (sym (c .before .before .before .before .before .repeats .ensures) ∙ c .before .before .before .before .if4 .taken) (c .before .before .repeat-request .ensures))
+    (by-repeat (world (a .o)) (g .0 .0 .0) (g .0 .1 .0) (a .time) (a .f .now) (Given (a .o) (c .before .before .repeat-request .result) (a .out .now) _) (ne-eqb _ _ (c .before .before .before .before .before .before .before .before .if3 .left)) (sym (c .before .before .before .before .before .repeats .ensures) ∙ c .before .before .before .before .if4 .taken) (c .before .before .repeat-request .ensures))
 
 answer-request-requires : tie.Need-answer-request-requires
 answer-request-requires c κs =
@@ -150,15 +151,15 @@ returns-7 c =
     let a = c .before .before .before .before .before .before .before .before .before .before .before .before .before .before .before .before .before .before .args in
     let cl = c .before .before .before .before .before .before .before .before .before .before .before .before .classify in
     let g = c .before .before .before .before .before .before .before .before .before .before .k2 .given in
-    fragment-request (a .o) (a .time) (a .f .now) (length (a .out .now)) (c .before .before .answer-request .result) (a .out .now) _
+    fragment-request (world (a .o)) (a .time) (a .f .now) (length (a .out .now)) (Given (a .o) (c .before .before .answer-request .result) (a .out .now) _)
     (sym (c .before .before .before .before .before .before .before .before .before .before .before .before .before .before .before .bad-time .ensures) ∙ c .before .before .before .before .before .before .before .before .before .before .before .before .before .before .if1 .left) (le-ltb _ _ (c .before .before .before .before .before .before .before .before .before .before .before .before .before .if2 .left)) (cl .result) (cl .ensures) (g .0 .0) (g .0 .1 .0) (g .1)
-    (by-other (a .o) (world (a .o)) (g .0 .0 .0) (g .0 .1 .0) (a .time) (a .f .now) (c .before .before .answer-request .result) (a .out .now) _ (ne-eqb _ _ (c .before .before .before .before .before .before .before .before .if3 .left)) (sym (c .before .before .before .before .before .repeats .ensures) ∙ c .before .before .before .before .if4 .left) (c .before .before .answer-request .ensures))
+    (by-other (world (a .o)) (g .0 .0 .0) (g .0 .1 .0) (a .time) (a .f .now) (Given (a .o) (c .before .before .answer-request .result) (a .out .now) _) (ne-eqb _ _ (c .before .before .before .before .before .before .before .before .if3 .left)) (sym (c .before .before .before .before .before .repeats .ensures) ∙ c .before .before .before .before .if4 .left) (c .before .before .answer-request .ensures))
 
 returns-8 : tie.Need-returns-8
 returns-8 c =
     let a = c .before .before .before .before .before .before .before .before .before .args in
     let cl = c .before .before .before .classify in
-    fragment-malformed (a .o) (a .time) (a .f .now) (length (a .out .now)) (c .refuse3 .result) (a .out .now) (a .out .now)
+    fragment-malformed (world (a .o)) (a .time) (a .f .now) (length (a .out .now)) (Given (a .o) (c .refuse3 .result) (a .out .now) (a .out .now))
     (sym (c .before .before .before .before .before .before .bad-time .ensures) ∙ c .before .before .before .before .before .if1 .left) (le-ltb _ _ (c .before .before .before .before .if2 .left)) (cl .result) (cl .ensures) (c .before .enum-told .given .1)
     (refused-given (c .refuse3 .result) (a .o) Fs.Malformed 31 (c .refuse3 .ensures .0) (c .refuse3 .ensures .1) (c .refuse3 .ensures .2) (λ d x. refl) refl (a .out .now))
 

@@ -2,8 +2,8 @@
 -- Assumes nothing.
 use mathlib.Core.Path.{refl}
 use borrow.Author.Needs.{needs}
-use Rattle.outstation.specs.World.{exchangeOf}
-use Rattle.fragments.proofs.GivenLaws.{repeat-any}
+use Rattle.outstation.specs.World.{world, exchangeOf}
+use Rattle.fragments.proofs.GivenLaws.{given, repeat-any}
 use Rattle.fragments.proofs.repeat_request.Statement.{statement}
 use Rattle.fragments.proofs.repeat_request.Tie as tie
 
@@ -24,8 +24,10 @@ unfolding exchangeOf
 returns c =
     let a = c .before .before .before .before .before .before .before .before .before .args in
     let an = c .before .before .before .before .put-again in
-    repeat-any (a .o) _ (a .function) (a .time) (c .none .result) (a .out .now) refl (c .none .ensures) (λ k. record { binaries = k .binaries; analogs = k .analogs; events = k .events; session = k .session }) _ (an .result) _ (an .ensures .0) (an .ensures .1)
-    (an .ensures .2) (c .before .answer-as .ensures)
+    given (a .o) _ (a .out .now) _ _
+    (repeat-any (world (a .o)) _ (a .function) (a .time) (c .none .result) (a .out .now) refl (c .none .ensures) _ (an .result) _ (an .ensures .0) (an .ensures .1)
+    (an .ensures .2) (c .before .answer-as .ensures))
+    (λ k. record { binaries = k .binaries; analogs = k .analogs; events = k .events; session = k .session })
 
 pub repeat-request-spec : {M : Type 1} → statement M
 repeat-request-spec =
