@@ -1,7 +1,7 @@
 // A fragment on a head by value and lent memory: refused, a CONFIRM, a READ, a repeat, or another request.
 ghost use mathlib.Core.Path.{_≡_};
 ghost use mathlib.Core.Bool.{cond, false};
-ghost use mathlib.Core.List.{[]};
+ghost use mathlib.Core.List.{[], map};
 ghost use Prim.Native.Nat.{_≤_};
 ghost use lib.Dec.{eqb};
 ghost use lib.ListN.{length};
@@ -29,12 +29,14 @@ ghost use Rattle.lent_fragments.specs.LentGiven.{
   LeftIn,
   ReadLeft,
 };
+ghost use Rattle.lent_fragments.specs.Host.{crobImage, crobsImage, answerImage, FragmentFromC};
 use application::ApplicationSequence;
 use application::FRAGMENT_MAX;
 use application::Fault;
 use application::Fragment;
 use application::Indications;
 use control::ANSWER_MAX;
+use control::Crob;
 use control::Crobs;
 use control::ECHO_MAX;
 use event_store::BufferStatus;
@@ -473,5 +475,155 @@ pub fn fragment(
             f,
             out,
         ),
+    }
+}
+
+// ---- for a host in C
+
+// A control relay output block with the index it is for.
+#[repr(C)]
+pub struct CrobImage {
+    pub on_time: u32,
+    pub off_time: u32,
+    pub index: u16,
+    pub code: u8,
+    pub count: u8,
+    pub status: u8,
+}
+
+// The first `count` objects, in the order asked.
+#[repr(C)]
+pub struct CrobsImage {
+    pub items: [CrobImage; 8],
+    pub count: usize,
+}
+
+// Kind 0: the answer is the first `length` lent bytes; 1: accepted, and not answered; 2: a CONFIRM was accepted; 3: refused, 1 or 31 to 33.
+#[repr(C)]
+pub struct FragmentImage {
+    pub length: usize,
+    pub kind: u8,
+    pub refusal: u8,
+}
+
+// What a fragment comes to: the objects are handed to the host to be carried out.
+#[repr(C)]
+pub struct AnswerImage {
+    pub head: Head,
+    pub operated: CrobsImage,
+    pub answer: FragmentImage,
+}
+
+fn crob_image(x: Crob) -> CrobImage
+    ensures { λ r. ⌜ r ≡ crobImage x ⌝ }
+{
+    CrobImage {
+        on_time: x.on_time,
+        off_time: x.off_time,
+        index: x.index,
+        code: x.code,
+        count: x.count,
+        status: x.status,
+    }
+}
+
+fn crob_images(xs: [Crob; 8]) -> [CrobImage; 8]
+    ensures { λ r. ⌜ r ≡ map crobImage xs ⌝ }
+{
+    let a = xs[0];
+    let first = crob_image(a);
+    let mut next = [first; 8];
+    let mut i: usize = 0;
+    while i < 8 {
+        let x = xs[i];
+        next[i] = crob_image(x);
+        i += 1;
+    }
+    next
+}
+
+fn crobs_image(c: Crobs) -> CrobsImage
+    ensures { λ r. ⌜ r ≡ crobsImage c ⌝ }
+{
+    let items = c.items;
+    CrobsImage {
+        items: crob_images(items),
+        count: c.count,
+    }
+}
+
+fn refused_fragment(n: u8) -> FragmentImage
+    ensures { λ r. ⌜ r ≡ record { length = 0; kind = 3; refusal = n } ⌝ }
+{
+    FragmentImage {
+        length: 0,
+        kind: 3,
+        refusal: n,
+    }
+}
+
+fn answer_image(a: FragmentAnswer) -> FragmentImage
+    ensures { λ r. ⌜ r ≡ answerImage a ⌝ }
+{
+    match a {
+        FragmentAnswer::Answer(n) => FragmentImage {
+            length: n,
+            kind: 0,
+            refusal: 0,
+        },
+        FragmentAnswer::Silent => FragmentImage {
+            length: 0,
+            kind: 1,
+            refusal: 0,
+        },
+        FragmentAnswer::Confirmed => FragmentImage {
+            length: 0,
+            kind: 2,
+            refusal: 0,
+        },
+        FragmentAnswer::Time => refused_fragment(1),
+        FragmentAnswer::Malformed => refused_fragment(31),
+        FragmentAnswer::NotConfirmed => refused_fragment(32),
+        FragmentAnswer::AnswerLent => refused_fragment(33),
+    }
+}
+
+#[no_mangle]
+pub extern "C" fn fragment_from_c(
+    h: Head,
+    binaries: &[u32; BINARY_WORDS],
+    analogs: &[u32; ANALOG_WORDS],
+    held: &mut [u64; EVENT_WORDS],
+    request: &mut [u8; FRAGMENT_MAX],
+    answer: &mut [u8; ANSWER_MAX],
+    objects: &mut [u8; ECHO_MAX],
+    time: u64,
+    f: &[u8],
+    out: &mut [u8],
+) -> AnswerImage
+    ensures { λ r. ⌜ FragmentFromC h (record { binaries = now (binaries .entry); analogs = now (analogs .entry); held = now (held .entry); request = now (request .entry); answer = now (answer .entry); objects = now (objects .entry) })
+        time (now (f .entry)) r
+        (record { binaries = now (binaries .entry); analogs = now (analogs .entry); held = now (held .exit); request = now (request .exit); answer = now (answer .exit); objects = now (objects .exit) })
+        (now (out .entry)) (now (out .exit)) ⌝ }
+{
+    let r = fragment(
+        h,
+        binaries,
+        analogs,
+        held,
+        request,
+        answer,
+        objects,
+        time,
+        f,
+        out,
+    );
+    let a = r.answer;
+    let operated = r.operated;
+    let next = r.head;
+    AnswerImage {
+        head: next,
+        operated: crobs_image(operated),
+        answer: answer_image(a),
     }
 }
