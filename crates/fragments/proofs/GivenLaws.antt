@@ -36,7 +36,7 @@ use Rattle.outstation.specs.declared.Wait.the-variants.{Idle, Awaiting}
 use Rattle.application.specs.declared.ApplicationSequence.{ApplicationSequence}
 use Rattle.outstation.specs.Requests.{confirmed}
 use Rattle.outstation.specs.World.{World, Exchange, exchangeOf, world, SessionCounted, Counted}
-use Rattle.outstation.specs.Step.{Result, Answer, answers, silent, refuses, refusal, done, atTime, indicationsOf, indications, responseBytes, controlDeed, deedBy, readStep, requestStep, repeatStep, withWait, clearing, confirmedStep, confirmStep}
+use Rattle.outstation.specs.Step.{Result, answers, silent, refuses, refusal, done, atTime, indicationsOf, indications, responseBytes, controlDeed, deedBy, readStep, requestStep, repeatStep, withWait, clearing, confirmedStep, confirmStep}
 use Rattle.outstation.specs.Step as S
 use Rattle.fragments.specs.declared.FragmentAnswer.{FragmentAnswer}
 use Rattle.fragments.specs.declared.FragmentAnswer.the-variants as Fs

@@ -6,9 +6,9 @@ use mathlib.Core.Bool.{Bool, true, false, cond, not, _&&_, _||_}
 use mathlib.Core.List.{List, []}
 use Prim.Native.Nat.{ℕ, _+_, _≤_}
 use native.Mathlib.Omega.{arith}
-use lib.Dec.{eqb, ltb}
+use lib.Dec.{eqb}
 use lib.ListN.{length, take}
-use Rattle.laws.specs.Limits.{fragmentMax, eventsMax}
+use Rattle.laws.specs.Limits.{eventsMax}
 use Rattle.laws.specs.Lists.{some}
 use Rattle.octets.specs.Bytes.{splice}
 use Rattle.application.specs.declared.Fault.{Fault}
@@ -26,21 +26,21 @@ use Rattle.static_objects.specs.Static.{readOf}
 use Rattle.read.specs.Response.{queueAfter, responseObjects}
 use Rattle.control.specs.declared.Crob.{Crob}
 use Rattle.control.specs.declared.Crobs.{Crobs}
-use Rattle.control.specs.Objects.{answerMax, echoMax, listOf, Holding}
+use Rattle.control.specs.Objects.{answerMax, listOf, Holding}
 use Rattle.select.specs.declared.ControlFunction.the-variants.{Select, Operate, DirectOperate, DirectOperateNoResponse}
 use Rattle.select.specs.declared.Latch.{Latch}
 use Rattle.select.specs.Select.{noSelect, latchOf}
-use Rattle.repeat.specs.Repeat.{Memory, kept, lastOf, isRepeat, answerOf}
+use Rattle.repeat.specs.Repeat.{kept, lastOf, answerOf}
 use Rattle.outstation.specs.declared.Wait.{Wait}
 use Rattle.outstation.specs.declared.Wait.the-variants.{Idle, Awaiting}
-use Rattle.outstation.specs.World.{World, Exchange}
-use Rattle.outstation.specs.Step.{Result, accepts, refuses, refusal, indicationsOf, readStep, requestStep, repeatStep, confirmedStep, confirmStep, controlDeed, writeDeed, plainDeed, deedBy}
+use Rattle.outstation.specs.World.{World}
+use Rattle.outstation.specs.Step.{refuses, refusal, indicationsOf, confirmedStep, confirmStep, controlDeed, writeDeed, plainDeed, deedBy}
 use Rattle.fragments.specs.declared.Deed.{Deed}
 use Rattle.fragments.specs.declared.Confirmation.{Confirmation}
 use Rattle.fragments.specs.declared.FragmentAnswer.{FragmentAnswer}
 use Rattle.fragments.specs.declared.FragmentAnswer.the-variants as Fs
 use Rattle.fragments.specs.declared.Seen.{Seen}
-use Rattle.fragments.specs.Given.{answerBy, sizeBy, AnsweredAs, Worked, WorkedWith, seenWorld, leftWith, readDeedBy, Confirms, confirmBy}
+use Rattle.fragments.specs.Given.{answerBy, sizeBy, Worked, WorkedWith, seenWorld, leftWith, readDeedBy, Confirms, confirmBy}
 use Rattle.fragments.proofs.DeedLaws.{read-queue, read-most}
 use Rattle.fragments.proofs.GivenLaws.{overflow-stored, confirm-given, read-given, request-any, repeat-any, objects-most, silent-objects, deed-queue}
 use Rattle.words.specs.Numbers.{holds}
@@ -54,7 +54,7 @@ use Rattle.lent_repeat.specs.LentLast.{lastIn}
 use Rattle.lent.specs.declared.Head.{Head}
 use Rattle.lent.specs.Lent.{Lent, HeadCounted, installedOf, statusOf, waitOf, worldOf}
 use Rattle.lent_fragments.specs.declared.Answered.{Answered}
-use Rattle.lent_fragments.specs.LentGiven.{GivenIn, withHeld, ConfirmedDid, ConfirmDid, faultBy, conBy, ReadDid, lastLengths, withLast, RepeatDid, withObjects, LeftIn, ReadLeft, OtherDid, seenIn}
+use Rattle.lent_fragments.specs.LentGiven.{GivenIn, withHeld, ConfirmedDid, ConfirmDid, faultBy, conBy, ReadDid, lastLengths, withLast, RepeatDid, LeftIn, ReadLeft, OtherDid, seenIn}
 
 -- ---- a refusal
 

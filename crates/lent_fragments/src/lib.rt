@@ -92,15 +92,15 @@ fn accept_confirm(
     ensures { λ r. ⌜ ConfirmedDid h (now (held .entry)) time shown since r (now (held .exit)) ⌝ }
 {
     let t = event_store::release(held, lent::status_of(h));
-    let mut next = h;
-    next.clock = time;
-    next.count = t.count;
-    next.overflow = lent::truth_byte(fragments::still_dropped(shown, since, t.overflow));
-    next.wait_kind = 0;
+    let mut idle = h;
+    idle.clock = time;
+    idle.count = t.count;
+    idle.overflow = lent::truth_byte(fragments::still_dropped(shown, since, t.overflow));
+    idle.wait_kind = 0;
     let a = FragmentAnswer::Confirmed;
     let none = control::none();
     Answered {
-        head: next,
+        head: idle,
         answer: a,
         operated: none,
     }
