@@ -86,18 +86,18 @@ confirmedHead h time count overflow =
       «latch_time» = h .«latch_time»;
       «binary_count» = h .«binary_count»;
       «analog_count» = h .«analog_count»;
-      count = count;
+      «event_count» = count;
       «request_len» = h .«request_len»;
       «answer_len» = h .«answer_len»;
       «latch_len» = h .«latch_len»;
       outputs = h .outputs;
       overflow = overflow;
       restarted = h .restarted;
-      «wait_kind» = 0;
+      waiting = 0;
       «wait_sequence» = h .«wait_sequence»;
-      «wait_shown» = h .«wait_shown»;
-      «wait_since» = h .«wait_since»;
-      «last_held» = h .«last_held»;
+      «showed_overflow» = h .«showed_overflow»;
+      «dropped_since» = h .«dropped_since»;
+      «request_kept» = h .«request_kept»;
       «latch_armed» = h .«latch_armed»;
       «latch_sequence» = h .«latch_sequence»;
     }
@@ -262,18 +262,18 @@ headAt h time =
       «latch_time» = h .«latch_time»;
       «binary_count» = h .«binary_count»;
       «analog_count» = h .«analog_count»;
-      count = h .count;
+      «event_count» = h .«event_count»;
       «request_len» = h .«request_len»;
       «answer_len» = h .«answer_len»;
       «latch_len» = h .«latch_len»;
       outputs = h .outputs;
       overflow = h .overflow;
       restarted = h .restarted;
-      «wait_kind» = h .«wait_kind»;
+      waiting = h .waiting;
       «wait_sequence» = h .«wait_sequence»;
-      «wait_shown» = h .«wait_shown»;
-      «wait_since» = h .«wait_since»;
-      «last_held» = h .«last_held»;
+      «showed_overflow» = h .«showed_overflow»;
+      «dropped_since» = h .«dropped_since»;
+      «request_kept» = h .«request_kept»;
       «latch_armed» = h .«latch_armed»;
       «latch_sequence» = h .«latch_sequence»;
     }
@@ -381,18 +381,18 @@ leftHead h time restarted kind sequence sent shown since k held armed from at le
       «latch_time» = at;
       «binary_count» = h .«binary_count»;
       «analog_count» = h .«analog_count»;
-      count = h .count;
+      «event_count» = h .«event_count»;
       «request_len» = k .«request_len»;
       «answer_len» = k .«answer_len»;
       «latch_len» = len;
       outputs = h .outputs;
       overflow = h .overflow;
       restarted = restarted;
-      «wait_kind» = kind;
+      waiting = kind;
       «wait_sequence» = sequence;
-      «wait_shown» = shown;
-      «wait_since» = since;
-      «last_held» = held;
+      «showed_overflow» = shown;
+      «dropped_since» = since;
+      «request_kept» = held;
       «latch_armed» = armed;
       «latch_sequence» = from;
     }
@@ -431,7 +431,7 @@ module _ (h : Head) (time : ℕ) (k : LastLengths) (held : ℕ) (keeps : holds h
 
   pub after-request : (restarted : Bool) (latch : Latch) (again armed : ℕ) → holds again ≡ restarted → holds armed ≡ latch .armed
       → LeftIn h time restarted Idle k (latchOf latch) (latch .len)
-      (leftHead h time again 0 (h .«wait_sequence») (h .«wait_time») (h .«wait_shown») (h .«wait_since») k held armed (latch .sequence .0) (latch .time) (latch .len))
+      (leftHead h time again 0 (h .«wait_sequence») (h .«wait_time») (h .«showed_overflow») (h .«dropped_since») k held armed (latch .sequence .0) (latch .time) (latch .len))
       (latch .objects)
   unfolding waitOf
   after-request restarted latch again armed er ea =

@@ -75,7 +75,7 @@ ReadDid h m q time f r m₁ before after =
 
 -- whether there is a last request, and its lengths
 abbrev pub lastLengths : Head → LastLengths
-lastLengths h = record { held = holds (h .«last_held»); «request_len» = h .«request_len»; «answer_len» = h .«answer_len» }
+lastLengths h = record { held = holds (h .«request_kept»); «request_len» = h .«request_len»; «answer_len» = h .«answer_len» }
 
 abbrev pub withLast : (request answer : List ℕ) → Lent → Lent
 withLast request answer m =

@@ -94,9 +94,9 @@ fn accept_confirm(
     let t = event_store::release(held, lent::status_of(h));
     let mut idle = h;
     idle.clock = time;
-    idle.count = t.count;
+    idle.event_count = t.count;
     idle.overflow = lent::truth_byte(fragments::still_dropped(shown, since, t.overflow));
-    idle.wait_kind = 0;
+    idle.waiting = 0;
     let a = FragmentAnswer::Confirmed;
     let none = control::none();
     Answered {
@@ -178,12 +178,12 @@ fn after_read(h: Head, q: ApplicationSequence, time: u64, con: bool, k: LastLeng
 {
     let mut next = h;
     next.clock = time;
-    next.wait_kind = lent::truth_byte(con);
+    next.waiting = lent::truth_byte(con);
     next.wait_sequence = q.0;
     next.wait_time = time;
-    next.wait_shown = h.overflow;
-    next.wait_since = 0;
-    next.last_held = lent::truth_byte(k.held);
+    next.showed_overflow = h.overflow;
+    next.dropped_since = 0;
+    next.request_kept = lent::truth_byte(k.held);
     next.request_len = k.request_len;
     next.answer_len = k.answer_len;
     next.latch_armed = 0;
@@ -236,7 +236,7 @@ fn last_of(h: Head) -> LastLengths
     ensures { λ r. ⌜ r ≡ lastLengths h ⌝ }
 {
     LastLengths {
-        held: lent::truth(h.last_held),
+        held: lent::truth(h.request_kept),
         request_len: h.request_len,
         answer_len: h.answer_len,
     }
@@ -351,8 +351,8 @@ fn after_request(
     let mut next = h;
     next.clock = time;
     next.restarted = lent::truth_byte(restarted);
-    next.wait_kind = 0;
-    next.last_held = lent::truth_byte(k.held);
+    next.waiting = 0;
+    next.request_kept = lent::truth_byte(k.held);
     next.request_len = k.request_len;
     next.answer_len = k.answer_len;
     next.latch_armed = lent::truth_byte(latch.armed);

@@ -1,4 +1,4 @@
 pub mod ReadLaws
 pub mod SetupLaws
 pub mod StepLaws
-pub mod WindowLaws
+pub mod HeadLaws

@@ -1,29 +1,17 @@
 -- Laws of a setup: what its limits tell, and the outstation that it gives.
 -- Assumes nothing.
-use mathlib.Core.Path.{_≡_, refl, sym, ap, _∙_}
-use mathlib.Core.Bool.{Bool, true, false, not, cond, _&&_}
-use mathlib.Core.List.{List, [], map}
+use mathlib.Core.Path.{_≡_, refl, sym, _∙_}
+use mathlib.Core.Bool.{Bool, true, false, not, _&&_}
+use mathlib.Core.List.{map}
 use Prim.Native.Nat.{ℕ, _≤_}
 use native.Mathlib.Omega.{arith}
 use borrow.Author.Tests.{le-leb, leb-true, ne-eqb, eq-eqb}
 use lib.Dec.{leb, eqb}
 use lib.ListN.{take}
-use Rattle.laws.specs.Limits.{pointsMax}
 use Rattle.laws.specs.Lists.{all}
-use Rattle.laws.proofs.Choices.{split}
 use Rattle.laws.proofs.AllLaws.{refuted}
-use Rattle.points.specs.Setup.{classOk, analogOk, freshBinary, freshAnalog}
-use Rattle.points.specs.declared.AnalogPoint.{AnalogPoint}
-use Rattle.points.specs.declared.Points.{Points}
-use Rattle.points.specs.declared.BinaryPoint.{BinaryPoint}
-use Rattle.points.specs.Inputs.{inputs}
-use Rattle.events.specs.declared.Buffer.{Buffer}
-use Rattle.events.specs.Queue.{queue}
-use Rattle.outstation.specs.declared.Setup.{Setup}
-use Rattle.outstation.specs.declared.Session.{Session}
-use Rattle.outstation.specs.Setup.{binaryClasses, analogSetups, setupOk}
-use Rattle.outstation.specs.World.{exchangeOf, freshExchange, world, restarted, bareSetup}
-use Rattle.laws.proofs.AllLoop.{map-take}
+use Rattle.points.specs.Setup.{classOk, analogOk}
+use Rattle.outstation.specs.Setup.{Setup, binaryClasses, analogSetups, setupOk}
 
 -- the limits that are tests of numbers
 pub record Bounds (u : Setup) : Type 0 where
@@ -71,13 +59,6 @@ bounds u h =
       confirm = leb-true _ _ (k .0);
     }
 
--- the setup that a restart keeps has no more points than there is room for
-pub kept-within : (u : Setup) → (cond (setupOk u) u bareSetup .«binary_count» ≤ pointsMax) × (cond (setupOk u) u bareSetup .«analog_count» ≤ pointsMax)
-kept-within u =
-    split (λ (v : Setup). (v .«binary_count» ≤ pointsMax) × (v .«analog_count» ≤ pointsMax)) (setupOk u)
-    (λ h. let b = bounds u h in (b .binaries, b .analogs))
-    (λ h. (omega arith, omega arith))
-
 -- a setup that breaks one is not accepted
 pub broken : (u : Setup) → (Bounds u → ⊥) → false ≡ setupOk u
 broken u h = sym (refuted (setupOk u) (λ e. h (bounds u e)))
@@ -111,34 +92,3 @@ module _ (u : Setup) (b : Bounds u) where
   unfolding binaryClasses
   bad-classes h = rw (kept, h)
 
--- the points that a setup gives
-pub set-points : (u : Setup) (bs : List BinaryPoint) (ps : List AnalogPoint) → bs ≡ map freshBinary (u .classes) → ps ≡ map freshAnalog (u .analogs)
-    → inputs (record { binaries = bs; «binary_count» = u .«binary_count»; analogs = ps; «analog_count» = u .«analog_count» }) ≡ restarted u .shared .inputs
-unfolding restarted inputs binaryClasses analogSetups
-set-points u bs ps eb ep =
-    λ k.
-    record {
-      binaries = (ap (take (u .«binary_count»)) eb ∙ map-take freshBinary (u .«binary_count») (u .classes)) k;
-      analogs = (ap (take (u .«analog_count»)) ep ∙ map-take freshAnalog (u .«analog_count») (u .analogs)) k;
-    }
-
--- the outstation that a setup gives
-pub set-up : (u : Setup) (p : Points) (b : Buffer) (s : Session) → inputs p ≡ restarted u .shared .inputs → queue b ≡ record { held = []; overflow = false } → exchangeOf s ≡ freshExchange
-    → world
-    (record {
-      «arm_time» = u .«arm_time»;
-      «confirm_time» = u .«confirm_time»;
-      outputs = u .outputs;
-      clock = 0;
-      points = p;
-      buffer = b;
-      session = s;
-    })
-    ≡ restarted u
-unfolding restarted
-set-up u p b s i q x =
-    λ k.
-    record {
-      shared = record { armTime = u .«arm_time»; confirmTime = u .«confirm_time»; outputs = u .outputs; clock = 0; inputs = i k };
-      master = record { queue = q k; exchange = x k };
-    }

@@ -4,14 +4,17 @@ use mathlib.Core.Path.{_≡_}
 use Prim.Native.Nat.{ℕ}
 use mathlib.Core.Bool.{cond}
 use lib.Dec.{eqb}
-use Rattle.outstation.specs.declared.Outstation.{Outstation}
-use Rattle.outstation.specs.declared.ReadingAnswer.{ReadingAnswer}
-use Rattle.outstation.specs.declared.ReadingAnswer.the-variants as Rs
-use Rattle.outstation.specs.declared.Took.{Took}
-use Rattle.outstation.specs.World.{world, Counted}
-use Rattle.outstation.specs.declared.SetupAnswer.{SetupAnswer}
-use Rattle.outstation.specs.declared.SetupAnswer.the-variants as Us
-use Rattle.outstation.specs.Step.{Call, Answer, took, Result, step}
+use lib.Ieee.{binary32, ofBits}
+use mir.Syntax.{w32}
+use mir.Val.{toZ}
+use Rattle.words.specs.Numbers.{holds}
+use Rattle.outstation.specs.declared.Head.{Head}
+use Rattle.outstation.specs.declared.Reading.{Reading}
+use Rattle.outstation.specs.declared.ReadingWords.{ReadingWords}
+use Rattle.outstation.specs.declared.Measured.{Measured}
+use Rattle.outstation.specs.declared.Measured.the-variants as Ms
+use Rattle.outstation.specs.Step.{Call, Answer, took, reading, Result, step}
+use Rattle.outstation.specs.Lent.{Lent, Words, Outstation, world, Counted, on}
 
 -- the call c of an outstation o was answered a and left o₁
 pub record Did (o : Outstation) (c : Call) (a : Answer) (o₁ : Outstation) : Type 0 where
@@ -20,22 +23,18 @@ pub record Did (o : Outstation) (c : Call) (a : Answer) (o₁ : Outstation) : Ty
   -- no count passes its array, where none did before
   pub counted : Counted o → Counted o₁
 
--- document 01's number of a reading's refusal, 0 where it was taken
-abbrev pub readingNumber : ReadingAnswer → ℕ
-readingNumber Rs.Accepted = 0
-readingNumber Rs.Time = 1
-readingNumber Rs.NoPoint = 2
-readingNumber Rs.NotFinite = 3
-readingNumber Rs.HostFlags = 4
-
 -- one reading with this refusal: it was taken where that is 0
 abbrev pub tookBy : ℕ → Answer
 tookBy n = took (cond (eqb n 0) 1 0) n
 
-abbrev pub tookAnswer : Took → Answer
-tookAnswer t = tookBy (readingNumber (t .answer))
+-- the reading r on the head h and the words w was answered n, 0 where it was taken, and left h₁ and w₁: whatever else is lent
+abbrev pub ReadingDid : Head → Words → Reading → (n : ℕ) → Head → Words → Type 0
+ReadingDid h w r n h₁ w₁ = (m : Lent) → Did (on h w m) (reading r) (tookBy n) (on h₁ w₁ m)
 
--- 5: "setup breaks a limit above"
-abbrev pub setupNumber : SetupAnswer → ℕ
-setupNumber Us.Accepted = 0
-setupNumber Us.Limit = 5
+-- ---- a reading as numbers; kind 0: a binary's state; 1: a whole reading; any other: a float's
+
+abbrev pub measuredOf : (kind bits : ℕ) → Measured
+measuredOf kind bits = cond (eqb kind 0) (Ms.State (holds bits)) (cond (eqb kind 1) (Ms.Whole (toZ w32 bits)) (Ms.Real (ofBits binary32 bits)))
+
+abbrev pub readingOf : ReadingWords → Reading
+readingOf w = record { time = w .time; point = w .point; measured = measuredOf (w .kind) (w .bits); flags = w .flags }

@@ -3,6 +3,7 @@ pub mod World
 pub mod Readings
 pub mod Requests
 pub mod Step
+pub mod Lent
 pub mod Contracts
-pub mod Window
+pub mod Hearing
 pub mod Singly

@@ -9,9 +9,20 @@ use Rattle.laws.specs.Limits.{pointsMax, outputsMax, addressMax, armTimeMax, co
 use Rattle.laws.specs.Lists.{all}
 use Rattle.points.specs.Setup.{classOk, analogOk}
 use Rattle.points.specs.declared.AnalogSetup.{AnalogSetup}
-use Rattle.outstation.specs.declared.Setup.{Setup}
 
--- the classes of the binary inputs, and the analog inputs: the first so many of the arrays
+-- what an outstation is set up with
+pub record Setup : Type 0 where
+  pub own : ℕ
+  pub master : ℕ
+  pub «arm_time» : ℕ
+  pub «confirm_time» : ℕ
+  pub outputs : ℕ
+  pub «binary_count» : ℕ
+  pub «analog_count» : ℕ
+  pub classes : List ℕ
+  pub analogs : List AnalogSetup
+
+-- the classes of the binary inputs, and the analog inputs: the first so many of those given
 unfoldable pub binaryClasses : Setup → List ℕ
 binaryClasses u = take (u .«binary_count») (u .classes)
 

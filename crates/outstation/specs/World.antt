@@ -1,24 +1,19 @@
 -- The outstation as its contracts see it: numbers, and lists of what is in use.
 -- Assumes nothing.
-use Prim.Native.Nat.{ℕ, _≤_}
+use Prim.Native.Nat.{ℕ}
 use mathlib.Core.Bool.{Bool, true, false}
 use mathlib.Core.List.{[], map}
-use Rattle.laws.specs.Limits.{pointsMax, eventsMax, fragmentMax}
-use Rattle.control.specs.Objects.{echoMax, answerMax}
-use Rattle.points.specs.Inputs.{Inputs, inputs}
+use Rattle.points.specs.Inputs.{Inputs}
 use lib.ListN.{replicate}
 use Rattle.points.specs.Setup.{freshBinary, freshAnalog}
 use Rattle.points.specs.declared.WholeGate.the-variants as W
 use Rattle.points.specs.declared.AnalogKind.the-variants as Ks
-use Rattle.events.specs.Queue.{Queue, queue}
-use Rattle.select.specs.Select.{Selection, noSelect, latchOf}
-use Rattle.repeat.specs.Repeat.{Memory, nothing, lastOf}
+use Rattle.events.specs.Queue.{Queue}
+use Rattle.select.specs.Select.{Selection, noSelect}
+use Rattle.repeat.specs.Repeat.{Memory, nothing}
 use Rattle.outstation.specs.declared.Wait.{Wait}
 use Rattle.outstation.specs.declared.Wait.the-variants.{Idle}
-use Rattle.outstation.specs.declared.Session.{Session}
-use Rattle.outstation.specs.declared.Outstation.{Outstation}
-use Rattle.outstation.specs.declared.Setup.{Setup}
-use Rattle.outstation.specs.Setup.{binaryClasses, analogSetups}
+use Rattle.outstation.specs.Setup.{Setup, binaryClasses, analogSetups}
 
 -- what all masters share: the times that are set up, the number of outputs, the clock and the points
 pub record Shared : Type 0 where
@@ -63,38 +58,6 @@ withShared s w = record { shared = s; master = w .master }
 
 abbrev pub withMaster : Master → World → World
 withMaster m w = record { shared = w .shared; master = m }
-
--- ---- what an outstation stands for
-
-unfoldable pub exchangeOf : Session → Exchange
-exchangeOf s = record { restarted = s .restarted; wait = s .wait; last = lastOf (s .last); latch = latchOf (s .latch) }
-
-abbrev pub world : Outstation → World
-world o =
-    record {
-      shared =
-          record {
-            armTime = o .«arm_time»;
-            confirmTime = o .«confirm_time»;
-            outputs = o .outputs;
-            clock = o .clock;
-            inputs = inputs (o .points);
-          };
-      master = record { queue = queue (o .buffer); exchange = exchangeOf (o .session) };
-    }
-
--- ---- no count passes its array: from restart on this holds after every call, so a host that prints the counts may rely on it
-
-pub record SessionCounted (s : Session) : Type 0 where
-  pub request : s .last .«request_len» ≤ fragmentMax
-  pub answer : s .last .«answer_len» ≤ answerMax
-  pub objects : s .latch .len ≤ echoMax
-
-pub record Counted (o : Outstation) : Type 0 where
-  pub binaries : o .points .«binary_count» ≤ pointsMax
-  pub analogs : o .points .«analog_count» ≤ pointsMax
-  pub events : o .buffer .count ≤ eventsMax
-  pub session : SessionCounted (o .session)
 
 -- ---- after a restart
 

@@ -1,11 +1,9 @@
 -- `outstation::hear_binary` meets its contract. Assumes nothing.
-use mathlib.Core.Path.{refl, sym, ap, _∙_}
-use Prim.Native.Nat.{_<_, min}
+use Rattle.outstation.proofs.HeadLaws.{binary-taken, binary-refused, no-binary}
+use Rattle.points.specs.Reading.{binaryReading}
+use Rattle.points.specs.declared.BinaryPoint.{BinaryPoint}
 use native.Mathlib.Omega.{arith}
-use Rattle.points.specs.declared.BinaryTaken.{BinaryTaken}
-use Rattle.points.specs.Reading.{binaryTakenOf}
-use Rattle.outstation.specs.Window.{binaryIn}
-use Rattle.outstation.proofs.WindowLaws.{heard-in, refused-in, binary-heard, no-binary}
+use mathlib.Core.Path.{ap, _∙_}
 use borrow.Author.Needs.{needs}
 use Rattle.outstation.proofs.hear_binary.Statement.{statement}
 use Rattle.outstation.proofs.hear_binary.Tie as tie
@@ -16,42 +14,54 @@ installed-requires c κs = search needs
 cast-i : tie.Need-cast-i
 cast-i c = search needs
 
+load-binary-requires : tie.Need-load-binary-requires
+load-binary-requires c κs = search needs
+
 read-binary-requires : tie.Need-read-binary-requires
 read-binary-requires c κs = search needs
 
 enum-known-t : tie.Need-enum-known-t
 enum-known-t c = search needs
 
-heard-requires : tie.Need-heard-requires
-heard-requires c κs = search needs
+store-binary-requires : tie.Need-store-binary-requires
+store-binary-requires c κs = search needs
+
+taken-requires : tie.Need-taken-requires
+taken-requires c κs = search needs
 
 enum-told : tie.Need-enum-told
 enum-told c = search needs
 
-not-taken-requires : tie.Need-not-taken-requires
-not-taken-requires c κs = search needs
-
-not-taken-requires-2 : tie.Need-not-taken-requires-2
-not-taken-requires-2 c κs = search needs
-
 returns : tie.Need-returns
 returns c =
-    let s = c .before .before .before .before .before .before .before .before .before in
-    let below : s .args .r .point < min (s .args .count) 64 = omega (arith, c .before .before .before .before .before .before .if1 .taken, c .before .before .before .before .before .before .before .before .installed .ensures) in
-    binary-heard (s .args .w) (s .args .count) (s .args .r) (c .heard .result) (s .args .state) (c .before .before .before .before .read-binary .result) below (c .before .before .before .before .read-binary .ensures)
-    (heard-in _ _ (c .heard .ensures) ∙ sym (ap (λ (v : BinaryTaken). binaryIn (s .args .w) (s .args .r) (binaryTakenOf v)) (c .before .before .t .given .1)))
+    let read = c .before .before .before .before .before .before .before in
+    let f = read .before .before .before .before .before in
+    let s = f .before in
+    let i = s .args in
+    λ a.
+    binary-taken (i .h) (record { binaries = i .binaries .now; analogs = a; held = i .held .now }) (i .r) (i .state)
+    (omega (arith, read .before .before .before .if1 .taken, f .installed .ensures)) (read .read-binary .result)
+    (read .read-binary .ensures ∙ ap (λ (x : BinaryPoint). binaryReading x (i .state) (i .r .flags)) (read .before .load-binary .ensures))
+    _ _ (c .before .before .before .before .before .t .given .1) _ _ _ (c .before .before .store-binary .ensures) (c .taken .ensures)
 
 returns-2 : tie.Need-returns-2
 returns-2 c =
-    let s = c .before .before .before .before .before .before .before .before in
-    let below : s .args .r .point < min (s .args .count) 64 = omega (arith, c .before .before .before .before .before .if1 .taken, c .before .before .before .before .before .before .before .installed .ensures) in
-    binary-heard (s .args .w) (s .args .count) (s .args .r) (c .not-taken .result) (s .args .state) (c .before .before .before .read-binary .result) below (c .before .before .before .read-binary .ensures)
-    (refused-in 4 _ _ _ (c .not-taken .ensures) refl refl ∙ sym (ap (λ (v : BinaryTaken). binaryIn (s .args .w) (s .args .r) (binaryTakenOf v)) (c .before .enum-told .given .1)))
+    let read = c .before .before in
+    let f = read .before .before .before .before .before in
+    let i = f .before .args in
+    λ a.
+    binary-refused (i .h) (record { binaries = i .binaries .now; analogs = a; held = i .held .now }) (i .r) (i .state)
+    (omega (arith, read .before .before .before .if1 .taken, f .installed .ensures)) (read .read-binary .result)
+    (read .read-binary .ensures ∙ ap (λ (x : BinaryPoint). binaryReading x (i .state) (i .r .flags)) (read .before .load-binary .ensures))
+    (c .enum-told .given .1)
 
 returns-3 : tie.Need-returns-3
 returns-3 c =
-    let s = c .before .before .before .before in
-    no-binary (s .args .w) (s .args .count) (s .args .r) (c .not-taken2 .result) (omega (arith, c .before .if1 .left, c .before .before .before .installed .ensures)) (c .not-taken2 .ensures) (s .args .state)
+    let f = c .before .before in
+    let i = f .before .args in
+    λ a.
+    no-binary (i .h) (record { binaries = i .binaries .now; analogs = a; held = i .held .now }) (i .r) (i .state)
+    (omega (arith, c .if1 .left, f .installed .ensures))
 
 pub hear-binary-spec : {M : Type 1} → statement M
 hear-binary-spec =
@@ -59,12 +69,12 @@ hear-binary-spec =
     (tie.spec
     installed-requires
     cast-i
+    load-binary-requires
     read-binary-requires
     enum-known-t
-    heard-requires
+    store-binary-requires
+    taken-requires
     enum-told
-    not-taken-requires
-    not-taken-requires-2
     returns
     returns-2
     returns-3)

@@ -1,7 +1,9 @@
 -- `outstation::hear_real` meets its contract. Assumes nothing.
-use Prim.Native.Nat.{_<_, min}
+use Rattle.outstation.proofs.HeadLaws.{analog-heard, no-analog}
+use Rattle.points.specs.Reading.{floatReading}
+use Rattle.points.specs.declared.AnalogPoint.{AnalogPoint}
 use native.Mathlib.Omega.{arith}
-use Rattle.outstation.proofs.WindowLaws.{float-heard, no-float}
+use mathlib.Core.Path.{ap, _∙_}
 use borrow.Author.Needs.{needs}
 use Rattle.outstation.proofs.hear_real.Statement.{statement}
 use Rattle.outstation.proofs.hear_real.Tie as tie
@@ -12,6 +14,9 @@ installed-requires c κs = search needs
 cast-i : tie.Need-cast-i
 cast-i c = search needs
 
+load-analog-requires : tie.Need-load-analog-requires
+load-analog-requires c κs = search needs
+
 read-float-requires : tie.Need-read-float-requires
 read-float-requires c κs = search needs
 
@@ -20,17 +25,20 @@ hear-analog-requires c κs = search needs
 
 returns : tie.Need-returns
 returns c =
-    let s = c .before .before .before .before .before .before in
-    let below : s .args .r .point < min (s .args .count) 64 = omega (arith, c .before .before .before .if1 .taken, c .before .before .before .before .before .installed .ensures) in
-    float-heard (s .args .w) (s .args .count) (s .args .r) (c .hear-analog .result) (s .args .x) (c .before .read-float .result) below (c .before .read-float .ensures) (c .hear-analog .ensures)
-
-not-taken-requires : tie.Need-not-taken-requires
-not-taken-requires c κs = search needs
+    let read = c .before .before .before in
+    let f = read .before .before .before .before .before in
+    let i = f .before .args in
+    λ b.
+    analog-heard (i .h) (record { binaries = b; analogs = i .analogs .now; held = i .held .now }) (i .r) (λ q. floatReading q (i .x) (i .r .flags))
+    (omega (arith, read .before .before .before .if1 .taken, f .installed .ensures)) (read .read-float .result)
+    (read .read-float .ensures ∙ ap (λ (q : AnalogPoint). floatReading q (i .x) (i .r .flags)) (read .before .load-analog .ensures)) (c .hear-analog .result .refusal) _ _ (c .hear-analog .ensures b)
 
 returns-2 : tie.Need-returns-2
 returns-2 c =
-    let s = c .before .before .before .before in
-    no-float (s .args .w) (s .args .count) (s .args .r) (c .not-taken .result) (omega (arith, c .before .if1 .left, c .before .before .before .installed .ensures)) (c .not-taken .ensures) (s .args .x)
+    let f = c .before .before in
+    let i = f .before .args in
+    λ b.
+    no-analog (i .h) (record { binaries = b; analogs = i .analogs .now; held = i .held .now }) (i .r) (λ q. floatReading q (i .x) (i .r .flags)) (omega (arith, c .if1 .left, f .installed .ensures))
 
 pub hear-real-spec : {M : Type 1} → statement M
 hear-real-spec =
@@ -38,8 +46,8 @@ hear-real-spec =
     (tie.spec
     installed-requires
     cast-i
+    load-analog-requires
     read-float-requires
     hear-analog-requires
     returns
-    not-taken-requires
     returns-2)

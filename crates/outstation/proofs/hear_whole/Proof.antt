@@ -1,8 +1,11 @@
 -- `outstation::hear_whole` meets its contract. Assumes nothing.
-use Prim.Native.Nat.{_<_, min}
-use native.Mathlib.Omega.{arith}
-use Rattle.outstation.proofs.WindowLaws.{whole-heard, no-whole}
+use Rattle.outstation.proofs.HeadLaws.{analog-heard, no-analog}
+use Rattle.points.specs.Reading.{wholeReading}
+use lib.IntN.{ℤ}
 use mir.Facts.{toZ-ofZ}
+use Rattle.points.specs.declared.AnalogPoint.{AnalogPoint}
+use native.Mathlib.Omega.{arith}
+use mathlib.Core.Path.{ap, _∙_}
 use borrow.Author.Needs.{needs}
 use Rattle.outstation.proofs.hear_whole.Statement.{statement}
 use Rattle.outstation.proofs.hear_whole.Tie as tie
@@ -13,6 +16,9 @@ installed-requires c κs = search needs
 cast-i : tie.Need-cast-i
 cast-i c = search needs
 
+load-analog-requires : tie.Need-load-analog-requires
+load-analog-requires c κs = search needs
+
 read-whole-requires : tie.Need-read-whole-requires
 read-whole-requires c κs = search needs
 
@@ -21,17 +27,22 @@ hear-analog-requires c κs = search needs
 
 returns : tie.Need-returns
 returns c =
-    let s = c .before .before .before .before .before .before in
-    let below : s .args .r .point < min (s .args .count) 64 = omega (arith, c .before .before .before .if1 .taken, c .before .before .before .before .before .installed .ensures) in
-    whole-heard (s .args .w) (s .args .count) (s .args .r) (c .hear-analog .result) (s .args .z) (c .before .read-whole .result) below (rw (toZ-ofZ (s .fits .z)) at (c .before .read-whole .ensures)) (c .hear-analog .ensures)
-
-not-taken-requires : tie.Need-not-taken-requires
-not-taken-requires c κs = search needs
+    let read = c .before .before .before in
+    let f = read .before .before .before .before .before in
+    let i = f .before .args in
+    λ b.
+    analog-heard (i .h) (record { binaries = b; analogs = i .analogs .now; held = i .held .now }) (i .r) (λ q. wholeReading q (i .z) (i .r .flags))
+    (omega (arith, read .before .before .before .if1 .taken, f .installed .ensures)) (read .read-whole .result)
+    (read .read-whole .ensures
+    ∙ ap (λ (y : ℤ). wholeReading (read .before .load-analog .result) y (i .r .flags)) (toZ-ofZ (f .before .fits .z))
+    ∙ ap (λ (q : AnalogPoint). wholeReading q (i .z) (i .r .flags)) (read .before .load-analog .ensures)) (c .hear-analog .result .refusal) _ _ (c .hear-analog .ensures b)
 
 returns-2 : tie.Need-returns-2
 returns-2 c =
-    let s = c .before .before .before .before in
-    no-whole (s .args .w) (s .args .count) (s .args .r) (c .not-taken .result) (omega (arith, c .before .if1 .left, c .before .before .before .installed .ensures)) (c .not-taken .ensures) (s .args .z)
+    let f = c .before .before in
+    let i = f .before .args in
+    λ b.
+    no-analog (i .h) (record { binaries = b; analogs = i .analogs .now; held = i .held .now }) (i .r) (λ q. wholeReading q (i .z) (i .r .flags)) (omega (arith, c .if1 .left, f .installed .ensures))
 
 pub hear-whole-spec : {M : Type 1} → statement M
 hear-whole-spec =
@@ -39,8 +50,8 @@ hear-whole-spec =
     (tie.spec
     installed-requires
     cast-i
+    load-analog-requires
     read-whole-requires
     hear-analog-requires
     returns
-    not-taken-requires
     returns-2)

@@ -1,101 +1,77 @@
--- `outstation::take_reading` meets its contract: its window, stored back. Assumes nothing.
-use mathlib.Core.Path.{_≡_}
-use lib.ListN.{length}
-use Rattle.laws.proofs.Loops.{long}
-use Rattle.outstation.specs.Window.{tookIn}
-use Rattle.outstation.proofs.WindowLaws.{window-did}
-use borrow.Author.Needs.{needs}
+-- `outstation::take_reading` meets its contract. Assumes nothing.
+use Rattle.outstation.proofs.HeadLaws.{late, in-time, time-below}
+use mathlib.Core.Path.{sym, _∙_}
+use mir.Facts.{toZ-ofZ}
+use mir.Syntax.{w32}
+use borrow.Author.Needs.{needs, sfits-of}
 use Rattle.outstation.proofs.take_reading.Statement.{statement}
 use Rattle.outstation.proofs.take_reading.Tie as tie
 
-binaries : (c : tie.Start) → length (c .args .o .points .binaries) ≡ 64
-binaries c = search (long, needs)
-
-analogs : (c : tie.Start) → length (c .args .o .points .analogs) ≡ 64
-analogs c = search (long, needs)
-
-events : (c : tie.Start) → length (c .args .o .buffer .held) ≡ 256
-events c = search (long, needs)
-
-point-place-requires : tie.Need-point-place-requires
-point-place-requires c κs = search needs
-
-event-place-requires : tie.Need-event-place-requires
-event-place-requires c κs = search needs
-
-marks-at-requires : tie.Need-marks-at-requires
-marks-at-requires c κs = search needs
-
-mul-binary : tie.Need-mul-binary
-mul-binary c = search needs
-
-element-copy-out-binary : tie.Need-element-copy-out-binary
-element-copy-out-binary c = search needs
-
-mul-analog : tie.Need-mul-analog
-mul-analog c = search needs
-
-element-copy-out-analog : tie.Need-element-copy-out-analog
-element-copy-out-analog c = search needs
-
-mul-held : tie.Need-mul-held
-mul-held c = search needs
-
-element-copy-out-held : tie.Need-element-copy-out-held
-element-copy-out-held c = search needs
-
-hear-requires : tie.Need-hear-requires
-hear-requires c κs = search needs
-
-mul-binary-after : tie.Need-mul-binary-after
-mul-binary-after c = search needs
-
-element-set-from-binary-after : tie.Need-element-set-from-binary-after
-element-set-from-binary-after c = search needs
-
-mul-analog-after : tie.Need-mul-analog-after
-mul-analog-after c = search needs
-
-element-set-from-analog-after : tie.Need-element-set-from-analog-after
-element-set-from-analog-after c = search needs
-
-mul-held-after : tie.Need-mul-held-after
-mul-held-after c = search needs
-
-element-set-from-held-after : tie.Need-element-set-from-held-after
-element-set-from-held-after c = search needs
-
-with-wait-requires : tie.Need-with-wait-requires
-with-wait-requires c κs = search needs
+bad-time-requires : tie.Need-bad-time-requires
+bad-time-requires c κs = search needs
 
 returns : tie.Need-returns
 returns c =
-    let s = c .before .before .before .before .before .before .before .before .before .before .before .before .before .before .before .before in
-    let at = c .before .before .before .before .before .before .before .before .before .before .before .before .point-place in
-    let next = c .before .before .before .before .before .before .before .before .before .before .before .event-place in
-    rw (c .with-wait .ensures)
-    (window-did (s .args .o) (s .args .r) (at .result) (next .result) _ _ _ (at .ensures) (next .ensures) (binaries s) (analogs s) (events s)
-    (tookIn (c .before .before .before .before .before .before .hear .result)) (rw (c .before .before .before .before .before .before .before .before .before .before .marks-at .ensures) at (c .before .before .before .before .before .before .hear .ensures)))
+    let i = c .before .before .args in
+    late (i .h) (record { binaries = i .binaries .now; analogs = i .analogs .now; held = i .held .now }) (i .r) (sym (c .before .bad-time .ensures) ∙ c .if1 .taken)
+
+enum-known-m : tie.Need-enum-known-m
+enum-known-m c = search needs
+
+hear-binary-requires : tie.Need-hear-binary-requires
+hear-binary-requires c κs =
+    let late = c .before .before .before .before .before in
+    time-below (late .before .before .args .h .clock) _ (sym (late .before .bad-time .ensures) ∙ late .if1 .left)
+
+enum-known-m-2 : tie.Need-enum-known-m-2
+enum-known-m-2 c = search needs
+
+hear-whole-requires : tie.Need-hear-whole-requires
+hear-whole-requires c κs =
+    let late = c .before .before .before .before .before in
+    time-below (late .before .before .args .h .clock) _ (sym (late .before .bad-time .ensures) ∙ late .if1 .left)
+
+enum-known-m-3 : tie.Need-enum-known-m-3
+enum-known-m-3 c = search needs
+
+hear-real-requires : tie.Need-hear-real-requires
+hear-real-requires c κs =
+    let late = c .before .before .before .before .before in
+    time-below (late .before .before .args .h .clock) _ (sym (late .before .bad-time .ensures) ∙ late .if1 .left)
+
+returns-2 : tie.Need-returns-2
+returns-2 c =
+    let m = c .before .before .before .before in
+    let late = m .before .before in
+    let i = late .before .before .args in
+    in-time (i .h) (record { binaries = i .binaries .now; analogs = i .analogs .now; held = i .held .now }) (i .r) (sym (late .before .bad-time .ensures) ∙ late .if1 .left) _ (m .m .given .1) (c .hear-binary .result .refusal) _ _ (c .hear-binary .ensures (i .analogs .now))
+
+returns-3 : tie.Need-returns-3
+returns-3 c =
+    let m = c .before .before .before .before in
+    let late = m .before .before in
+    let i = late .before .before .args in
+    in-time (i .h) (record { binaries = i .binaries .now; analogs = i .analogs .now; held = i .held .now }) (i .r) (sym (late .before .bad-time .ensures) ∙ late .if1 .left) _ (m .m2 .given .1) (c .hear-whole .result .refusal) _ _ (rw (toZ-ofZ (sfits-of {w = w32} (c .before .before .before .known-told2 .given .0 .1))) at (c .hear-whole .ensures (i .binaries .now)))
+
+returns-4 : tie.Need-returns-4
+returns-4 c =
+    let m = c .before .before .before .before in
+    let late = m .before .before in
+    let i = late .before .before .args in
+    in-time (i .h) (record { binaries = i .binaries .now; analogs = i .analogs .now; held = i .held .now }) (i .r) (sym (late .before .bad-time .ensures) ∙ late .if1 .left) _ (m .m3 .given .1) (c .hear-real .result .refusal) _ _ (c .hear-real .ensures (i .binaries .now))
 
 pub take-reading-spec : {M : Type 1} → statement M
 take-reading-spec =
     tie.close
     (tie.spec
-    point-place-requires
-    event-place-requires
-    marks-at-requires
-    mul-binary
-    element-copy-out-binary
-    mul-analog
-    element-copy-out-analog
-    mul-held
-    element-copy-out-held
-    hear-requires
-    mul-binary-after
-    element-set-from-binary-after
-    mul-analog-after
-    element-set-from-analog-after
-    mul-held-after
-    element-set-from-held-after
-    with-wait-requires
-    returns)
+    bad-time-requires
+    returns
+    enum-known-m
+    hear-binary-requires
+    enum-known-m-2
+    hear-whole-requires
+    enum-known-m-3
+    hear-real-requires
+    returns-2
+    returns-3
+    returns-4)

@@ -1,0 +1,14 @@
+-- `outstation::status_of` meets its contract.
+-- Assumes nothing.
+use borrow.Author.Needs.{needs}
+use Rattle.outstation.proofs.status_of.Statement.{statement}
+use Rattle.outstation.proofs.status_of.Tie as tie
+
+truth-requires : tie.Need-truth-requires
+truth-requires c κs = search needs
+
+returns : tie.Need-returns
+returns c = λ k. record { count = c .before .args .h .«event_count»; overflow = c .truth .ensures k }
+
+pub status-of-spec : {M : Type 1} → statement M
+status-of-spec = tie.close (tie.spec truth-requires returns)

@@ -1,0 +1,126 @@
+-- The outstation that a head and lent memory stand for. Any head and any content of the memory stand for one.
+-- Assumes nothing.
+use Prim.Native.Nat.{ℕ, _≤_}
+use mathlib.Core.Bool.{cond}
+use mathlib.Core.List.{List}
+use lib.Dec.{eqb}
+use Rattle.laws.specs.Limits.{pointsMax, eventsMax, fragmentMax}
+use Rattle.control.specs.Objects.{echoMax, answerMax}
+use Rattle.points.specs.Inputs.{Inputs}
+use Rattle.select.specs.Select.{latchOf}
+use Rattle.repeat.specs.Repeat.{lastOf}
+use Rattle.words.specs.Numbers.{holds}
+use Rattle.point_store.specs.declared.Installed.{Installed}
+use Rattle.point_store.specs.PointWords.{inputsIn}
+use Rattle.event_store.specs.declared.BufferStatus.{BufferStatus}
+use Rattle.event_store.specs.EventWords.{queueIn}
+use Rattle.outstation.specs.declared.Wait.{Wait}
+use Rattle.outstation.specs.declared.Wait.the-variants.{Idle, Awaiting}
+use Rattle.outstation.specs.declared.Head.{Head}
+use Rattle.outstation.specs.World.{Exchange, World}
+
+-- what is lent: the points' words, the held events' words, the last request, its answer, the object bytes of the select latch
+pub record Lent : Type 0 where
+  pub binaries : List ℕ
+  pub analogs : List ℕ
+  pub held : List ℕ
+  pub request : List ℕ
+  pub answer : List ℕ
+  pub objects : List ℕ
+
+-- ---- the parts
+
+abbrev pub installedOf : Head → Installed
+installedOf h = record { binaries = h .«binary_count»; analogs = h .«analog_count» }
+
+abbrev pub statusOf : Head → BufferStatus
+statusOf h = record { count = h .«event_count»; overflow = holds (h .overflow) }
+
+-- kind 0: nothing is awaited
+unfoldable pub waitOf : Head → Wait
+waitOf h =
+    cond (eqb (h .waiting) 0) Idle
+    (Awaiting (record { 0 = h .«wait_sequence» }) (h .«wait_time») (holds (h .«showed_overflow»)) (holds (h .«dropped_since»)))
+
+abbrev pub exchangeIn : Head → Lent → Exchange
+exchangeIn h m =
+    record {
+      restarted = holds (h .restarted);
+      wait = waitOf h;
+      last =
+          lastOf
+          (record {
+            held = holds (h .«request_kept»);
+            request = m .request;
+            «request_len» = h .«request_len»;
+            answer = m .answer;
+            «answer_len» = h .«answer_len»;
+          });
+      latch =
+          latchOf
+          (record {
+            armed = holds (h .«latch_armed»);
+            sequence = record { 0 = h .«latch_sequence» };
+            time = h .«latch_time»;
+            objects = m .objects;
+            len = h .«latch_len»;
+          });
+    }
+
+-- ---- the world, with these inputs and with those of the memory
+
+abbrev pub worldWith : Head → Inputs → Lent → World
+worldWith h i m =
+    record {
+      shared =
+          record { armTime = h .«arm_time»; confirmTime = h .«confirm_time»; outputs = h .outputs; clock = h .clock; inputs = i };
+      master = record { queue = queueIn (m .held) (statusOf h); exchange = exchangeIn h m };
+    }
+
+abbrev pub worldOf : Head → Lent → World
+worldOf h m = worldWith h (inputsIn (installedOf h) (m .binaries) (m .analogs)) m
+
+-- ---- an outstation: the head by value and the memory that the host lends
+
+pub record Outstation : Type 0 where
+  pub head : Head
+  pub lent : Lent
+
+-- what it stands for
+abbrev pub world : Outstation → World
+world o = worldOf (o .head) (o .lent)
+
+-- ---- no count passes its array: from restart on this holds after every call, so a host that prints the counts may rely on it
+
+pub record HeadCounted (h : Head) : Type 0 where
+  pub binaries : h .«binary_count» ≤ pointsMax
+  pub analogs : h .«analog_count» ≤ pointsMax
+  pub events : h .«event_count» ≤ eventsMax
+  pub request : h .«request_len» ≤ fragmentMax
+  pub answer : h .«answer_len» ≤ answerMax
+  pub objects : h .«latch_len» ≤ echoMax
+
+abbrev pub Counted : Outstation → Type 0
+Counted o = HeadCounted (o .head)
+
+-- ---- what is lent to a restart and to readings: the words
+
+pub record Words : Type 0 where
+  pub binaries : List ℕ
+  pub analogs : List ℕ
+  pub held : List ℕ
+
+abbrev pub withWords : Words → Lent → Lent
+withWords w m =
+    record {
+      binaries = w .binaries;
+      analogs = w .analogs;
+      held = w .held;
+      request = m .request;
+      answer = m .answer;
+      objects = m .objects;
+    }
+
+-- an outstation with these words, m all else that is lent
+abbrev pub on : Head → Words → Lent → Outstation
+on h w m = record { head = h; lent = withWords w m }
