@@ -17,16 +17,18 @@ pub const ECHO_MAX: usize = 109;
 pub const ANSWER_MAX: usize = 113;
 
 // One control relay output block with the index it is for. The status is the request's, as it came.
+#[repr(C)]
 pub struct Crob {
+    pub on_time: u32,
+    pub off_time: u32,
     pub index: u16,
     pub code: u8,
     pub count: u8,
-    pub on_time: u32,
-    pub off_time: u32,
     pub status: u8,
 }
 
 // Up to OBJECTS_MAX objects, in the order asked.
+#[repr(C)]
 pub struct Crobs {
     pub items: [Crob; OBJECTS_MAX],
     pub count: usize,

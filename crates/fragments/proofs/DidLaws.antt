@@ -3,12 +3,10 @@
 use mathlib.Core.List.{List}
 use Prim.Native.Nat.{ℕ}
 use lib.ListN.{length}
-use Rattle.outstation.specs.declared.Outstation.{Outstation}
-use Rattle.outstation.specs.World.{world}
+use Rattle.outstation.specs.Lent.{Outstation, world}
 use Rattle.outstation.specs.Step.{fragment, step}
 use Rattle.outstation.specs.Contracts.{Did}
-use Rattle.fragments.specs.declared.Answered.{Answered}
-use Rattle.fragments.specs.Given.{fragmentAnswer, Given}
+use Rattle.fragments.specs.Given.{Answered, fragmentAnswer, Given}
 
 pub given-did : (o : Outstation) (time : ℕ) (f b a : List ℕ) (r : Answered) → Given o r b a (step (fragment time f (length b)) (world o))
     → Did o (fragment time f (length b)) (fragmentAnswer r a) (r .state)

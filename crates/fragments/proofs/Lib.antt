@@ -1,4 +1,4 @@
-pub mod GivenLaws
-pub mod DeedLaws
+pub mod AnswerLaws
 pub mod AskLaws
 pub mod DidLaws
+pub mod LentGivenLaws

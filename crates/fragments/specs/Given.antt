@@ -1,39 +1,40 @@
--- What a fragment's result stands for, and what the functions on the way to it give.
+-- What a fragment's call gives: one definition for the call, and the same for its parts, which are lent less.
 -- Assumes nothing.
-use Prim.Native.Nat.{ℕ, _+_, _≤_}
+use Prim.Native.Nat.{ℕ, _≤_}
 use mathlib.Core.Path.{_≡_}
 use mathlib.Core.Bool.{Bool, false, cond, _||_}
-use mathlib.Core.List.{List, []}
+use mathlib.Core.List.{List}
 use lib.Dec.{eqb}
 use lib.ListN.{length, take}
-use Rattle.octets.specs.Bytes.{splice}
-use Rattle.application.specs.declared.Fault.the-variants.{Faultless, ObjectUnknown, BadParameter}
-use Rattle.control.specs.declared.Crob.{Crob}
-use Rattle.control.specs.declared.Crobs.{Crobs}
-use Rattle.control.specs.Objects.{echoMax, listOf, Holding}
-use Rattle.select.specs.Select.{noSelect, latchOf}
+use Rattle.laws.specs.Limits.{fragmentMax}
 use Rattle.points.specs.Inputs.{Inputs}
 use Rattle.events.specs.Queue.{Queue}
+use Rattle.application.specs.declared.Fault.{Fault}
+use Rattle.application.specs.declared.Fault.the-variants.{Faultless, ObjectUnknown, BadParameter}
 use Rattle.application.specs.Fragment.{objectsOf}
-use Rattle.application.specs.Response.{writeFault}
-use Rattle.repeat.specs.Repeat.{nothing, isRepeat}
-use Rattle.static_objects.specs.Static.{readOf}
-use Rattle.outstation.specs.declared.Wait.{Wait}
-use Rattle.outstation.specs.declared.Wait.the-variants.{Idle, Awaiting}
 use Rattle.request.specs.declared.Verdict.{Verdict}
 use Rattle.request.specs.declared.Verdict.the-variants as Vs
 use Rattle.request.specs.Parse.{Parsed, headers, fault}
-use Rattle.outstation.specs.declared.Outstation.{Outstation}
-use Rattle.outstation.specs.World.{World, Exchange, withClock, withInputs, withQueue, withExchange, withShared, withMaster, world, Counted}
-use Rattle.outstation.specs.Step.{Answer, took, answers, silent, accepts, refuses, handed, lentAfter, Result, readDeed, plainDeed, readFault, isFaultless, readStep, repeatStep, requestStep, deedBy, refusal, confirmedStep, confirmStep}
+use Rattle.static_objects.specs.Static.{readOf}
+use Rattle.control.specs.declared.Crob.{Crob}
+use Rattle.control.specs.declared.Crobs.{Crobs}
+use Rattle.control.specs.Objects.{echoMax, answerMax, listOf, Holding}
+use Rattle.select.specs.Select.{Selection, noSelect}
+use Rattle.repeat.specs.Repeat.{isRepeat}
+use Rattle.lent_repeat.specs.declared.LastLengths.{LastLengths}
+use Rattle.lent_repeat.specs.LentLast.{lastIn}
+use Rattle.words.specs.Numbers.{holds}
+use Rattle.event_store.specs.EventWords.{queueIn}
+use Rattle.outstation.specs.declared.Head.{Head}
+use Rattle.outstation.specs.declared.Wait.{Wait}
+use Rattle.outstation.specs.World.{World, Exchange, withClock, withInputs, withQueue, withExchange, withShared, withMaster}
+use Rattle.outstation.specs.Lent.{Lent, Outstation, world, HeadCounted, Counted, statusOf, waitOf, worldOf}
+use Rattle.outstation.specs.Step.{Answer, took, answers, silent, accepts, refuses, handed, lentAfter, Result, fragment, step, readDeed, plainDeed, readFault, readStep, repeatStep, requestStep, deedBy, confirmStep, confirmedStep}
 use Rattle.outstation.specs.Step as S
+use Rattle.effects.specs.declared.Seen.{Seen}
 use Rattle.fragments.specs.declared.FragmentAnswer.{FragmentAnswer}
 use Rattle.fragments.specs.declared.FragmentAnswer.the-variants as Fs
-use Rattle.fragments.specs.declared.Answered.{Answered}
-use Rattle.fragments.specs.declared.Confirmation.{Confirmation}
-use Rattle.fragments.specs.declared.Confirmation.the-variants as Cs
-use Rattle.fragments.specs.declared.Deed.{Deed}
-use Rattle.fragments.specs.declared.Seen.{Seen}
+use Rattle.fragments.specs.declared.FragmentResult.{FragmentResult}
 
 -- the numbers of the refusal table, and the values of each case; d the lent bytes after the call
 abbrev pub answerBy : FragmentAnswer → List ℕ → List Crob → Answer
@@ -44,6 +45,12 @@ answerBy Fs.Time d operated = refuses 1
 answerBy Fs.Malformed d operated = refuses 31
 answerBy Fs.NotConfirmed d operated = refuses 32
 answerBy Fs.AnswerLent d operated = refuses 33
+
+-- what a call gives: the outstation that it leaves, the answer, the objects handed to the host
+pub record Answered : Type 0 where
+  pub state : Outstation
+  pub answer : FragmentAnswer
+  pub operated : Crobs
 
 abbrev pub fragmentAnswer : Answered → List ℕ → Answer
 fragmentAnswer r d = answerBy (r .answer) d (listOf (r .operated))
@@ -84,52 +91,22 @@ pub record Given (o : Outstation) (r : Answered) (before after : List ℕ) (x : 
   pub lent : after ≡ lentAfter before (x .answer)
   pub counted : Counted o → Counted (r .state)
 
--- the same, of a function that is lent nothing
-abbrev pub Still : Outstation → Answered → Result → Type 0
-Still o r x = (d : List ℕ) → Given o r d d x
+-- the outstation that a result and the memory m₁ make
+abbrev pub answeredBy : FragmentResult → Lent → Answered
+answeredBy r m₁ = record { state = record { head = r .head; lent = m₁ }; answer = r .answer; operated = r .operated }
 
--- what a request does beside the events, worked by the code: the objects of its answer are in the lent bytes from 4 on, up to `size`
-pub record Worked (r : Deed) (before after : List ℕ) (d : S.Deed) : Type 0 where
-  pub fault : r .fault ≡ d .fault
-  pub con : r .con ≡ d .con
-  pub size : r .size ≡ 4 + length (d .objects)
-  pub lent : after ≡ splice before 4 (d .objects)
-  pub operated : Holding (r .operated) (d .operated)
-  pub wait : r .wait ≡ d .wait
-  pub latch : latchOf (r .latch) ≡ d .latch
-  pub counted : r .latch .len ≤ echoMax
-  pub restarted : r .restarted ≡ d .restarted
+-- the call: the fragment f at this time, on the head h and the memory m, left the memory m₁
+abbrev pub FragmentDid : Head → Lent → (time : ℕ) (f : List ℕ) → FragmentResult → Lent → (before after : List ℕ) → Type 0
+FragmentDid h m time f r m₁ before after =
+    Given (record { head = h; lent = m }) (answeredBy r m₁) before after (step (fragment time f (length before)) (worldOf h m))
 
--- the same, whatever events are held
-abbrev pub WorkedWith : Deed → List ℕ → List ℕ → (Queue → S.Deed) → Type 0
-WorkedWith r before after d = (k : Queue) → Worked r before after (d k)
+-- ---- the parts of the call, each lent less
 
--- the same, whatever the state is, of a function that is lent nothing
-abbrev pub WorkedStill : Deed → (World → S.Deed) → Type 0
-WorkedStill r d = (w : World) (lent : List ℕ) → Worked r lent lent (d w)
-
--- the state as a request other than READ sees it, with these events
-abbrev pub seenWorld : Seen → Queue → World
-seenWorld s k =
-    record {
-      shared =
-          record {
-            armTime = s .«arm_time»;
-            confirmTime = 0;
-            outputs = s .outputs;
-            clock = 0;
-            inputs = record { binaries = []; analogs = [] };
-          };
-      master =
-          record {
-            queue = k;
-            exchange = record { restarted = s .restarted; wait = Idle; last = nothing; latch = latchOf (s .latch) };
-          };
-    }
-
--- WRITE, by IIN1.7 before it
-abbrev pub writeDeedBy : World → (restarted : Bool) → List ℕ → S.Deed
-writeDeedBy w restarted o = plainDeed w (writeFault o) (cond (isFaultless (writeFault o)) false restarted)
+-- the result r of a call on the head h, that left the memory m₁ and had these lent bytes before and after, is this step's: new state, answer,
+-- its length, objects handed to the host, each lent byte; and no count of the head passes its array, where none did before
+pub record GivenIn (h : Head) (r : FragmentResult) (m₁ : Lent) (before after : List ℕ) (x : Result) : Type 0 where
+  pub result : AnsweredAs (worldOf (r .head) m₁) (r .answer) (r .operated) before after x
+  pub counted : HeadCounted h → HeadCounted (r .head)
 
 -- the state with another clock, inputs, events and exchange
 abbrev pub leftWith : World → ℕ → Inputs → Queue → Exchange → World
@@ -141,35 +118,103 @@ abbrev pub readDeedBy : World → ℕ → ℕ → Parsed → S.Deed
 readDeedBy w q time (headers hs) = readDeed w q time hs
 readDeedBy w q time (fault n) = plainDeed w (readFault n) (w .master .exchange .restarted)
 
--- a faultless READ's deed, by whether an event is carried and whether some were dropped: what is not in the lent bytes
-pub record ReadDone (r : Deed) (q time : ℕ) (carried overflow : Bool) (size : ℕ) (before : Bool) : Type 0 where
-  pub fault : r .fault ≡ Faultless
-  pub con : r .con ≡ (carried || overflow)
-  pub sized : r .size ≡ size
-  pub operated : Holding (r .operated) []
-  pub wait : r .wait ≡ cond (carried || overflow) (Awaiting (record { 0 = q }) time overflow false) Idle
-  pub latch : latchOf (r .latch) ≡ noSelect
-  pub counted : r .latch .len ≤ echoMax
-  pub restarted : r .restarted ≡ before
-
--- a READ's deed, by its verdict
-abbrev pub ReadAs : Verdict → Deed → ℕ → ℕ → (carried overflow : Bool) → ℕ → (restarted : Bool) → Type 0
-ReadAs Vs.Faultless r q time carried overflow size restarted = ReadDone r q time carried overflow size restarted
-ReadAs Vs.ObjectUnknown r q time carried overflow size restarted = WorkedStill r (λ w. plainDeed w ObjectUnknown restarted)
-ReadAs Vs.BadParameter r q time carried overflow size restarted = WorkedStill r (λ w. plainDeed w BadParameter restarted)
-
--- what a CONFIRM comes to, as a step
-abbrev pub confirmBy : Confirmation → World → ℕ → Result
-confirmBy Cs.Refused w time = refusal 32 w
-confirmBy (Cs.Accepted shown since) w time = confirmedStep w time shown since
-
--- the same, told from the confirm time and the awaited confirmation of any state
-abbrev pub Confirms : Confirmation → ℕ → Wait → ℕ → Bool → ℕ → Type 0
-Confirms x confirmTime v q uns time = (w : World) → w .shared .confirmTime ≡ confirmTime → confirmStep w v q uns time ≡ confirmBy x w time
-
 -- a request by its function: a READ, a repeat, or another
 abbrev pub requestBy : World → ℕ → ℕ → ℕ → List ℕ → Result
 requestBy w q function time f =
     cond (eqb function 1) (readStep w q time f (readDeedBy w q time (readOf (w .shared .inputs) (objectsOf f))))
     (cond (isRepeat (w .master .exchange .last) f) (repeatStep w function time)
     (requestStep w q function time f (deedBy w q function time (objectsOf f))))
+
+-- ---- a CONFIRM, whatever else is lent
+
+abbrev pub withHeld : List ℕ → Lent → Lent
+withHeld e m =
+    record { binaries = m .binaries; analogs = m .analogs; held = e; request = m .request; answer = m .answer; objects = m .objects }
+
+abbrev pub ConfirmedDid : Head → List ℕ → (time : ℕ) (shown since : Bool) → FragmentResult → List ℕ → Type 0
+ConfirmedDid h e time shown since r e₁ =
+    (m : Lent) (out : List ℕ) → GivenIn h r (withHeld e₁ m) out out (confirmedStep (worldOf h (withHeld e m)) time shown since)
+
+abbrev pub ConfirmDid : Head → List ℕ → (q : ℕ) (uns : Bool) (time : ℕ) → FragmentResult → List ℕ → Type 0
+ConfirmDid h e q uns time r e₁ =
+    (m : Lent) (out : List ℕ) → GivenIn h r (withHeld e₁ m) out out (confirmStep (worldOf h (withHeld e m)) (waitOf h) q uns time)
+
+-- ---- a request: a READ, a repeat, or another
+
+abbrev pub RequestDid : Head → Lent → (q function time : ℕ) (f : List ℕ) → FragmentResult → Lent → (before after : List ℕ) → Type 0
+RequestDid h m q function time f r m₁ before after = GivenIn h r m₁ before after (requestBy (worldOf h m) q function time f)
+
+-- a READ's fault and CON, by the verdict on its plan
+abbrev pub faultBy : Verdict → Fault
+faultBy Vs.Faultless = Faultless
+faultBy Vs.ObjectUnknown = ObjectUnknown
+faultBy Vs.BadParameter = BadParameter
+
+abbrev pub conBy : Verdict → (carried overflow : Bool) → Bool
+conBy Vs.Faultless carried overflow = carried || overflow
+conBy Vs.ObjectUnknown carried overflow = false
+conBy Vs.BadParameter carried overflow = false
+
+-- of a READ, whatever the latch's bytes
+abbrev pub ReadDid : Head → (List ℕ → Lent) → (q time : ℕ) (f : List ℕ) → FragmentResult → (List ℕ → Lent) → (before after : List ℕ) → Type 0
+ReadDid h m q time f r m₁ before after =
+    (o : List ℕ)
+    → GivenIn h r (m₁ o) before after
+    (readStep (worldOf h (m o)) q time f (readDeedBy (worldOf h (m o)) q time (readOf (worldOf h (m o) .shared .inputs) (objectsOf f))))
+
+-- whether there is a last request, and its lengths
+abbrev pub lastLengths : Head → LastLengths
+lastLengths h = record { held = holds (h .«request_kept»); «request_len» = h .«request_len»; «answer_len» = h .«answer_len» }
+
+abbrev pub withLast : (request answer : List ℕ) → Lent → Lent
+withLast request answer m =
+    record { binaries = m .binaries; analogs = m .analogs; held = m .held; request = request; answer = answer; objects = m .objects }
+
+-- of a repeat, whatever else is lent
+abbrev pub RepeatDid : Head → (request answer : List ℕ) → (function time : ℕ) → FragmentResult → (before after : List ℕ) → Type 0
+RepeatDid h request answer function time r before after =
+    (m : Lent)
+    → GivenIn h r (withLast request answer m) before after (repeatStep (worldOf h (withLast request answer m)) function time)
+
+-- of any other, whatever the points' words
+abbrev pub OtherDid : Head → (List ℕ → List ℕ → Lent) → (q function time : ℕ) (f : List ℕ) → FragmentResult → (List ℕ → List ℕ → Lent) → (before after : List ℕ)
+    → Type 0
+OtherDid h m q function time f r m₁ before after =
+    (b a : List ℕ)
+    → GivenIn h r (m₁ b a) before after
+    (requestStep (worldOf h (m b a)) q function time f (deedBy (worldOf h (m b a)) q function time (objectsOf f)))
+
+-- what it sees of the state
+abbrev pub seenIn : Head → List ℕ → Seen
+seenIn h objects =
+    record {
+      outputs = h .outputs;
+      «arm_time» = h .«arm_time»;
+      restarted = holds (h .restarted);
+      latch =
+          record {
+            armed = holds (h .«latch_armed»);
+            sequence = record { 0 = h .«latch_sequence» };
+            time = h .«latch_time»;
+            objects = objects;
+            len = h .«latch_len»;
+          };
+    }
+
+-- ---- the head r and the latch's bytes o that a request leaves: IIN1.7, the wait, so many bytes of the request and its answer, the latch of
+-- so many bytes
+
+abbrev pub withObjects : List ℕ → Lent → Lent
+withObjects o m =
+    record { binaries = m .binaries; analogs = m .analogs; held = m .held; request = m .request; answer = m .answer; objects = o }
+
+pub record LeftIn (h : Head) (time : ℕ) (restarted : Bool) (wait : Wait) (k : LastLengths) (l : Selection) (n : ℕ) (r : Head) (o : List ℕ) : Type 0 where
+  pub world : (m : Lent)
+      → worldOf r (withObjects o m)
+      ≡ leftWith (worldOf h m) time (worldOf h m .shared .inputs) (queueIn (m .held) (statusOf h))
+      (record { restarted = restarted; wait = wait; last = lastIn (m .request) (m .answer) k; latch = l })
+  pub counted : k .«request_len» ≤ fragmentMax → k .«answer_len» ≤ answerMax → n ≤ echoMax → HeadCounted h → HeadCounted r
+
+-- a READ leaves no select, whatever the latch's bytes
+abbrev pub ReadLeft : Head → (time : ℕ) → Wait → LastLengths → Head → Type 0
+ReadLeft h time wait k r = (o : List ℕ) → LeftIn h time (holds (h .restarted)) wait k noSelect (h .«latch_len») r o

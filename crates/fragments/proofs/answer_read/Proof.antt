@@ -1,22 +1,20 @@
 -- `fragments::answer_read` meets its contract.
 -- Assumes nothing.
 use mathlib.Core.List.{List}
-use mathlib.Core.Path.{sym, ap, subst, _∙_}
-use Prim.Native.Nat.{ℕ, _≤_}
-use native.Mathlib.Omega.{arith}
-use borrow.Author.Needs.{needs}
-use lib.ListN.{length}
+use mathlib.Core.Path.{subst, _∙_}
+use Prim.Native.Nat.{ℕ}
 use Rattle.laws.proofs.Filling.{to-end}
-use Rattle.application.specs.Fragment.{objectsOf}
-use Rattle.events.specs.Queue.{queue}
-use Rattle.static_objects.specs.Static.{readOf}
-use Rattle.read.specs.Response.{queueAfter}
-use Rattle.outstation.specs.World.{world, exchangeOf}
-use Rattle.fragments.proofs.DeedLaws.{read-queue, verdict-worked, read-most}
-use Rattle.fragments.proofs.GivenLaws.{given, read-given, counted-left, counted-kept}
-use Rattle.fragments.specs.Given.{Worked, readDeedBy}
+use Rattle.point_store.specs.PointWords.{inputsIn}
+use Rattle.event_store.specs.EventWords.{queueIn}
+use Rattle.lent_read.specs.LentResponse.{RepliedAs}
+use Rattle.outstation.specs.Lent.{installedOf}
+use Rattle.fragments.proofs.LentGivenLaws.{read-in}
+use borrow.Author.Needs.{needs}
 use Rattle.fragments.proofs.answer_read.Statement.{statement}
 use Rattle.fragments.proofs.answer_read.Tie as tie
+
+status-of-requires : tie.Need-status-of-requires
+status-of-requires c κs = search needs
 
 sub-respond : tie.Need-sub-respond
 sub-respond c = search needs
@@ -33,75 +31,62 @@ respond-requires c κs = search needs
 any-carried-requires : tie.Need-any-carried-requires
 any-carried-requires c κs = search needs
 
-read-deed-requires : tie.Need-read-deed-requires
-read-deed-requires c κs = search needs
+read-said-requires : tie.Need-read-said-requires
+read-said-requires c κs = search needs
+
+truth-requires : tie.Need-truth-requires
+truth-requires c κs = search needs
 
 put-header-requires : tie.Need-put-header-requires
-put-header-requires c κs = omega (arith, c .before .before .before .before .before .before .before .respond .kept .0, c .before .before .before .before .before .before .before .before .before .before .before .before .before .before .before .pre)
+put-header-requires c κs = search needs
 
 slice-aggregate-remember : tie.Need-slice-aggregate-remember
 slice-aggregate-remember c = search needs
 
 remember-requires : tie.Need-remember-requires
-remember-requires c κs = (c .before .before .before .before .before .before .before .before .before .before .before .before .before .before .before .before .before .before .before .pre .1, search needs)
+remember-requires c κs = search needs
+
+after-read-requires : tie.Need-after-read-requires
+after-read-requires c κs = search needs
 
 none-requires : tie.Need-none-requires
 none-requires c κs = search needs
 
-session-of-requires : tie.Need-session-of-requires
-session-of-requires c κs = search needs
-
-left-with-requires : tie.Need-left-with-requires
-left-with-requires c κs = search needs
-
 same-length : tie.Need-same-length
-same-length c = c .before .before .before .before .before .before .before .put-header .kept .0 ∙ c .before .before .before .before .before .before .before .before .before .before .before .before .before .before .before .respond .kept .0
+same-length c =
+    c .before .before .before .before .before .before .before .before .put-header .kept .0 ∙ c .before .before .before .before .before .before .before .before .before .before .before .before .before .before .before .before .before .respond .kept .0
 
 returns : tie.Need-returns
-unfolding exchangeOf queue
 returns c =
-    let a = c .before .before .before .before .before .before .before .before .before .before .before .before .before .before .before .before .before .before .before .before .before .before .before .args in
-    let re = c .before .before .before .before .before .before .before .before .before .before .before .before .before .before .before .respond in
-    let rd = c .before .before .before .before .before .before .before .before .before .read-deed in
-    let w = world (a .o) in
-    let whole = to-end (a .f .now) 2 in
-    let raw =
-    verdict-worked w (a .q .0) (a .time) (rd .result) (a .out .now) (re .last .0) (queue (re .result .buffer)) _ _ (re .result .plan) _ (re .ensures .0) (rd .ensures)
-    (c .before .before .before .before .before .before .before .before .before .before .any-carried .ensures) (re .ensures .1) (re .ensures .2) (re .ensures .3) in
-    let worked : Worked (rd .result) (a .out .now) (re .last .0) (readDeedBy w (a .q .0) (a .time) (readOf (w .shared .inputs) (objectsOf (a .f .now)))) =
-    subst (λ (x : List ℕ). Worked (rd .result) (a .out .now) (re .last .0) (readDeedBy w (a .q .0) (a .time) (readOf (w .shared .inputs) x))) whole raw in
-    let marked =
-    re .ensures .1 ∙ ap (λ (x : List ℕ). queueAfter (w .shared .inputs) (readOf (w .shared .inputs) x) (w .master .queue)) whole
-    ∙ sym (read-queue w (a .q .0) (a .time) (readOf (w .shared .inputs) (objectsOf (a .f .now)))) in
-    let most = read-most w (a .q .0) (a .time) (objectsOf (a .f .now)) in
-    let size = worked .size in
-    let room : rd .result .size ≤ length (a .out .now) = omega (arith, most, size, c .before .before .before .before .before .before .before .before .before .before .before .before .before .before .before .before .before .before .before .before .before .before .before .pre) in
-    let left = c .left-with .ensures in
-    let keeps = c .before .session-of .ensures in
-    let last = c .before .before .before .remember .ensures in
-    let counts =
-    counted-left (a .o) (c .left-with .result) _ _ (left .1) (left .2) (left .3)
-    (λ k. omega (arith, re .ensures .4, k .events))
-    (λ k. counted-kept _ _ _ (keeps .1) (keeps .2) (last .1) (last .2) (worked .counted)) in
-    given (a .o) _ (a .out .now) _ _
-    (read-given (world (a .o)) (world (c .left-with .result)) (a .q .0) (a .time) (a .f .now) (rd .result) (a .out .now) _ _ worked _ marked _ _ (left .0)
-    (keeps .0) _ (c .before .before .before .before .before .before .before .put-header .ensures) room (c .before .before .none .result) (c .before .before .none .ensures) (last .0)) counts
+    let s = c .before .before .before .before .before .before .before .before .before .before .before .before .before .before .before .before .before .before .before .before .before .before .before .before in
+    let a = s .args in
+    let re = c .before .before .before .before .before .before .before .before .before .before .before .before .before .before .before .before .before .respond in
+    let t = c .before .before .before .before .before .before .before .before .before .before .before .before .before .before .before .before .before .before .before .before .before .status-of in
+    let rs = c .before .before .before .before .before .before .before .before .before .before .before .before .read-said in
+    let g =
+    subst (λ (x : List ℕ). RepliedAs (inputsIn (installedOf (a .h)) (a .binaries .now) (a .analogs .now)) x (queueIn (a .held .now) (t .result)) (a .out .now) (re .result) (queueIn (re .last .1 .1 .1 .1 .1 .0) (t .result)) (re .last .0))
+    (to-end (a .f .now) 2) (re .ensures) in
+    read-in (a .h) (a .binaries .now) (a .analogs .now) (a .held .now) (a .request .now) (a .answer .now) (a .q .0) (a .time) (a .f .now) _ _ _ (re .result) (a .out .now) _ _ _ _ _
+    (c .before .before .remember .result) (c .before .after-read .result) (c .none .result) (c .none .ensures) (c .before .after-read .ensures) (c .before .before .remember .ensures)
+    (s .pre .1) (s .pre .2) (rs .ensures .0) (t .result) _ (t .ensures) (c .before .before .before .before .before .before .before .before .before .truth .ensures) g (rs .ensures .1) (c .before .before .before .before .before .before .before .before .before .before .before .before .before .any-carried .ensures)
+    (c .before .before .before .before .before .before .before .before .put-header .ensures)
 
 pub answer-read-spec : {M : Type 1} → statement M
 answer-read-spec =
     tie.close
     (tie.spec
+    status-of-requires
     sub-respond
     part-respond-start
     part-respond-end
     respond-requires
     any-carried-requires
-    read-deed-requires
+    read-said-requires
+    truth-requires
     put-header-requires
     slice-aggregate-remember
     remember-requires
+    after-read-requires
     none-requires
-    session-of-requires
-    left-with-requires
     same-length
     returns)

@@ -1,17 +1,44 @@
 -- `fragments::fragment` meets its contract.
 -- Assumes nothing.
-use mathlib.Core.Path.{refl, sym, _∙_}
-use borrow.Author.Needs.{needs}
-use borrow.Author.Tests.{eq-eqb, ne-eqb, lt-ltb, le-ltb}
+use mathlib.Core.Path.{_≡_, refl, sym, _∙_}
+use mathlib.Core.Bool.{false}
+use borrow.Author.Tests.{lt-ltb, le-ltb}
+use lib.Dec.{ltb}
 use lib.ListN.{length}
-use Rattle.outstation.specs.World.{world, exchangeOf}
-use Rattle.fragments.proofs.AskLaws.{request-sized, fragment-late, fragment-small, fragment-malformed, fragment-confirm, fragment-request}
-use Rattle.fragments.proofs.GivenLaws.{refused-given, confirm-given, by-read, by-repeat, by-other}
-use Rattle.fragments.specs.Given.{Given}
+use Rattle.laws.specs.Limits.{fragmentMax}
+use Rattle.outstation.specs.Readings.{badTime}
+use Rattle.outstation.specs.World.{World}
 use Rattle.fragments.specs.declared.FragmentAnswer.the-variants as Fs
-use Rattle.fragments.specs.declared.Confirmation.the-variants as Cs
+use Rattle.fragments.proofs.AskLaws.{request-sized, fragment-late, fragment-small, fragment-malformed, fragment-confirm, fragment-request}
+use Rattle.outstation.specs.Lent.{Lent, Outstation, worldOf}
+use Rattle.fragments.specs.Given.{Given, answeredBy}
+use Rattle.fragments.proofs.LentGivenLaws.{given-in, refused-in}
+use borrow.Author.Needs.{needs}
 use Rattle.fragments.proofs.fragment.Statement.{statement}
 use Rattle.fragments.proofs.fragment.Tie as tie
+
+-- the memory and the state at entry
+abbrev mem : tie.Start → Lent
+mem s =
+    let a = s .args in
+    record { binaries = a .binaries .now; analogs = a .analogs .now; held = a .held .now; request = a .request .now; answer = a .answer .now; objects = a .objects .now }
+
+abbrev unit : tie.Start → Outstation
+unit s = record { head = s .args .h; lent = mem s }
+
+abbrev was : tie.Start → World
+was s = worldOf (s .args .h) (mem s)
+
+-- a fragment that is classified is in time and has room for its answer
+module _ (c : tie.After-classify) where
+  abbrev start : tie.Start
+  start = c .before .before .before .before .before .before
+
+  in-time : badTime (start .args .h .clock) (start .args .time) ≡ false
+  in-time = sym (c .before .before .before .bad-time .ensures) ∙ c .before .before .if1 .left
+
+  roomy : ltb (length (start .args .out .now)) fragmentMax ≡ false
+  roomy = le-ltb _ _ (c .before .if2 .left)
 
 bad-time-requires : tie.Need-bad-time-requires
 bad-time-requires c κs = search needs
@@ -21,20 +48,24 @@ refuse-requires c κs = search needs
 
 returns : tie.Need-returns
 returns c =
-    let a = c .before .before .before .before .before .args in
-    fragment-late (world (a .o)) (a .time) (a .f .now) (length (a .out .now)) (Given (a .o) (c .refuse .result) (a .out .now) (a .out .now))
+    let s = c .before .before .before .before .before in
+    let a = s .args in
+    fragment-late (was s) (a .time) (a .f .now) (length (a .out .now)) (Given (unit s) (answeredBy (c .refuse .result) (mem s)) (a .out .now) (a .out .now))
     (sym (c .before .before .bad-time .ensures) ∙ c .before .if1 .taken)
-    (refused-given (c .refuse .result) (a .o) Fs.Time 1 (c .refuse .ensures .0) (c .refuse .ensures .1) (c .refuse .ensures .2) (λ d x. refl) refl (a .out .now))
+    (given-in (a .h) (mem s) (mem s) (c .refuse .result) (a .out .now) (a .out .now) _
+    (refused-in (c .refuse .result) (a .h) Fs.Time 1 (c .refuse .ensures .0) (c .refuse .ensures .1) (c .refuse .ensures .2) (λ d x. refl) refl (mem s) (a .out .now)))
 
 refuse-requires-2 : tie.Need-refuse-requires-2
 refuse-requires-2 c κs = search needs
 
 returns-2 : tie.Need-returns-2
 returns-2 c =
-    let a = c .before .before .before .before .before .before .args in
-    fragment-small (world (a .o)) (a .time) (a .f .now) (length (a .out .now)) (Given (a .o) (c .refuse2 .result) (a .out .now) (a .out .now))
+    let s = c .before .before .before .before .before .before in
+    let a = s .args in
+    fragment-small (was s) (a .time) (a .f .now) (length (a .out .now)) (Given (unit s) (answeredBy (c .refuse2 .result) (mem s)) (a .out .now) (a .out .now))
     (sym (c .before .before .before .bad-time .ensures) ∙ c .before .before .if1 .left) (lt-ltb _ _ (c .before .if2 .taken))
-    (refused-given (c .refuse2 .result) (a .o) Fs.AnswerLent 33 (c .refuse2 .ensures .0) (c .refuse2 .ensures .1) (c .refuse2 .ensures .2) (λ d x. refl) refl (a .out .now))
+    (given-in (a .h) (mem s) (mem s) (c .refuse2 .result) (a .out .now) (a .out .now) _
+    (refused-in (c .refuse2 .result) (a .h) Fs.AnswerLent 33 (c .refuse2 .ensures .0) (c .refuse2 .ensures .1) (c .refuse2 .ensures .2) (λ d x. refl) refl (mem s) (a .out .now)))
 
 classify-requires : tie.Need-classify-requires
 classify-requires c κs = search needs
@@ -45,123 +76,53 @@ enum-told c = search needs
 refuse-requires-3 : tie.Need-refuse-requires-3
 refuse-requires-3 c κs = search needs
 
-enum-known-k : tie.Need-enum-known-k
-enum-known-k c = search needs
+enum-known-kind : tie.Need-enum-known-kind
+enum-known-kind c = search needs
 
-confirm-requires : tie.Need-confirm-requires
-confirm-requires c κs = search needs
+take-confirm-requires : tie.Need-take-confirm-requires
+take-confirm-requires c κs = search needs
 
-enum-told-2 : tie.Need-enum-told-2
-enum-told-2 c = search needs
+enum-known-kind-2 : tie.Need-enum-known-kind-2
+enum-known-kind-2 c = search needs
 
-refuse-requires-4 : tie.Need-refuse-requires-4
-refuse-requires-4 c κs = search needs
+take-request-requires : tie.Need-take-request-requires
+take-request-requires c κs =
+    let cl = c .before .before .before .before .before .before .before .before in
+    let g = c .before .before .before .before .before .before .kind2 .given in
+    let z = request-sized (start cl .args .f .now) (cl .classify .result) (g .0 .0) (g .0 .1 .0) (cl .classify .ensures) (g .1) in
+    (z .0, z .1, cl .before .if2 .left)
 
 returns-3 : tie.Need-returns-3
-unfolding exchangeOf
 returns-3 c =
-    let a = c .before .before .before .before .before .before .before .before .before .before .before .before .before .before .args in
-    let cl = c .before .before .before .before .before .before .before .before .classify in
-    let g = c .before .before .before .before .before .before .k .given in
-    fragment-confirm (world (a .o)) (a .time) (a .f .now) (length (a .out .now)) (Given (a .o) (c .refuse4 .result) (a .out .now) (a .out .now))
-    (sym (c .before .before .before .before .before .before .before .before .before .before .before .bad-time .ensures) ∙ c .before .before .before .before .before .before .before .before .before .before .if1 .left) (le-ltb _ _ (c .before .before .before .before .before .before .before .before .before .if2 .left)) (cl .result) (cl .ensures) (g .0 .0) (g .0 .1 .0) (g .1)
-    (confirm-given (world (a .o)) (Given (a .o) (c .refuse4 .result) (a .out .now) (a .out .now)) (a .o .session .wait) (g .0 .0 .0) (g .0 .1 .0) (a .time) (c .before .before .before .confirm .result) Cs.Refused
-    (c .before .before .before .confirm .ensures) (c .before .enum-told2 .given .1)
-    (refused-given (c .refuse4 .result) (a .o) Fs.NotConfirmed 32 (c .refuse4 .ensures .0) (c .refuse4 .ensures .1) (c .refuse4 .ensures .2) (λ d x. refl) refl (a .out .now)))
-
-enum-known-c : tie.Need-enum-known-c
-enum-known-c c = search needs
-
-accept-confirm-requires : tie.Need-accept-confirm-requires
-accept-confirm-requires c κs = search needs
+    let cl = c .before .before .before in
+    let s = start cl in
+    let a = s .args in
+    fragment-malformed (was s) (a .time) (a .f .now) (length (a .out .now)) (Given (unit s) (answeredBy (c .refuse3 .result) (mem s)) (a .out .now) (a .out .now))
+    (in-time cl) (roomy cl) (cl .classify .result) (cl .classify .ensures) (c .before .enum-told .given .1)
+    (given-in (a .h) (mem s) (mem s) (c .refuse3 .result) (a .out .now) (a .out .now) _
+    (refused-in (c .refuse3 .result) (a .h) Fs.Malformed 31 (c .refuse3 .ensures .0) (c .refuse3 .ensures .1) (c .refuse3 .ensures .2) (λ d x. refl) refl (mem s) (a .out .now)))
 
 returns-4 : tie.Need-returns-4
-unfolding exchangeOf
 returns-4 c =
-    let a = c .before .before .before .before .before .before .before .before .before .before .before .before .before .before .before .args in
-    let cl = c .before .before .before .before .before .before .before .before .before .classify in
-    let g = c .before .before .before .before .before .before .before .k .given in
-    let h = c .before .before .c .given in
-    fragment-confirm (world (a .o)) (a .time) (a .f .now) (length (a .out .now)) (Given (a .o) (c .accept-confirm .result) (a .out .now) (a .out .now))
-    (sym (c .before .before .before .before .before .before .before .before .before .before .before .before .bad-time .ensures) ∙ c .before .before .before .before .before .before .before .before .before .before .before .if1 .left) (le-ltb _ _ (c .before .before .before .before .before .before .before .before .before .before .if2 .left)) (cl .result) (cl .ensures) (g .0 .0) (g .0 .1 .0) (g .1)
-    (confirm-given (world (a .o)) (Given (a .o) (c .accept-confirm .result) (a .out .now) (a .out .now)) (a .o .session .wait) (g .0 .0 .0) (g .0 .1 .0) (a .time) (c .before .before .before .before .confirm .result)
-    (Cs.Accepted (h .0 .0) (h .0 .1 .0)) (c .before .before .before .before .confirm .ensures) (h .1) (c .accept-confirm .ensures (a .out .now)))
-
-enum-known-k-2 : tie.Need-enum-known-k-2
-enum-known-k-2 c = search needs
-
-answer-read-requires : tie.Need-answer-read-requires
-answer-read-requires c κs =
-    let a = c .before .before .before .before .before .before .before .before .before .before .before .args in
-    let cl = c .before .before .before .before .before .classify in
-    let g = c .before .before .before .k2 .given in
-    let z = request-sized (a .f .now) (cl .result) (g .0 .0) (g .0 .1 .0) (cl .ensures) (g .1) in
-    (z .0, z .1, c .before .before .before .before .before .before .if2 .left)
+    let cl = c .before .before .before .before .before in
+    let s = start cl in
+    let a = s .args in
+    let g = c .before .before .before .kind .given in
+    fragment-confirm (was s) (a .time) (a .f .now) (length (a .out .now)) (Given (unit s) (answeredBy (c .take-confirm .result) _) (a .out .now) (a .out .now))
+    (in-time cl) (roomy cl) (cl .classify .result) (cl .classify .ensures) (g .0 .0) (g .0 .1 .0) (g .1) (given-in (a .h) (mem s) _ (c .take-confirm .result) (a .out .now) (a .out .now) _ (c .take-confirm .ensures (mem s) (a .out .now)))
 
 same-length : tie.Need-same-length
-same-length c = c .before .before .answer-read .kept .1 .1 .1 .1 .0
+same-length c = search needs
 
 returns-5 : tie.Need-returns-5
 returns-5 c =
-    let a = c .before .before .before .before .before .before .before .before .before .before .before .before .before .before .args in
-    let cl = c .before .before .before .before .before .before .before .before .classify in
-    let g = c .before .before .before .before .before .before .k2 .given in
-    fragment-request (world (a .o)) (a .time) (a .f .now) (length (a .out .now)) (Given (a .o) (c .before .before .answer-read .result) (a .out .now) _)
-    (sym (c .before .before .before .before .before .before .before .before .before .before .before .bad-time .ensures) ∙ c .before .before .before .before .before .before .before .before .before .before .if1 .left) (le-ltb _ _ (c .before .before .before .before .before .before .before .before .before .if2 .left)) (cl .result) (cl .ensures) (g .0 .0) (g .0 .1 .0) (g .1)
-    (by-read (world (a .o)) (g .0 .0 .0) (g .0 .1 .0) (a .time) (a .f .now) (Given (a .o) (c .before .before .answer-read .result) (a .out .now) _) (eq-eqb _ _ (c .before .before .before .before .if3 .taken)) (c .before .before .answer-read .ensures))
-
-repeats-requires : tie.Need-repeats-requires
-repeats-requires c κs =
-    let a = c .before .before .before .before .before .before .before .before .before .before .before .before .args in
-    let cl = c .before .before .before .before .before .before .classify in
-    let g = c .before .before .before .before .k2 .given in
-    let z = request-sized (a .f .now) (cl .result) (g .0 .0) (g .0 .1 .0) (cl .ensures) (g .1) in
-    z .0
-
-repeat-request-requires : tie.Need-repeat-request-requires
-repeat-request-requires c κs = c .before .before .before .before .before .before .before .before .before .before .if2 .left
-
-same-length-2 : tie.Need-same-length-2
-same-length-2 c = c .before .before .repeat-request .kept .1 .1 .1 .0
-
-returns-6 : tie.Need-returns-6
-unfolding exchangeOf
-returns-6 c =
-    let a = c .before .before .before .before .before .before .before .before .before .before .before .before .before .before .before .before .before .before .args in
-    let cl = c .before .before .before .before .before .before .before .before .before .before .before .before .classify in
-    let g = c .before .before .before .before .before .before .before .before .before .before .k2 .given in
-    fragment-request (world (a .o)) (a .time) (a .f .now) (length (a .out .now)) (Given (a .o) (c .before .before .repeat-request .result) (a .out .now) _)
-    (sym (c .before .before .before .before .before .before .before .before .before .before .before .before .before .before .before .bad-time .ensures) ∙ c .before .before .before .before .before .before .before .before .before .before .before .before .before .before .if1 .left) (le-ltb _ _ (c .before .before .before .before .before .before .before .before .before .before .before .before .before .if2 .left)) (cl .result) (cl .ensures) (g .0 .0) (g .0 .1 .0) (g .1)
-    (by-repeat (world (a .o)) (g .0 .0 .0) (g .0 .1 .0) (a .time) (a .f .now) (Given (a .o) (c .before .before .repeat-request .result) (a .out .now) _) (ne-eqb _ _ (c .before .before .before .before .before .before .before .before .if3 .left)) (sym (c .before .before .before .before .before .repeats .ensures) ∙ c .before .before .before .before .if4 .taken) (c .before .before .repeat-request .ensures))
-
-answer-request-requires : tie.Need-answer-request-requires
-answer-request-requires c κs =
-    let a = c .before .before .before .before .before .before .before .before .before .before .before .before .before .before .before .args in
-    let cl = c .before .before .before .before .before .before .before .before .before .classify in
-    let g = c .before .before .before .before .before .before .before .k2 .given in
-    let z = request-sized (a .f .now) (cl .result) (g .0 .0) (g .0 .1 .0) (cl .ensures) (g .1) in
-    (z .0, z .1, c .before .before .before .before .before .before .before .before .before .before .if2 .left)
-
-same-length-3 : tie.Need-same-length-3
-same-length-3 c = c .before .before .answer-request .kept .1 .1 .1 .1 .1 .0
-
-returns-7 : tie.Need-returns-7
-unfolding exchangeOf
-returns-7 c =
-    let a = c .before .before .before .before .before .before .before .before .before .before .before .before .before .before .before .before .before .before .args in
-    let cl = c .before .before .before .before .before .before .before .before .before .before .before .before .classify in
-    let g = c .before .before .before .before .before .before .before .before .before .before .k2 .given in
-    fragment-request (world (a .o)) (a .time) (a .f .now) (length (a .out .now)) (Given (a .o) (c .before .before .answer-request .result) (a .out .now) _)
-    (sym (c .before .before .before .before .before .before .before .before .before .before .before .before .before .before .before .bad-time .ensures) ∙ c .before .before .before .before .before .before .before .before .before .before .before .before .before .before .if1 .left) (le-ltb _ _ (c .before .before .before .before .before .before .before .before .before .before .before .before .before .if2 .left)) (cl .result) (cl .ensures) (g .0 .0) (g .0 .1 .0) (g .1)
-    (by-other (world (a .o)) (g .0 .0 .0) (g .0 .1 .0) (a .time) (a .f .now) (Given (a .o) (c .before .before .answer-request .result) (a .out .now) _) (ne-eqb _ _ (c .before .before .before .before .before .before .before .before .if3 .left)) (sym (c .before .before .before .before .before .repeats .ensures) ∙ c .before .before .before .before .if4 .left) (c .before .before .answer-request .ensures))
-
-returns-8 : tie.Need-returns-8
-returns-8 c =
-    let a = c .before .before .before .before .before .before .before .before .before .args in
-    let cl = c .before .before .before .classify in
-    fragment-malformed (world (a .o)) (a .time) (a .f .now) (length (a .out .now)) (Given (a .o) (c .refuse3 .result) (a .out .now) (a .out .now))
-    (sym (c .before .before .before .before .before .before .bad-time .ensures) ∙ c .before .before .before .before .before .if1 .left) (le-ltb _ _ (c .before .before .before .before .if2 .left)) (cl .result) (cl .ensures) (c .before .enum-told .given .1)
-    (refused-given (c .refuse3 .result) (a .o) Fs.Malformed 31 (c .refuse3 .ensures .0) (c .refuse3 .ensures .1) (c .refuse3 .ensures .2) (λ d x. refl) refl (a .out .now))
+    let cl = c .before .before .before .before .before .before .before .before .before .before .before in
+    let s = start cl in
+    let a = s .args in
+    let g = c .before .before .before .before .before .before .before .before .before .kind2 .given in
+    let r = c .before .before .take-request in
+    fragment-request (was s) (a .time) (a .f .now) (length (a .out .now)) (Given (unit s) (answeredBy (r .result) _) (a .out .now) _)
+    (in-time cl) (roomy cl) (cl .classify .result) (cl .classify .ensures) (g .0 .0) (g .0 .1 .0) (g .1) (given-in (a .h) (mem s) _ (r .result) (a .out .now) _ _ (r .ensures))
 
 pub fragment-spec : {M : Type 1} → statement M
 fragment-spec =
@@ -175,23 +136,11 @@ fragment-spec =
     classify-requires
     enum-told
     refuse-requires-3
-    enum-known-k
-    confirm-requires
-    enum-told-2
-    refuse-requires-4
+    enum-known-kind
+    take-confirm-requires
+    enum-known-kind-2
+    take-request-requires
     returns-3
-    enum-known-c
-    accept-confirm-requires
     returns-4
-    enum-known-k-2
-    answer-read-requires
     same-length
-    returns-5
-    repeats-requires
-    repeat-request-requires
-    same-length-2
-    returns-6
-    answer-request-requires
-    same-length-3
-    returns-7
-    returns-8)
+    returns-5)

@@ -1,8 +1,8 @@
 -- `fragments::put_answer` meets its contract.
 -- Assumes nothing.
 use mathlib.Core.Path.{refl}
-use borrow.Author.Needs.{needs}
 use borrow.Author.Tests.{eq-eqb, ne-eqb}
+use borrow.Author.Needs.{needs}
 use Rattle.fragments.proofs.put_answer.Statement.{statement}
 use Rattle.fragments.proofs.put_answer.Tie as tie
 
@@ -16,7 +16,8 @@ same-length : tie.Need-same-length
 same-length c = search needs
 
 returns-2 : tie.Need-returns-2
-returns-2 c = rw (ne-eqb _ _ (c .before .before .before .before .if1 .left)) (c .before .before .put-header .ensures, refl)
+returns-2 c =
+    rw (ne-eqb _ _ (c .before .before .before .before .if1 .left)) (c .before .before .put-header .ensures, refl)
 
 pub put-answer-spec : {M : Type 1} → statement M
 put-answer-spec =

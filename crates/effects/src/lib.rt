@@ -1,0 +1,212 @@
+// What a request other than READ does, and whether a CONFIRM is accepted: worked out on the small part of the state that they see
+// (document 01, "What the control room is told").
+ghost use mathlib.Core.Path.{_≡_};
+ghost use mathlib.Core.Bool.{cond, false, _||_, _&&_, not};
+ghost use Prim.Native.Nat.{_≤_};
+ghost use lib.ListN.{length};
+ghost use Rattle.outstation.specs.Requests.{confirmed};
+ghost use Rattle.outstation.specs.Step.{plainDeed, controlDeed, deedBy, isFaultless};
+ghost use Rattle.effects.specs.Effects.{WorkedWith, WorkedStill, Confirms, seenWorld, writeDeedBy};
+use application::ApplicationSequence;
+use application::Fault;
+use control::Crobs;
+use outstation::Wait;
+use select::ControlFunction;
+use select::Latch;
+
+// What a CONFIRM comes to; of one that is accepted, whether its response showed IIN2.3 and whether an event was dropped since.
+pub enum Confirmation {
+    Refused,
+    Accepted { shown: bool, since: bool },
+}
+
+// What a request other than READ sees of the state.
+pub struct Seen {
+    pub outputs: u16,
+    pub arm_time: u64,
+    pub restarted: bool,
+    pub latch: Latch,
+}
+
+// What a request does beside the events, before its answer is put together.
+pub struct Deed {
+    pub fault: Fault,
+    pub con: bool,
+    pub size: usize,
+    pub operated: Crobs,
+    pub wait: Wait,
+    pub latch: Latch,
+    pub restarted: bool,
+}
+
+// ---- CONFIRM
+
+// Whether a CONFIRM is the one awaited, and in time.
+fn in_time(
+    confirm_time: u64,
+    q: ApplicationSequence,
+    uns: bool,
+    time: u64,
+    awaited: ApplicationSequence,
+    sent: u64,
+) -> bool
+    ensures { λ r. ⌜ r ≡ confirmed «confirm_time» (q .0) uns time (awaited .0) sent ⌝ }
+{
+    if uns {
+        return false;
+    }
+    if q.0 == awaited.0 {
+        return select::elapsed(sent, time) <= confirm_time;
+    }
+    false
+}
+
+// IIN2.3 after an accepted CONFIRM.
+pub fn still_dropped(shown: bool, since: bool, overflow: bool) -> bool
+    ensures { λ r. ⌜ r ≡ cond (shown && not since) false overflow ⌝ }
+{
+    if shown {
+        if since { overflow } else { false }
+    } else {
+        overflow
+    }
+}
+
+// Whether a CONFIRM is accepted, by the response that awaits it.
+pub fn confirm(
+    confirm_time: u64,
+    w: Wait,
+    q: ApplicationSequence,
+    uns: bool,
+    time: u64,
+) -> Confirmation
+    ensures { λ r. ⌜ Confirms r «confirm_time» w (q .0) uns time ⌝ }
+{
+    match w {
+        Wait::Idle => Confirmation::Refused,
+        Wait::Awaiting {
+            sequence,
+            time: sent,
+            shown,
+            since,
+        } => {
+            if in_time(confirm_time, q, uns, time, sequence, sent) {
+                return Confirmation::Accepted { shown, since };
+            }
+            Confirmation::Refused
+        }
+    }
+}
+
+// ---- what a request does
+
+// A request without objects in its answer: it ends the wait and empties the latch.
+fn plain_deed(fault: Fault, restarted: bool) -> Deed
+    ensures { λ r. ⌜ WorkedStill r (λ w. plainDeed w fault restarted) ⌝ }
+{
+    let w = Wait::Idle;
+    let none = control::none();
+    let latch = select::empty();
+    Deed {
+        fault: fault,
+        con: false,
+        size: 4,
+        operated: none,
+        wait: w,
+        latch: latch,
+        restarted: restarted,
+    }
+}
+
+fn write_deed(restarted: bool, s: &[u8]) -> Deed
+    ensures { λ r. ⌜ WorkedStill r (λ w. writeDeedBy w restarted (now (s .entry))) ⌝ }
+{
+    let fault = application::write_fault(s);
+    if is_faultless(fault) {
+        plain_deed(fault, false)
+    } else {
+        plain_deed(fault, restarted)
+    }
+}
+
+fn is_faultless(f: Fault) -> bool
+    ensures { λ r. ⌜ r ≡ isFaultless f ⌝ }
+{
+    match f {
+        Fault::Faultless => true,
+        Fault::FunctionUnknown => false,
+        Fault::ObjectUnknown => false,
+        Fault::BadParameter => false,
+    }
+}
+
+fn control_deed(
+    seen: Seen,
+    g: ControlFunction,
+    q: ApplicationSequence,
+    time: u64,
+    s: &[u8],
+    out: &mut [u8],
+) -> Deed
+    requires { ⌜ 2048 ≤ length (now out) ⌝ }
+    ensures { λ r. ⌜ WorkedWith r (now (out .entry)) (now (out .exit)) (λ k. controlDeed (seenWorld seen k) g (q .0) time (now (s .entry))) ⌝ }
+{
+    let latch = seen.latch;
+    let c = select::control(latch, seen.outputs, seen.arm_time, g, q, time, s, out);
+    let w = Wait::Idle;
+    let fault = c.fault;
+    let operated = c.carried;
+    let after = c.latch;
+    Deed {
+        fault: fault,
+        con: false,
+        size: 4 + c.len,
+        operated: operated,
+        wait: w,
+        latch: after,
+        restarted: seen.restarted,
+    }
+}
+
+pub fn either(a: bool, b: bool) -> bool
+    ensures { λ r. ⌜ r ≡ (a || b) ⌝ }
+{
+    if a { true } else { b }
+}
+
+// What a request other than READ does, by its function, of the bytes after control and function.
+pub fn deed_of(
+    seen: Seen,
+    q: ApplicationSequence,
+    function: u8,
+    time: u64,
+    s: &[u8],
+    out: &mut [u8],
+) -> Deed
+    requires { ⌜ 2048 ≤ length (now out) ⌝ }
+    ensures { λ r. ⌜ WorkedWith r (now (out .entry)) (now (out .exit)) (λ k. deedBy (seenWorld seen k) (q .0) function time (now (s .entry))) ⌝ }
+{
+    if function == 2 {
+        return write_deed(seen.restarted, s);
+    }
+    if function == 3 {
+        return control_deed(seen, ControlFunction::Select, q, time, s, out);
+    }
+    if function == 4 {
+        return control_deed(seen, ControlFunction::Operate, q, time, s, out);
+    }
+    if function == 5 {
+        return control_deed(seen, ControlFunction::DirectOperate, q, time, s, out);
+    }
+    if function == 6 {
+        return control_deed(
+            seen,
+            ControlFunction::DirectOperateNoResponse,
+            q,
+            time,
+            s,
+            out,
+        );
+    }
+    plain_deed(Fault::FunctionUnknown, seen.restarted)
+}

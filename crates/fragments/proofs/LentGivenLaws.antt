@@ -1,0 +1,458 @@
+-- Laws of a fragment on a head and lent memory: each part of it is the step of the world that these stand for. The deed of a READ, which the
+-- laws of an answer take, is a ghost here: no code has it.
+-- Assumes nothing.
+use mathlib.Core.Path.{_≡_, refl, sym, ap, subst, _∙_}
+use mathlib.Core.Bool.{Bool, true, false, cond, not, _&&_, _||_}
+use mathlib.Core.List.{List, []}
+use Prim.Native.Nat.{ℕ, _+_, _≤_}
+use native.Mathlib.Omega.{arith}
+use lib.Dec.{eqb}
+use lib.ListN.{length, take}
+use Rattle.laws.specs.Limits.{eventsMax}
+use Rattle.laws.specs.Lists.{some}
+use Rattle.octets.specs.Bytes.{splice}
+use Rattle.application.specs.declared.Fault.{Fault}
+use Rattle.application.specs.declared.Fault.the-variants.{FunctionUnknown}
+use Rattle.application.specs.declared.ApplicationSequence.{ApplicationSequence}
+use Rattle.application.specs.Fragment.{objectsOf}
+use Rattle.application.specs.Response.{responseOf}
+use Rattle.events.specs.Queue.{Queue, queue, released, cleared, isCarried}
+use Rattle.request.specs.declared.Header.{Header}
+use Rattle.request.specs.declared.Verdict.{Verdict}
+use Rattle.request.specs.declared.Verdict.the-variants as Vs
+use Rattle.request.specs.Parse.{Parsed, headers, fault}
+use Rattle.request.specs.Plans.{planned}
+use Rattle.static_objects.specs.Static.{readOf}
+use Rattle.read.specs.Response.{queueAfter, responseObjects}
+use Rattle.control.specs.declared.Crob.{Crob}
+use Rattle.control.specs.declared.Crobs.{Crobs}
+use Rattle.control.specs.Objects.{answerMax, listOf, Holding}
+use Rattle.select.specs.declared.ControlFunction.the-variants.{Select, Operate, DirectOperate, DirectOperateNoResponse}
+use Rattle.select.specs.declared.Latch.{Latch}
+use Rattle.select.specs.Select.{noSelect, latchOf}
+use Rattle.repeat.specs.Repeat.{kept, lastOf, answerOf}
+use Rattle.outstation.specs.declared.Wait.{Wait}
+use Rattle.outstation.specs.declared.Wait.the-variants.{Idle, Awaiting}
+use Rattle.outstation.specs.World.{World}
+use Rattle.outstation.specs.Step.{Result, refuses, refusal, indicationsOf, confirmedStep, confirmStep, controlDeed, writeDeed, plainDeed, deedBy}
+use Rattle.effects.specs.declared.Deed.{Deed}
+use Rattle.effects.specs.declared.Confirmation.{Confirmation}
+use Rattle.fragments.specs.declared.FragmentAnswer.{FragmentAnswer}
+use Rattle.fragments.specs.declared.FragmentAnswer.the-variants as Fs
+use Rattle.effects.specs.declared.Seen.{Seen}
+use Rattle.effects.specs.Effects.{Worked, WorkedWith, seenWorld, Confirms, confirmBy}
+use Rattle.fragments.proofs.AnswerLaws.{read-queue, read-most}
+use Rattle.effects.proofs.EffectLaws.{confirm-given, silent-objects, deed-queue, deed-idle, deed-small}
+use Rattle.fragments.proofs.AnswerLaws.{overflow-stored, read-given, request-any, repeat-any}
+use Rattle.words.specs.Numbers.{holds}
+use Rattle.point_store.specs.PointWords.{inputsIn}
+use Rattle.event_store.specs.declared.BufferStatus.{BufferStatus}
+use Rattle.event_store.specs.EventWords.{bufferIn, queueIn}
+use Rattle.lent_read.specs.declared.Reply.{Reply}
+use Rattle.lent_read.specs.LentResponse.{RepliedAs}
+use Rattle.lent_repeat.specs.declared.LastLengths.{LastLengths}
+use Rattle.lent_repeat.specs.LentLast.{lastIn}
+use Rattle.outstation.specs.declared.Head.{Head}
+use Rattle.outstation.specs.Lent.{Lent, HeadCounted, installedOf, statusOf, waitOf, worldOf}
+use Rattle.fragments.specs.declared.FragmentResult.{FragmentResult}
+use Rattle.fragments.specs.Given.{answerBy, sizeBy, leftWith, readDeedBy, Given, answeredBy, GivenIn, withHeld, ConfirmedDid, ConfirmDid, faultBy, conBy, ReadDid, lastLengths, withLast, RepeatDid, LeftIn, ReadLeft, OtherDid, seenIn}
+
+-- ---- what a part gives is what the call gives
+
+pub given-in : (h : Head) (m m₁ : Lent) (r : FragmentResult) (b a : List ℕ) (x : Result) → GivenIn h r m₁ b a x
+    → Given (record { head = h; lent = m }) (answeredBy r m₁) b a x
+given-in h m m₁ r b a x g =
+    record {
+      state = g .result .state;
+      answer = g .result .answer;
+      size = g .result .size;
+      operated = g .result .objects;
+      lent = g .result .lent;
+      counted = g .counted;
+    }
+
+-- ---- a refusal
+
+pub refused-in : (r : FragmentResult) (h : Head) (a : FragmentAnswer) (n : ℕ) → r .head ≡ h → r .answer ≡ a → Holding (r .operated) []
+    → ((d : List ℕ) (x : List Crob) → answerBy a d x ≡ refuses n) → sizeBy a ≡ 0 → (m : Lent) (d : List ℕ) → GivenIn h r m d d (refusal n (worldOf h m))
+refused-in r h a n s e hands k z m d =
+    record {
+      result =
+          record {
+            state = ap (λ (x : Head). worldOf x m) s;
+            answer = ap (λ (b : FragmentAnswer). answerBy b d (listOf (r .operated))) e ∙ k d (listOf (r .operated));
+            size = ap sizeBy e ∙ z;
+            objects = hands;
+            lent = refl;
+          };
+      counted = λ c. subst HeadCounted (sym s) c;
+    }
+
+-- ---- CONFIRM
+
+-- the head with what a CONFIRM changes
+abbrev confirmedHead : Head → (time count overflow : ℕ) → Head
+confirmedHead h time count overflow =
+    record {
+      «arm_time» = h .«arm_time»;
+      «confirm_time» = h .«confirm_time»;
+      clock = time;
+      «wait_time» = h .«wait_time»;
+      «latch_time» = h .«latch_time»;
+      «binary_count» = h .«binary_count»;
+      «analog_count» = h .«analog_count»;
+      «event_count» = count;
+      «request_len» = h .«request_len»;
+      «answer_len» = h .«answer_len»;
+      «latch_len» = h .«latch_len»;
+      outputs = h .outputs;
+      overflow = overflow;
+      restarted = h .restarted;
+      waiting = 0;
+      «wait_sequence» = h .«wait_sequence»;
+      «showed_overflow» = h .«showed_overflow»;
+      «dropped_since» = h .«dropped_since»;
+      «request_kept» = h .«request_kept»;
+      «latch_armed» = h .«latch_armed»;
+      «latch_sequence» = h .«latch_sequence»;
+    }
+
+pub confirmed-in : (h : Head) (e e₁ : List ℕ) (time : ℕ) (shown since : Bool) (t t₁ : BufferStatus) (byte : ℕ) (none : Crobs) → t ≡ statusOf h
+    → (queueIn e₁ t₁ ≡ released (queueIn e t)) × (t₁ .count ≤ eventsMax) → holds byte ≡ cond (shown && not since) false (t₁ .overflow) → Holding none []
+    → ConfirmedDid h e time shown since (record { head = confirmedHead h time (t₁ .count) byte; answer = Fs.Confirmed; operated = none }) e₁
+unfolding confirmedStep waitOf
+confirmed-in h e e₁ time shown since t t₁ byte none same gone flag hands m out =
+    let goes : queueIn e₁ t₁ ≡ released (queueIn e (statusOf h)) = gone .0 ∙ ap (λ (x : BufferStatus). released (queueIn e x)) same in
+    let waits = overflow-stored (bufferIn e (statusOf h)) (bufferIn e₁ t₁) shown since (holds byte) goes flag in
+    let w₁ = worldOf (confirmedHead h time (t₁ .count) byte) (withHeld e₁ m) in
+    record {
+      result =
+          record {
+            state = λ k. record { shared = w₁ .shared; master = record { queue = waits k; exchange = w₁ .master .exchange } };
+            answer = refl;
+            size = refl;
+            objects = hands;
+            lent = refl;
+          };
+      counted =
+          λ c.
+          record {
+            binaries = c .binaries;
+            analogs = c .analogs;
+            events = gone .1;
+            request = c .request;
+            answer = c .answer;
+            objects = c .objects;
+          };
+    }
+
+-- ---- READ
+
+-- the deed of a READ: it hands nothing over, and empties the latch
+abbrev deedOf : Fault → (con : Bool) → (size : ℕ) → Wait → (restarted : Bool) → Deed
+deedOf f con size wait restarted =
+    record {
+      fault = f;
+      con = con;
+      size = size;
+      operated = record { items = []; count = 0 };
+      wait = wait;
+      latch = record { armed = false; sequence = record { 0 = 0 }; time = 0; objects = []; len = 0 };
+      restarted = restarted;
+    }
+
+module _ (w : World) (q time : ℕ) (b a : List ℕ) (k : Queue) (f : Fault) (con carried : Bool) (size : ℕ) (is : carried ≡ some isCarried (k .held)) where
+  abbrev waitBy : Bool → Wait
+  waitBy x = cond x (Awaiting (record { 0 = q }) time (k .overflow) false) Idle
+
+  -- what is put for a READ that is parsed as p, and what it says by the verdict v
+  abbrev WorkedBy : Verdict → Parsed → Type 0
+  WorkedBy v p =
+      f ≡ faultBy v → con ≡ conBy v carried (k .overflow) → k ≡ queueAfter (w .shared .inputs) p (w .master .queue)
+      → size ≡ 4 + length (responseObjects (w .shared .inputs) p (w .master .queue)) → a ≡ splice b 4 (responseObjects (w .shared .inputs) p (w .master .queue))
+      → Worked (deedOf f con size (waitBy con) (w .master .exchange .restarted)) b a (readDeedBy w q time p)
+
+  faultless : (hs : List Header) → WorkedBy Vs.Faultless (headers hs)
+  unfolding listOf latchOf
+  faultless hs ef ec marked sized put =
+      let c : con ≡ (some isCarried (k .held) || k .overflow) = ec ∙ ap (λ (x : Bool). x || k .overflow) is in
+      record {
+        fault = ef;
+        con = c ∙ ap (λ (x : Queue). some isCarried (x .held) || x .overflow) marked;
+        size = sized;
+        lent = put;
+        operated = record { objects = refl; count = refl };
+        wait =
+            ap waitBy c
+            ∙ ap (λ (x : Queue). cond (some isCarried (x .held) || x .overflow) (Awaiting (record { 0 = q }) time (x .overflow) false) Idle) marked;
+        latch = refl;
+        counted = omega arith;
+        restarted = refl;
+      }
+
+  unknown : WorkedBy Vs.ObjectUnknown (fault 2)
+  unfolding listOf latchOf
+  unknown ef ec marked sized put =
+      record {
+        fault = ef;
+        con = ec;
+        size = sized;
+        lent = put;
+        operated = record { objects = refl; count = refl };
+        wait = ap waitBy ec;
+        latch = refl;
+        counted = omega arith;
+        restarted = refl;
+      }
+
+  bad : WorkedBy Vs.BadParameter (fault 4)
+  unfolding listOf latchOf
+  bad ef ec marked sized put =
+      record {
+        fault = ef;
+        con = ec;
+        size = sized;
+        lent = put;
+        operated = record { objects = refl; count = refl };
+        wait = ap waitBy ec;
+        latch = refl;
+        counted = omega arith;
+        restarted = refl;
+      }
+
+  read-worked : (v : Verdict) (hs : List Header) (p : Parsed) → planned v hs ≡ p → WorkedBy v p
+  read-worked Vs.Faultless hs p e = subst (WorkedBy Vs.Faultless) e (faultless hs)
+  read-worked Vs.ObjectUnknown hs p e = subst (WorkedBy Vs.ObjectUnknown) e unknown
+  read-worked Vs.BadParameter hs p e = subst (WorkedBy Vs.BadParameter) e bad
+
+-- the memory of a READ, by the latch's bytes
+abbrev pub memoryOf : (binaries analogs held request answer : List ℕ) → List ℕ → Lent
+memoryOf b a e p s o = record { binaries = b; analogs = a; held = e; request = p; answer = s; objects = o }
+
+-- a READ, of its reply r, the header put in front and the head that it leaves
+module _ (h : Head) (bw aw e p s : List ℕ) (q time : ℕ) (f e₁ p₁ s₁ : List ℕ) (r : Reply) (b a₁ a₂ : List ℕ) (x : Fault) (con carried : Bool) (k : LastLengths)
+    (h₁ : Head) (none : Crobs) (hands : Holding none []) (left : ReadLeft h time (cond con (Awaiting (record { 0 = q }) time (holds (h .overflow)) false) Idle) k h₁)
+    (keeps : (lastIn p₁ s₁ k ≡ kept f []) × (k .«request_len» ≡ length f) × (k .«answer_len» ≡ 0)) (short : length f ≤ 2048) (room : 2048 ≤ length b)
+    (ex : x ≡ faultBy (r .verdict)) where
+  -- the rest of what is known, by the status and the restart flag that the code has
+  abbrev ReadBy : BufferStatus → Bool → Type 0
+  ReadBy t restarted =
+      RepliedAs (inputsIn (installedOf h) bw aw) (objectsOf f) (queueIn e t) b r (queueIn e₁ t) a₁ → con ≡ conBy (r .verdict) carried (t .overflow)
+      → carried ≡ some isCarried (queueIn e₁ t .held) → a₂ ≡ splice a₁ 0 (responseOf q con (indicationsOf (queueIn e₁ t) restarted) x)
+      → ReadDid h (memoryOf bw aw e p s) q time f (record { head = h₁; answer = Fs.Answer (r .size); operated = none }) (memoryOf bw aw e₁ p₁ s₁) b a₂
+
+  of-head : ReadBy (statusOf h) (holds (h .restarted))
+  unfolding queue latchOf
+  of-head g ec is put o =
+      let w : World = worldOf h (memoryOf bw aw e p s o) in
+      let y : Parsed = readOf (w .shared .inputs) (objectsOf f) in
+      let d : Deed = deedOf x con (r .size) (waitBy w q time b a₁ u x con carried (r .size) is con) (holds (h .restarted)) in
+      let worked : Worked d b a₁ (readDeedBy w q time y) = read-worked w q time b a₁ u x con carried (r .size) is (r .verdict) (g .asked) y (g .verdict) ex ec (g .events) (g .size) (g .bytes) in
+      let marked : u ≡ readDeedBy w q time y .queue = g .events ∙ sym (read-queue w q time y) in
+      let fits : r .size ≤ length b = omega (arith, read-most w q time (objectsOf f), worked .size, room) in
+      record {
+        result =
+            read-given w (worldOf h₁ (memoryOf bw aw e₁ p₁ s₁ o)) q time f d b a₁ _ worked u marked _ (lastIn p₁ s₁ k) (left o .world (memoryOf bw aw e₁ p₁ s₁ o)) refl a₂ put fits none hands
+            (keeps .0);
+        counted =
+            λ c. left o .counted (omega (arith, short, keeps .1)) (omega (arith, keeps .2)) (c .objects) c;
+      }
+    where
+      u : Queue
+      u = queueIn e₁ (statusOf h)
+
+  pub read-in : (t : BufferStatus) (restarted : Bool) → t ≡ statusOf h → restarted ≡ holds (h .restarted) → ReadBy t restarted
+  read-in t restarted et er = subst (λ (y : BufferStatus). ReadBy y restarted) (sym et) (subst (ReadBy (statusOf h)) (sym er) of-head)
+
+-- ---- a repeat
+
+-- the head with another clock
+abbrev headAt : Head → ℕ → Head
+headAt h time =
+    record {
+      «arm_time» = h .«arm_time»;
+      «confirm_time» = h .«confirm_time»;
+      clock = time;
+      «wait_time» = h .«wait_time»;
+      «latch_time» = h .«latch_time»;
+      «binary_count» = h .«binary_count»;
+      «analog_count» = h .«analog_count»;
+      «event_count» = h .«event_count»;
+      «request_len» = h .«request_len»;
+      «answer_len» = h .«answer_len»;
+      «latch_len» = h .«latch_len»;
+      outputs = h .outputs;
+      overflow = h .overflow;
+      restarted = h .restarted;
+      waiting = h .waiting;
+      «wait_sequence» = h .«wait_sequence»;
+      «showed_overflow» = h .«showed_overflow»;
+      «dropped_since» = h .«dropped_since»;
+      «request_kept» = h .«request_kept»;
+      «latch_armed» = h .«latch_armed»;
+      «latch_sequence» = h .«latch_sequence»;
+    }
+
+pub repeated-in : (h : Head) (p s : List ℕ) (function time : ℕ) (none : Crobs) (b a : List ℕ) (n : ℕ) (is : FragmentAnswer) → Holding none []
+    → (a ≡ cond (eqb function 6) b (splice b 0 (answerOf (lastIn p s (lastLengths h)))))
+    × (n ≡ cond (eqb function 6) 0 (length (answerOf (lastIn p s (lastLengths h)))))
+    × (n ≤ answerMax) → 2048 ≤ length b → is ≡ cond (eqb function 6) Fs.Silent (Fs.Answer n)
+    → RepeatDid h p s function time (record { head = headAt h time; answer = is; operated = none }) b a
+unfolding waitOf
+repeated-in h p s function time none b a n is hands put room said m =
+    record {
+      result =
+          repeat-any (worldOf h (withLast p s m)) (worldOf (headAt h time) (withLast p s m)) function time none b refl hands a n is (put .0) (put .1)
+          (omega (arith, put .2, room)) said;
+      counted =
+          λ c.
+          record {
+            binaries = c .binaries;
+            analogs = c .analogs;
+            events = c .events;
+            request = c .request;
+            answer = c .answer;
+            objects = c .objects;
+          };
+    }
+
+-- ---- any other request
+
+module _ (h : Head) (e p s o : List ℕ) (q function time : ℕ) (f e₁ p₁ s₁ o₁ : List ℕ) (r : Deed) (b a₁ a₂ : List ℕ) (n : ℕ) (is : FragmentAnswer)
+    (k : LastLengths) (h₁ : Head) (left : LeftIn h time (r .restarted) Idle k (latchOf (r .latch)) (r .latch .len) h₁ o₁)
+    (keeps : (lastIn p₁ s₁ k ≡ kept f (take n a₂)) × (k .«request_len» ≡ length f) × (k .«answer_len» ≡ length (take n a₂))) (short : length f ≤ 2048)
+    (small : length (take n a₂) ≤ answerMax) (room : 2048 ≤ length b) (said : is ≡ cond (eqb function 6) Fs.Silent (Fs.Answer n)) where
+  -- the rest of what is known, by the status and the part of the state that the code has
+  abbrev OtherBy : BufferStatus → Seen → Type 0
+  OtherBy t seen =
+      WorkedWith r b a₁ (λ u. deedBy (seenWorld seen u) q function time (objectsOf f)) → queueIn e₁ t ≡ cleared (queueIn e t)
+      → (a₂ ≡ cond (eqb function 6) a₁ (splice a₁ 0 (responseOf q (r .con) (indicationsOf (queueIn e₁ t) (r .restarted)) (r .fault))))
+      × (n ≡ cond (eqb function 6) 0 (r .size))
+      → OtherDid h (λ x y. memoryOf x y e p s o) q function time f (record { head = h₁; answer = is; operated = r .operated })
+      (λ x y. memoryOf x y e₁ p₁ s₁ o₁) b a₂
+
+  of-seen : OtherBy (statusOf h) (seenIn h o)
+  of-seen all clears put x y =
+      let w : World = worldOf h (memoryOf x y e p s o) in
+      let worked : Worked r b a₁ (deedBy w q function time (objectsOf f)) = all (queueIn e (statusOf h)) in
+      let marked : queueIn e₁ (statusOf h) ≡ deedBy w q function time (objectsOf f) .queue = clears ∙ deed-queue w q function time (objectsOf f) in
+      let idle : Idle ≡ r .wait = sym (worked .wait ∙ deed-idle w q function time (objectsOf f)) in
+      let size : r .size ≤ answerMax = deed-small (seenIn h o) q function time (objectsOf f) r b a₁ all in
+      record {
+        result =
+            request-any w (worldOf h₁ (memoryOf x y e₁ p₁ s₁ o₁)) q time f r b a₁ _ worked (queueIn e₁ (statusOf h)) marked _ (lastIn p₁ s₁ k)
+            (left .world (memoryOf x y e₁ p₁ s₁ o₁))
+            (λ i. record { restarted = r .restarted; wait = idle i; last = lastIn p₁ s₁ k; latch = latchOf (r .latch) })
+            a₂ n is function (silent-objects w q function time (objectsOf f)) (put .0) (put .1) (omega (arith, size, room)) said (keeps .0);
+        counted = λ c. left .counted (omega (arith, short, keeps .1)) (omega (arith, small, keeps .2)) (worked .counted) c;
+      }
+
+  pub other-in : (t : BufferStatus) (seen : Seen) → t ≡ statusOf h → seen ≡ seenIn h o → OtherBy t seen
+  other-in t seen et es = subst (λ (y : BufferStatus). OtherBy y seen) (sym et) (subst (OtherBy (statusOf h)) (sym es) of-seen)
+
+-- ---- the head that a request leaves
+
+-- a wait in a head: its kind says whether there is one
+wait-by : (n : ℕ) (con : Bool) (v : Wait) → holds n ≡ con → cond (eqb n 0) Idle v ≡ cond con v Idle
+wait-by n con v h = go (eqb n 0) ∙ ap (λ (b : Bool). cond b v Idle) h
+  where
+    go : (b : Bool) → cond b Idle v ≡ cond (not b) v Idle
+    go true = refl
+    go false = refl
+
+abbrev leftHead : Head → (time : ℕ) → (restarted kind sequence sent shown since : ℕ) → LastLengths → (held armed from at len : ℕ) → Head
+leftHead h time restarted kind sequence sent shown since k held armed from at len =
+    record {
+      «arm_time» = h .«arm_time»;
+      «confirm_time» = h .«confirm_time»;
+      clock = time;
+      «wait_time» = sent;
+      «latch_time» = at;
+      «binary_count» = h .«binary_count»;
+      «analog_count» = h .«analog_count»;
+      «event_count» = h .«event_count»;
+      «request_len» = k .«request_len»;
+      «answer_len» = k .«answer_len»;
+      «latch_len» = len;
+      outputs = h .outputs;
+      overflow = h .overflow;
+      restarted = restarted;
+      waiting = kind;
+      «wait_sequence» = sequence;
+      «showed_overflow» = shown;
+      «dropped_since» = since;
+      «request_kept» = held;
+      «latch_armed» = armed;
+      «latch_sequence» = from;
+    }
+
+module _ (h : Head) (time : ℕ) (k : LastLengths) (held : ℕ) (keeps : holds held ≡ k .held) where
+  last-left : (p s : List ℕ)
+      → lastOf (record { held = holds held; request = p; «request_len» = k .«request_len»; answer = s; «answer_len» = k .«answer_len» }) ≡ lastIn p s k
+  last-left p s = λ i. lastOf (record { held = keeps i; request = p; «request_len» = k .«request_len»; answer = s; «answer_len» = k .«answer_len» })
+
+  pub after-read : (q : ApplicationSequence) (con : Bool) (kind : ℕ) → holds kind ≡ con
+      → ReadLeft h time (cond con (Awaiting q time (holds (h .overflow)) false) Idle) k
+      (leftHead h time (h .restarted) kind (q .0) time (h .overflow) 0 k held 0 (h .«latch_sequence») (h .«latch_time») (h .«latch_len»))
+  unfolding waitOf latchOf
+  after-read q con kind e o =
+      record {
+        world =
+            λ m i.
+            record {
+              shared = leftWith (worldOf h m) time (worldOf h m .shared .inputs) (queueIn (m .held) (statusOf h)) (worldOf h m .master .exchange) .shared;
+              master =
+                  record {
+                    queue = queueIn (m .held) (statusOf h);
+                    exchange =
+                        record {
+                          restarted = holds (h .restarted);
+                          wait = wait-by kind con (Awaiting q time (holds (h .overflow)) false) e i;
+                          last = last-left (m .request) (m .answer) i;
+                          latch = noSelect;
+                        };
+                  };
+            };
+        counted =
+            λ request answer objects c.
+            record { binaries = c .binaries; analogs = c .analogs; events = c .events; request = request; answer = answer; objects = objects };
+      }
+
+  pub after-request : (restarted : Bool) (latch : Latch) (again armed : ℕ) → holds again ≡ restarted → holds armed ≡ latch .armed
+      → LeftIn h time restarted Idle k (latchOf latch) (latch .len)
+      (leftHead h time again 0 (h .«wait_sequence») (h .«wait_time») (h .«showed_overflow») (h .«dropped_since») k held armed (latch .sequence .0) (latch .time) (latch .len))
+      (latch .objects)
+  unfolding waitOf
+  after-request restarted latch again armed er ea =
+      record {
+        world =
+            λ m i.
+            record {
+              shared = leftWith (worldOf h m) time (worldOf h m .shared .inputs) (queueIn (m .held) (statusOf h)) (worldOf h m .master .exchange) .shared;
+              master =
+                  record {
+                    queue = queueIn (m .held) (statusOf h);
+                    exchange =
+                        record {
+                          restarted = er i;
+                          wait = Idle;
+                          last = last-left (m .request) (m .answer) i;
+                          latch =
+                              latchOf
+                              (record { armed = ea i; sequence = latch .sequence; time = latch .time; objects = latch .objects; len = latch .len });
+                        };
+                  };
+            };
+        counted =
+            λ request answer objects c.
+            record { binaries = c .binaries; analogs = c .analogs; events = c .events; request = request; answer = answer; objects = objects };
+      }
+
+-- ---- the step of a CONFIRM, by what it comes to
+
+pub confirm-in : (h : Head) (e : List ℕ) (q : ℕ) (uns : Bool) (time : ℕ) (v : Wait) (x y : Confirmation) → v ≡ waitOf h
+    → Confirms x (h .«confirm_time») v q uns time → x ≡ y → (r : FragmentResult) (e₁ : List ℕ)
+    → ((m : Lent) (out : List ℕ) → GivenIn h r (withHeld e₁ m) out out (confirmBy y (worldOf h (withHeld e m)) time)) → ConfirmDid h e q uns time r e₁
+confirm-in h e q uns time v x y same is ey r e₁ given m out =
+    subst (λ (u : Wait). GivenIn h r (withHeld e₁ m) out out (confirmStep (worldOf h (withHeld e m)) u q uns time)) same
+    (confirm-given (worldOf h (withHeld e m)) (GivenIn h r (withHeld e₁ m) out out) v q uns time x y is ey (given m out))

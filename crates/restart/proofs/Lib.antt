@@ -1,0 +1,3 @@
+pub mod StoringLaws
+pub mod SetupLaws
+pub mod RestartFacts

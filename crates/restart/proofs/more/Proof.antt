@@ -1,0 +1,14 @@
+-- `restart::more` meets its contract: the test says which case of `moreOf` holds.
+-- Assumes nothing.
+use borrow.Author.Tests.{eq-eqb, ne-eqb}
+use Rattle.restart.proofs.more.Statement.{statement}
+use Rattle.restart.proofs.more.Tie as tie
+
+returns : tie.Need-returns
+returns c = rw (eq-eqb _ 0 (c .if1 .taken))
+
+returns-2 : tie.Need-returns-2
+returns-2 c = rw (ne-eqb _ 0 (c .if1 .left))
+
+pub more-spec : {M : Type 1} → statement M
+more-spec = tie.close (tie.spec returns returns-2)

@@ -1,0 +1,115 @@
+-- A setup in numbers, and the head and words that a restart gives. Any numbers stand for a setup.
+-- Assumes nothing.
+use Prim.Native.Nat.{ℕ, _+_}
+use mathlib.Core.Path.{_≡_}
+use mathlib.Core.Bool.{Bool, true, false, cond}
+use mathlib.Core.List.{List, [], map}
+use lib.Dec.{eqb, ltb}
+use lib.Ieee.{binary32, ofBits}
+use lib.ListN.{length}
+use Rattle.points.specs.declared.AnalogKind.{AnalogKind}
+use Rattle.points.specs.declared.AnalogKind.the-variants as Ks
+use Rattle.points.specs.declared.AnalogSetup.{AnalogSetup}
+use Rattle.points.specs.Setup.{analogOk}
+use Rattle.outstation.specs.Setup.{Setup, setupOk}
+use Rattle.outstation.specs.World.{restarted, bareSetup}
+use Rattle.point_store.specs.PointWords.{wholeGateOf, floatGateOf}
+use Rattle.outstation.specs.declared.Head.{Head}
+use Rattle.outstation.specs.Lent.{Lent, world, Counted, on}
+use Rattle.restart.specs.declared.SetupWords.{SetupWords}
+use Rattle.restart.specs.declared.AnalogSetupWords.{AnalogSetupWords}
+use Rattle.restart.specs.declared.Going.{Going}
+use Rattle.restart.specs.declared.Restarted.{Restarted}
+
+-- kind 0: a 32-bit point; 1: a 16-bit point; any other: a float point
+abbrev pub analogKindOf : AnalogSetupWords → AnalogKind
+analogKindOf w =
+    cond (eqb (w .kind) 0) (Ks.Long (wholeGateOf (w .gate) (w .limit)))
+    (cond (eqb (w .kind) 1) (Ks.Short (wholeGateOf (w .gate) (w .limit)))
+    (Ks.Real (floatGateOf (w .gate) (w .limit)) (record { gain = ofBits binary32 (w .gain); offset = ofBits binary32 (w .offset) })))
+
+unfoldable pub analogSetupOf : AnalogSetupWords → AnalogSetup
+analogSetupOf w = record { class = w .class; kind = analogKindOf w }
+
+-- the setup of s with so many binaries and analogs, the first of these
+abbrev pub setupWith : SetupWords → ℕ → List ℕ → ℕ → List AnalogSetup → Setup
+setupWith s n classes m analogs =
+    record {
+      own = s .own;
+      master = s .master;
+      «arm_time» = s .«arm_time»;
+      «confirm_time» = s .«confirm_time»;
+      outputs = s .outputs;
+      «binary_count» = n;
+      «analog_count» = m;
+      classes = classes;
+      analogs = analogs;
+    }
+
+-- the setup that is lent
+abbrev pub setupOf : SetupWords → List ℕ → List AnalogSetupWords → Setup
+setupOf s classes setups = setupWith s (length classes) classes (length setups) (map analogSetupOf setups)
+
+-- ---- how it goes: all but the analogs, then each analog
+
+abbrev pub frontOk : SetupWords → List ℕ → ℕ → Bool
+frontOk s classes m = setupOk (setupWith s (length classes) classes m [])
+
+abbrev pub begunOf : Bool → Going
+begunOf ok = record { at = 0; refusal = cond ok 0 5 }
+
+-- nothing was refused and an analog is left
+abbrev pub moreOf : Going → ℕ → Bool
+moreOf g n = cond (eqb (g .refusal) 0) (ltb (g .at) n) false
+
+abbrev pub goneOn : Bool → Going → Going
+goneOn true g = record { at = g .at + 1; refusal = 0 }
+goneOn false g = record { at = g .at; refusal = 5 }
+
+abbrev pub addedOf : Going → AnalogSetupWords → Going
+addedOf g w = goneOn (analogOk (analogSetupOf w)) g
+
+-- ---- what it gives
+
+-- IIN1.7 stands, nothing is held, awaited, kept or selected
+abbrev pub freshHead : (arm confirm outputs binaries analogs : ℕ) → Head
+freshHead arm confirm outputs binaries analogs =
+    record {
+      «arm_time» = arm;
+      «confirm_time» = confirm;
+      clock = 0;
+      «wait_time» = 0;
+      «latch_time» = 0;
+      «binary_count» = binaries;
+      «analog_count» = analogs;
+      «event_count» = 0;
+      «request_len» = 0;
+      «answer_len» = 0;
+      «latch_len» = 0;
+      outputs = outputs;
+      overflow = 0;
+      restarted = 1;
+      waiting = 0;
+      «wait_sequence» = 0;
+      «showed_overflow» = 0;
+      «dropped_since» = 0;
+      «request_kept» = 0;
+      «latch_armed» = 0;
+      «latch_sequence» = 0;
+    }
+
+abbrev pub answeredOf : SetupWords → ℕ → Going → Restarted
+answeredOf s n g =
+    cond (eqb (g .refusal) 0) (record { head = freshHead (s .«arm_time») (s .«confirm_time») (s .outputs) n (g .at); refusal = 0 })
+    (record { head = freshHead 0 0 0 0 0; refusal = 5 })
+
+-- a restart with the setup s, classes and setups left the head h and the points' words bs and ps
+pub record RestartDid (s : SetupWords) (classes : List ℕ) (setups : List AnalogSetupWords) (refusal : ℕ) (h : Head) (bs ps : List ℕ) : Type 0 where
+  -- 5 exactly when the setup breaks a limit
+  pub answer : refusal ≡ cond (setupOk (setupOf s classes setups)) 0 5
+  -- the restarted world, whatever else is lent: of a refused setup the one with no points and no outputs
+  pub state : (m : Lent)
+      → world (on h (record { binaries = bs; analogs = ps; held = m .held }) m)
+      ≡ restarted (cond (setupOk (setupOf s classes setups)) (setupOf s classes setups) bareSetup)
+  -- no count passes its array
+  pub counted : (m : Lent) → Counted (on h (record { binaries = bs; analogs = ps; held = m .held }) m)
