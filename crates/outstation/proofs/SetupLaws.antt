@@ -91,4 +91,3 @@ module _ (u : Setup) (b : Bounds u) where
   pub bad-classes : all (map classOk (take (u .«binary_count») (u .classes))) ≡ false → false ≡ setupOk u
   unfolding binaryClasses
   bad-classes h = rw (kept, h)
-

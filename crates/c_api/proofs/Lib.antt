@@ -1,0 +1,5 @@
+pub mod LineLaws
+pub mod FragmentLaws
+pub mod TableRecords
+pub mod RestartRecords
+pub mod TakenRecords
