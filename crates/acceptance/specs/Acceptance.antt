@@ -12,7 +12,7 @@ use Rattle.points.specs.declared.FloatGate.the-variants as F
 use Rattle.points.specs.declared.AnalogKind.the-variants as Ks
 use Rattle.points.specs.declared.AnalogSetup.{AnalogSetup}
 use Rattle.control.specs.declared.Crob.{Crob}
-use Rattle.outstation.specs.declared.Setup.{Setup}
+use Rattle.outstation.specs.Setup.{Setup}
 use Rattle.outstation.specs.declared.Measured.{Measured}
 use Rattle.outstation.specs.declared.Measured.the-variants as Ms
 use Rattle.outstation.specs.Setup.{setupOk}

@@ -16,7 +16,7 @@ use Rattle.request.specs.Parse as A
 use Rattle.application.specs.Fragment as F
 use Rattle.objects.specs.Runs.{encoded, runs, allBytes}
 use Rattle.static_objects.specs.Static.{staticBytes, rangeBytes, pointObjects}
-use Rattle.outstation.specs.declared.Setup.{Setup}
+use Rattle.outstation.specs.Setup.{Setup}
 use Rattle.outstation.specs.declared.Measured.the-variants as Ms
 use Rattle.outstation.specs.Setup as U
 use Rattle.outstation.specs.Readings as R

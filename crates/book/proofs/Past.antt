@@ -12,7 +12,7 @@ use native.Mathlib.Nat.{le-refl}
 use lib.ListN.{length, length-append}
 use lib.Seq.{drop-length}
 use Rattle.events.specs.declared.Event.{Event}
-use Rattle.outstation.specs.declared.Setup.{Setup}
+use Rattle.outstation.specs.Setup.{Setup}
 use Rattle.outstation.specs.Step.{Call}
 use Rattle.book.specs.Book as B
 use Rattle.book.specs.Book.{Book, Row, Happening, hold!, drop!, built!, confirmed!, dropSince, picks, release, idle, awaiting, Wait}

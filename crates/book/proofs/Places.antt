@@ -15,7 +15,7 @@ use Rattle.events.specs.declared.Event.{Event}
 use Rattle.events.specs.declared.Classes.{Classes}
 use Rattle.events.specs.declared.Pack.{Pack}
 use Rattle.events.specs.Placing.{asked, fits, packed}
-use Rattle.outstation.specs.declared.Setup.{Setup}
+use Rattle.outstation.specs.Setup.{Setup}
 use Rattle.outstation.specs.Step.{Call}
 use Rattle.book.specs.Book as B
 use Rattle.book.specs.Book.{Book, Row, Mark, held, released, dropped, isHeld, rowHeld, Wait, idle, awaiting, picks, release}

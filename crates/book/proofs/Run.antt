@@ -1,24 +1,22 @@
 -- A run of the outstation, worked out by computation: 257 events of one binary, the last of them dropped, in a table that is stopped;
 -- READ, a late CONFIRM, READ again and its CONFIRM; WRITE and its repeat.
 -- Assumes nothing.
-use Prim.Native.Nat.{ℕ, zero, suc, _+_, _*_, _-_, _≤_}
+use Prim.Native.Nat.{ℕ, zero, suc, _+_, _*_, _-_, _^_, _≤_}
 use mathlib.Core.Path.{_≡_, refl, sym, ap, _∙_}
 use mathlib.Core.Bool.{Bool, true, false, not, or-true}
 use mathlib.Core.List.{List, [], _∷_, _++_, map, append-nil}
 use native.Mathlib.Omega.{arith}
-use lib.ListN.{length, replicate}
+use lib.ListN.{length}
 use borrow.Author.Tests.{le-leb}
-use lib.Seq.{take-append-seam}
-use Rattle.laws.specs.Limits.{fragmentMax, eventsMax, pointsMax}
+use Rattle.laws.specs.Limits.{fragmentMax, eventsMax}
 use Rattle.laws.specs.Lists.{filter, some, same, count}
 use Rattle.points.specs.Reading as P
-use Rattle.points.specs.Inputs.{Inputs, inputs, noBinary, noAnalog}
+use Rattle.points.specs.Inputs.{Inputs}
 use Rattle.events.specs.declared.Classes.{Classes}
 use Rattle.events.specs.declared.Held.{Held}
 use Rattle.events.specs.declared.Shown.the-variants.{State}
 use Rattle.events.specs.Placing as E
 use Rattle.events.specs.Queue as K
-use Rattle.events.specs.Queue.{queue, noHeld}
 use Rattle.application.specs.Fragment as F
 use Rattle.application.specs.Response as I
 use Rattle.application.specs.declared.Fault.the-variants.{Faultless}
@@ -28,18 +26,18 @@ use Rattle.request.specs.Parse as A
 use Rattle.objects.specs.Runs.{encoded, runs, allBytes}
 use Rattle.event_objects.specs.Events.{eventsBytes, carriedBytes}
 use Rattle.static_objects.specs.Static.{staticBytes, rangeBytes, pointObjects}
-use Rattle.control.specs.Objects.{echoMax, answerMax}
-use Rattle.select.specs.declared.Latch.{Latch}
-use Rattle.select.specs.Select.{Selection, noSelect, selected, latchOf}
-use Rattle.repeat.specs.declared.Last.{Last}
-use Rattle.repeat.specs.Repeat.{Memory, nothing, kept, lastOf, answerOf, isRepeat}
-use Rattle.outstation.specs.declared.Outstation.{Outstation}
+use Rattle.control.specs.Objects.{answerMax}
+use Rattle.select.specs.Select.{noSelect}
+use Rattle.repeat.specs.Repeat.{Memory, nothing, kept, answerOf, isRepeat}
+use Rattle.words.specs.Records.{tab, chunk, records}
+use Rattle.point_store.specs.PointWords.{binaryOf, binariesIn}
 use Rattle.outstation.specs.declared.Reading.{Reading}
 use Rattle.outstation.specs.declared.Measured.the-variants as Ms
 use Rattle.outstation.specs.declared.Wait as D
 use Rattle.outstation.specs.declared.Wait.the-variants.{Idle, Awaiting}
 use Rattle.outstation.specs.Setup as U
-use Rattle.outstation.specs.World.{World, Exchange, exchangeOf, world, restarted, Counted}
+use Rattle.outstation.specs.World.{World, Exchange, restarted}
+use Rattle.outstation.specs.Lent.{Counted}
 use Rattle.outstation.specs.Readings as R
 use Rattle.outstation.specs.Requests as Q
 use Rattle.outstation.specs.Step as S
@@ -47,70 +45,14 @@ use Rattle.outstation.specs.Step.{Call, table, fragment, Answer, took, answers,
 use Rattle.outstation.specs.Contracts.{Did}
 use Rattle.book.proofs.Rows.{carried-bytes}
 use Rattle.book.proofs.Example.{oneBinary}
+use Rattle.book.proofs.Memory.{outstationFor, Coded, none-coded, event-coded, Fits, world-for}
 
--- ---- an outstation for each state: the lists in use, padded to their arrays
-
-abbrev pub padded : {A : Type 0} → ℕ → A → List A → List A
-padded n d l = l ++ replicate (n - length l) d
-
-abbrev pub lastFor : Memory → Last
-lastFor nothing = record { held = false; request = padded fragmentMax 0 []; «request_len» = 0; answer = padded answerMax 0 []; «answer_len» = 0 }
-lastFor (kept f a) =
-    record { held = true; request = padded fragmentMax 0 f; «request_len» = length f; answer = padded answerMax 0 a; «answer_len» = length a }
-
-abbrev pub latchFor : Selection → Latch
-latchFor noSelect = record { armed = false; sequence = record { 0 = 0 }; time = 0; objects = padded echoMax 0 []; len = 0 }
-latchFor (selected q t o) = record { armed = true; sequence = record { 0 = q }; time = t; objects = padded echoMax 0 o; len = length o }
-
-abbrev pub outstationFor : World → Outstation
-outstationFor w =
-    record {
-      «arm_time» = w .shared .armTime;
-      «confirm_time» = w .shared .confirmTime;
-      outputs = w .shared .outputs;
-      clock = w .shared .clock;
-      points =
-          record {
-            binaries = padded pointsMax noBinary (w .shared .inputs .binaries);
-            «binary_count» = length (w .shared .inputs .binaries);
-            analogs = padded pointsMax noAnalog (w .shared .inputs .analogs);
-            «analog_count» = length (w .shared .inputs .analogs);
-          };
-      buffer = record { held = padded eventsMax noHeld (w .master .queue .held); count = length (w .master .queue .held); overflow = w .master .queue .overflow };
-      session =
-          record {
-            restarted = w .master .exchange .restarted;
-            wait = w .master .exchange .wait;
-            last = lastFor (w .master .exchange .last);
-            latch = latchFor (w .master .exchange .latch);
-          };
-    }
-
-last-for : (m : Memory) → lastOf (lastFor m) ≡ m
-unfolding lastOf
-last-for nothing = refl
-last-for (kept f a) = rw (take-append-seam f (replicate (fragmentMax - length f) 0), take-append-seam a (replicate (answerMax - length a) 0))
-
-latch-for : (l : Selection) → latchOf (latchFor l) ≡ l
-unfolding latchOf
-latch-for noSelect = refl
-latch-for (selected q t o) = rw (take-append-seam o (replicate (echoMax - length o) 0))
-
-pub world-for : (w : World) → world (outstationFor w) ≡ w
-unfolding inputs queue exchangeOf
-world-for w =
-    rw (
-      take-append-seam (w .shared .inputs .binaries) (replicate (pointsMax - length (w .shared .inputs .binaries)) noBinary),
-      take-append-seam (w .shared .inputs .analogs) (replicate (pointsMax - length (w .shared .inputs .analogs)) noAnalog),
-      take-append-seam (w .master .queue .held) (replicate (eventsMax - length (w .master .queue .held)) noHeld),
-      last-for (w .master .exchange .last),
-      latch-for (w .master .exchange .latch),
-    )
+-- ---- calls of the outstation for a state
 
 -- the call c of the outstation for w, which leaves one whose counts do not pass their arrays: so what is padded has the array's length
-pub did-for : (w w₁ : World) (c : Call) (a : Answer) → Counted (outstationFor w₁) → step c w ≡ record { state = w₁; answer = a }
+pub did-for : (w w₁ : World) (c : Call) (a : Answer) → Fits w → Fits w₁ → Counted (outstationFor w₁) → step c w ≡ record { state = w₁; answer = a }
     → Did (outstationFor w) c a (outstationFor w₁)
-did-for w w₁ c a n e = record { result = rw (world-for w, world-for w₁) (sym e); counted = λ _. n }
+did-for w w₁ c a f f₁ n e = record { result = rw (world-for w f, world-for w₁ f₁) (sym e); counted = λ _. n }
 
 -- ---- the calls
 
@@ -217,9 +159,30 @@ pub counted-at : (clock : ℕ) (held : List Held) (overflow restarted : Bool) (w
     → length (bytesOf m) ≤ fragmentMax → length (answerOf m) ≤ answerMax
     → Counted (outstationFor (stateAt clock held overflow (exchangeWith restarted wait m)))
 counted-at clock held overflow restarted wait nothing e f a =
-    record { binaries = omega arith; analogs = omega arith; events = e; session = record { request = omega arith; answer = omega arith; objects = omega arith } }
+    record { binaries = omega arith; analogs = omega arith; events = e; request = omega arith; answer = omega arith; objects = omega arith }
 counted-at clock held overflow restarted wait (kept g b) e f a =
-    record { binaries = omega arith; analogs = omega arith; events = e; session = record { request = f; answer = a; objects = omega arith } }
+    record { binaries = omega arith; analogs = omega arith; events = e; request = f; answer = a; objects = omega arith }
+
+-- each of these states has its head and memory
+coded-events : (carried : Bool) (n time : ℕ) (on : Bool) (l : List Held) → time + n ≤ 2 ^ 48 → Coded l → Coded (events carried n time on ++ l)
+coded-events carried zero time on l h c = c
+coded-events carried (suc n) time on l h c =
+    event-coded carried on time (events carried n (suc time) (not on) ++ l) (omega (arith, h)) (coded-events carried n (suc time) (not on) l (omega (arith, h)) c)
+
+pub coded-newest : Coded newest
+coded-newest = rw (← (append-nil newest)) (coded-events false 30 227 true [] (omega arith) none-coded)
+
+pub coded-256 : (carried : Bool) → Coded (all256 carried)
+coded-256 carried = coded-events carried 226 1 true newest (omega arith) coded-newest
+
+pub fits-at : (clock : ℕ) (held : List Held) (overflow restarted : Bool) (wait : D.Wait) (m : Memory) → length held ≤ eventsMax → Coded held
+    → Fits (stateAt clock held overflow (exchangeWith restarted wait m))
+unfolding binariesIn records tab chunk binaryOf
+fits-at clock held overflow restarted wait m few coded = record { binaries = refl; analogs = refl; events = coded; few = few; latch = refl }
+
+pub fits-restarted : Fits (restarted oneBinary)
+unfolding restarted U.binaryClasses U.analogSetups binariesIn records tab chunk binaryOf
+fits-restarted = record { binaries = refl; analogs = refl; events = none-coded; few = omega arith; latch = refl }
 
 -- ---- each step
 

@@ -25,7 +25,7 @@ use Rattle.events.specs.Queue.{pushed, newly, marked}
 use Rattle.event_objects.specs.Events.{eventsBytes}
 use Rattle.static_objects.specs.Static.{staticBytes}
 use Rattle.request.specs.declared.Header.{Header}
-use Rattle.outstation.specs.declared.Setup.{Setup}
+use Rattle.outstation.specs.Setup.{Setup}
 use Rattle.outstation.specs.declared.Reading.{Reading}
 use Rattle.outstation.specs.declared.Wait as D
 use Rattle.outstation.specs.declared.Wait.the-variants.{Idle, Awaiting}

@@ -8,9 +8,9 @@ use mathlib.Core.List.{List, [], _∷_, _++_}
 use native.Mathlib.Omega.{arith}
 use lib.ListN.{length}
 use Rattle.laws.specs.Lists.{count}
-use Rattle.outstation.specs.declared.Outstation.{Outstation}
-use Rattle.outstation.specs.declared.Setup.{Setup}
-use Rattle.outstation.specs.World.{World, world, restarted}
+use Rattle.outstation.specs.Setup.{Setup}
+use Rattle.outstation.specs.World.{World, restarted}
+use Rattle.outstation.specs.Lent.{Outstation, world}
 use Rattle.outstation.specs.Step.{Call, Answer, silent, Result, step}
 use Rattle.outstation.specs.Contracts.{Did}
 use Rattle.book.specs.Book.{Book, Row, Happening, held, released, dropped, isHeld, isReleased, isDropped}

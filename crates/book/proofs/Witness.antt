@@ -19,13 +19,13 @@ use Rattle.request.specs.Headers.{eventsOf}
 use Rattle.request.specs.Parse as A
 use Rattle.objects.specs.Runs.{encoded, runs, allBytes}
 use Rattle.static_objects.specs.Static.{staticBytes, rangeBytes, pointObjects}
-use Rattle.outstation.specs.declared.Outstation.{Outstation}
 use Rattle.repeat.specs.Repeat.{nothing, kept}
-use Rattle.outstation.specs.declared.Setup.{Setup}
+use Rattle.outstation.specs.Setup.{Setup}
 use Rattle.outstation.specs.declared.Wait.the-variants.{Idle}
 use Rattle.outstation.specs.Setup as U
 use Rattle.outstation.specs.Setup.{setupOk}
-use Rattle.outstation.specs.World.{world, restarted}
+use Rattle.outstation.specs.World.{restarted}
+use Rattle.outstation.specs.Lent.{Outstation, world}
 use Rattle.outstation.specs.Readings as R
 use Rattle.outstation.specs.Requests as Q
 use Rattle.outstation.specs.Step.{Call, table, fragment, Answer, took, answers, silent, accepts, refuses}
@@ -35,7 +35,8 @@ use Rattle.book.specs.Book.{Book, Row, Mark, held, released, dropped, ro
 use Rattle.book.specs.Book.{dropSince, enter, opened}
 use Rattle.book.specs.Demand3.{overflowBit, bookAfter, Ran, none, more}
 use Rattle.book.proofs.Example.{oneBinary}
-use Rattle.book.proofs.Run.{outstationFor, world-for, did-for, counted-at, calls, readings, read, confirm, write, written, readAnswer}
+use Rattle.book.proofs.Memory.{outstationFor, world-for}
+use Rattle.book.proofs.Run.{did-for, counted-at, coded-newest, coded-256, fits-at, fits-restarted, calls, readings, read, confirm, write, written, readAnswer}
 use Rattle.book.proofs.Run.{class1, points, all256, newest, awaits, w₁, w₂, w₄, w₅, w₆, w₇, asks₁, asks₂, in-time}
 use Rattle.book.proofs.Run.{by-table, by-read₁, by-late, by-read₂, by-confirm, by-write, by-repeat}
 
@@ -197,21 +198,28 @@ run =
     let k₁ = kept (read 0xC1) [] in
     let k₂ = kept (read 0xC2) [] in
     let k₃ = kept write written in
+    let f₀ = fits-restarted in
+    let f₁ = fits-at 257 (all256 false) true true Idle nothing l (coded-256 false) in
+    let f₂ = fits-at 2000 (all256 true) true true (awaits 1 2000) k₁ m (coded-256 true) in
+    let f₄ = fits-at 8000 (all256 true) true true (awaits 2 8000) k₂ m (coded-256 true) in
+    let f₅ = fits-at 9000 newest false true Idle k₂ n coded-newest in
+    let f₆ = fits-at 9500 newest false false Idle k₃ n coded-newest in
+    let f₇ = fits-at 9600 newest false false Idle k₃ n coded-newest in
     let in₂ = counted-at 2000 (all256 true) true true (awaits 1 2000) k₁ m (omega arith) (omega arith) in
-    more (did-for (restarted oneBinary) w₁ (table readings) (took 258 4) (counted-at 257 (all256 false) true true Idle nothing l (omega arith) (omega arith)) by-table)
-    (more (did-for w₁ w₂ (fragment 2000 (read 0xC1) 2048) (readAnswer 0xE1) in₂ by-read₁)
-    (more (did-for w₂ w₂ (fragment 7001 (confirm 0xC1) 2048) (refuses 32) in₂ (by-late (all256 true) k₁))
+    more (did-for (restarted oneBinary) w₁ (table readings) (took 258 4) f₀ f₁ (counted-at 257 (all256 false) true true Idle nothing l (omega arith) (omega arith)) by-table)
+    (more (did-for w₁ w₂ (fragment 2000 (read 0xC1) 2048) (readAnswer 0xE1) f₁ f₂ in₂ by-read₁)
+    (more (did-for w₂ w₂ (fragment 7001 (confirm 0xC1) 2048) (refuses 32) f₂ f₂ in₂ (by-late (all256 true) k₁))
     (more
-    (did-for w₂ w₄ (fragment 8000 (read 0xC2) 2048) (readAnswer 0xE2)
+    (did-for w₂ w₄ (fragment 8000 (read 0xC2) 2048) (readAnswer 0xE2) f₂ f₄
     (counted-at 8000 (all256 true) true true (awaits 2 8000) k₂ m (omega arith) (omega arith)) by-read₂)
     (more
-    (did-for w₄ w₅ (fragment 9000 (confirm 0xC2) 2048) accepts
+    (did-for w₄ w₅ (fragment 9000 (confirm 0xC2) 2048) accepts f₄ f₅
     (counted-at 9000 newest false true Idle k₂ n (omega arith) (omega arith)) by-confirm)
     (more
-    (did-for w₅ w₆ (fragment 9500 write 2048) (answers written [])
+    (did-for w₅ w₆ (fragment 9500 write 2048) (answers written []) f₅ f₆
     (counted-at 9500 newest false false Idle k₃ n (omega arith) (omega arith)) by-write)
     (more
-    (did-for w₆ w₇ (fragment 9600 write 2048) (answers written [])
+    (did-for w₆ w₇ (fragment 9600 write 2048) (answers written []) f₆ f₇
     (counted-at 9600 newest false false Idle k₃ n (omega arith) (omega arith)) by-repeat)
     none))))))
 
@@ -252,7 +260,7 @@ unfolding setupOk U.binaryClasses U.analogSetups
 witness =
     record {
       accepted = refl;
-      start = world-for (restarted oneBinary);
+      start = world-for (restarted oneBinary) fits-restarted;
       ran = run;
       stopped = refl;
       shown = refl;

@@ -16,7 +16,7 @@ use Rattle.events.specs.declared.Pack.{Pack}
 use Rattle.events.specs.Placing.{asked, emptyPack, fits, packed}
 use Rattle.request.specs.declared.Header.{Header}
 use Rattle.static_objects.specs.Static.{staticBytes}
-use Rattle.outstation.specs.declared.Setup.{Setup}
+use Rattle.outstation.specs.Setup.{Setup}
 use Rattle.outstation.specs.declared.Reading.{Reading}
 use Rattle.outstation.specs.Setup.{binaryClasses, analogSetups}
 use Rattle.outstation.specs.Readings.{badTime, Heard, hear}

@@ -16,10 +16,9 @@ use Rattle.events.specs.declared.Event.{Event}
 use Rattle.events.specs.declared.Held.{Held}
 use Rattle.events.specs.Queue.{noHeld}
 use Rattle.event_objects.specs.Events.{eventsBytes}
-use Rattle.outstation.specs.declared.Outstation.{Outstation}
-use Rattle.outstation.specs.declared.Setup.{Setup}
-use Rattle.outstation.specs.Setup.{setupOk}
-use Rattle.outstation.specs.World.{World, world, restarted, Counted}
+use Rattle.outstation.specs.Setup.{Setup, setupOk}
+use Rattle.outstation.specs.World.{World, restarted}
+use Rattle.outstation.specs.Lent.{Outstation, world, Counted}
 use Rattle.outstation.specs.Step.{Call, Answer, took, answers, silent, accepts, refuses}
 use Rattle.outstation.specs.Contracts.{Did}
 use Rattle.book.specs.Book as B

@@ -7,12 +7,10 @@ use lib.ListN.{length}
 use Rattle.control.specs.declared.Crob.{Crob}
 use Rattle.control.specs.Objects.{listOf}
 use Rattle.repeat.specs.Requests.{Request}
-use Rattle.outstation.specs.declared.Outstation.{Outstation}
-use Rattle.outstation.specs.World.{world}
+use Rattle.outstation.specs.Lent.{Outstation, world}
 use Rattle.outstation.specs.Step.{Call, fragment, Answer, Result, handed, step}
 use Rattle.outstation.specs.Contracts.{Did}
-use Rattle.fragments.specs.declared.Answered.{Answered}
-use Rattle.fragments.specs.Given.{fragmentAnswer, Given}
+use Rattle.fragments.specs.Given.{Answered, fragmentAnswer, Given}
 use Rattle.fragments.proofs.DidLaws.{given-did}
 use Rattle.operate.specs.Operated.{requestOf, Gives, gaveReading, gaveTable, gaveFragment, handedOver, handedCount, Handing}
 

@@ -25,7 +25,7 @@ use Rattle.repeat.proofs.Controls.{controls-safe}
 use Rattle.outstation.specs.declared.Reading.{Reading}
 use Rattle.outstation.specs.declared.Wait.{Wait}
 use Rattle.outstation.specs.declared.Wait.the-variants.{Idle, Awaiting}
-use Rattle.outstation.specs.declared.Setup.{Setup}
+use Rattle.outstation.specs.Setup.{Setup}
 use Rattle.outstation.specs.World.{World, Master, withMaster, restarted}
 use Rattle.outstation.specs.Readings.{badTime, Heard, hear}
 use Rattle.outstation.specs.Requests.{Ask, malformed, confirms, asks, ask, readAsk, confirmed}

@@ -6,8 +6,8 @@ use Prim.Native.Nat.{ℕ}
 use Rattle.control.specs.declared.Crob.{Crob}
 use Rattle.repeat.specs.Requests.{Request, outcome}
 use Rattle.repeat.proofs.Controls.{controls-safe}
-use Rattle.outstation.specs.declared.Outstation.{Outstation}
-use Rattle.outstation.specs.World.{World, world, restarted}
+use Rattle.outstation.specs.World.{World, restarted}
+use Rattle.outstation.specs.Lent.{Outstation, world}
 use Rattle.outstation.specs.Step.{Call, Answer, Result, step}
 use Rattle.book.specs.Demand3.{Ran, none, more}
 use Rattle.operate.specs.Operated.{requestOf, requestsAfter, requestsOf, Gives, handedOver, allHanded, Handing, OperatedOnlySelected}

@@ -13,17 +13,15 @@ use Rattle.control.specs.Objects.{crobs, listOf}
 use Rattle.repeat.specs.Requests as Q
 use Rattle.repeat.specs.Requests.{Request, functionIn, objectsIn, InOrder, repeated, outcome, news}
 use Rattle.repeat.specs.Operates.{Allowed}
-use Rattle.outstation.specs.declared.Outstation.{Outstation}
 use Rattle.outstation.specs.declared.Reading.{Reading}
-use Rattle.outstation.specs.declared.Setup.{Setup}
-use Rattle.outstation.specs.Setup.{setupOk}
-use Rattle.outstation.specs.World.{World, world, restarted}
+use Rattle.outstation.specs.Setup.{Setup, setupOk}
+use Rattle.outstation.specs.World.{World, restarted}
+use Rattle.outstation.specs.Lent.{Outstation, world}
 use Rattle.outstation.specs.Readings.{badTime}
 use Rattle.outstation.specs.Requests.{Ask, malformed, confirms, reads, misreads, asks, ask}
 use Rattle.outstation.specs.Step.{Call, reading, table, fragment, Answer, took, answers, silent, accepts, refuses, responseBytes, deedBy, step}
 use Rattle.outstation.specs.Contracts.{Did}
-use Rattle.fragments.specs.declared.Answered.{Answered}
-use Rattle.fragments.specs.Given.{fragmentAnswer, Given}
+use Rattle.fragments.specs.Given.{Answered, fragmentAnswer, Given}
 use Rattle.book.specs.Demand3.{Ran, none, more}
 
 -- ---- the accepted request that a call is, if it is one
