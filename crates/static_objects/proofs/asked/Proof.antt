@@ -3,12 +3,11 @@
 use mathlib.Core.Path.{_≡_, refl, sym, _∙_}
 use mathlib.Core.List.{List}
 use Prim.Native.Nat.{ℕ}
-use Rattle.point_store.proofs.PointLaws.{binaries-length, analogs-length}
 use Rattle.request.specs.Parse.{parse}
 use Rattle.request.specs.Plans.{plannedOf}
-use Rattle.static_objects.proofs.StaticLaws.{binaries-count, analogs-count}
+use Rattle.static_objects.proofs.AloneLaws.{binaries-count, analogs-count}
 use Rattle.static_objects.proofs.HeaderLaws.{plan-headers, plan-object, plan-parameter, too-long, short, faulty, parsed-as}
-use Rattle.point_store.specs.PointWords.{pointsIn, inputsIn}
+use Rattle.point_store.specs.PointWords.{inputsIn}
 use lib.ListN.{length}
 use borrow.Author.Needs.{needs}
 use Rattle.static_objects.proofs.asked.Statement.{statement}
@@ -21,9 +20,8 @@ parsed : (c : tie.After-headers) (b : List ℕ)
     plannedOf (c .headers .result) ≡ parse (length (i .binaries)) (length (i .analogs)) (a .s .now)
 parsed c b =
     let a = c .before .before .before .before .args in
-    let p = pointsIn (a .n) b (a .analogs .now) in
     parsed-as (c .headers .result) _ _ _ _ _ (c .headers .ensures .0)
-    (binaries-count p _ (binaries-length b) (c .before .before .installed .ensures)) (analogs-count p _ (analogs-length (a .analogs .now)) (c .before .installed2 .ensures))
+    (binaries-count (a .n) b (a .analogs .now) _ (c .before .before .installed .ensures)) (analogs-count (a .n) b (a .analogs .now) _ (c .before .installed2 .ensures))
 
 installed-requires : tie.Need-installed-requires
 installed-requires c κs = search needs
