@@ -34,7 +34,7 @@ use request::Plan;
 use request::Verdict;
 
 // What a point shows: a binary's flags with its state, or an analog's flags and value.
-pub enum Shown {
+enum Shown {
     Binary(u8),
     Analog(u8, Value),
 }
