@@ -19,7 +19,7 @@ use Rattle.events.specs.declared.Shown.the-variants.{State, Analog}
 use Rattle.events.specs.Queue.{Queue, queue}
 use Rattle.control.specs.Objects.{echoMax, answerMax}
 use Rattle.select.specs.Select.{Selection, noSelect, selected, latchOf}
-use Rattle.repeat.specs.Repeat.{Memory, nothing, kept, lastOf}
+use Rattle.repeat.specs.Repeat.{Memory, nothing, kept, lastIn}
 use Rattle.words.specs.Numbers.{holds}
 use Rattle.words.specs.Records.{tab, chunk, records}
 use Rattle.words.proofs.RecordLaws.{tab-same}
@@ -188,16 +188,9 @@ events-front (suc n) (h ∷ hs) rest l c =
     two j = omega arith
 
 last-for : (m : Memory)
-    → lastOf
-    (record {
-      held = holds (bit (isKept m));
-      request = padded fragmentMax (requestIn m);
-      «request_len» = length (requestIn m);
-      answer = padded answerMax (answerIn m);
-      «answer_len» = length (answerIn m);
-    })
+    → lastIn (padded fragmentMax (requestIn m)) (padded answerMax (answerIn m)) (record { held = holds (bit (isKept m)); «request_len» = length (requestIn m); «answer_len» = length (answerIn m) })
     ≡ m
-unfolding lastOf
+unfolding lastIn
 last-for nothing = refl
 last-for (kept f a) = rw (take-append-seam f (replicate (fragmentMax - length f) 0), take-append-seam a (replicate (answerMax - length a) 0))
 

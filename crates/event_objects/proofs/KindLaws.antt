@@ -1,48 +1,26 @@
--- Laws of the carried events' kinds: how they are filled in, how a run of them is counted, and that it is the run of the objects.
+-- Laws of the carried events' kinds: how a run of them is counted, that it is the run of the objects, and the kinds of events in lent words.
 -- Assumes nothing.
 use mathlib.Core.Path.{_≡_, refl, sym, ap, _∙_}
 use mathlib.Core.Bool.{Bool, true, false}
-use mathlib.Core.List.{List, [], _∷_, _++_, map, map-append}
+use mathlib.Core.List.{List, [], _∷_, map}
 use Prim.Native.Nat.{ℕ, zero, suc, _+_, _≤_, _<_}
-use native.Mathlib.Numerals.{add-one}
 use native.Mathlib.Omega.{arith}
 use borrow.Author.Tests.{eqb-true, eqb-false, eq-eqb, ne-eqb}
 use lib.Dec.{eqb}
-use lib.ListN.{length, take, drop, getD, set, length-set, length-take, drop-of-length-le}
-use lib.Seq.{slice, take-suc, take-suc-set}
+use lib.ListN.{length, take, drop, getD, length-take, drop-of-length-le, length-map, List·getD-map}
+use lib.Seq.{slice}
 use Rattle.laws.proofs.Loops.{front}
 use Rattle.objects.specs.Runs.{lead}
 use Rattle.objects.proofs.RunLaws.{lead-nil, lead-same, lead-other}
+use Rattle.laws.specs.Limits.{eventsMax}
+use Rattle.laws.proofs.AllLoop.{map-take}
 use Rattle.events.specs.Placing.{kindOf}
+use Rattle.events.specs.Queue.{noHeld}
 use Rattle.events.specs.declared.Held.{Held}
+use Rattle.event_store.specs.EventWords.{slotsIn}
+use Rattle.event_store.proofs.EventLaws.{slots-length}
 use Rattle.event_objects.specs.Events.{eventObject, carriedObjects, carriedKind, leadKind}
 use Rattle.event_objects.proofs.EventLaws.{carried-nil, carried-yes, carried-no, kind-some}
-
--- ---- filling in
-
--- i places are filled in
-pub record Filling (held : List Held) (kinds : List ℕ) (i : ℕ) : Type 0 where
-  pub slots : length kinds ≡ 256
-  pub done : take i kinds ≡ map carriedKind (take i held)
-
-module _ (held : List Held) (kinds : List ℕ) where
-  pub filling-start : length kinds ≡ 256 → Filling held kinds 0
-  filling-start h = record { slots = h; done = refl }
-
-  pub filling-more : (i : ℕ) (f : Filling held kinds i) (d : Held) (v : ℕ) → i < 256 → length held ≡ 256 → v ≡ carriedKind (getD held i d)
-      → Filling held (set kinds i v) (i + 1)
-  filling-more i f d v below long e =
-      record {
-        slots = length-set kinds i v ∙ f .slots;
-        done =
-            ap (λ (k : ℕ). take k (set kinds i v)) (add-one i)
-            ∙ take-suc-set kinds i v (omega (arith, f .slots))
-            ∙ ap (λ (l : List ℕ). l ++ (v ∷ [])) (f .done)
-            ∙ ap (λ (x : ℕ). map carriedKind (take i held) ++ (x ∷ [])) e
-            ∙ sym (map-append carriedKind (take i held) (getD held i d ∷ []))
-            ∙ ap (map carriedKind) (sym (take-suc held i d (omega (arith, long))))
-            ∙ ap (λ (k : ℕ). map carriedKind (take k held)) (sym (add-one i));
-      }
 
 -- ---- counting
 
@@ -126,3 +104,19 @@ module _ (k : ℕ) where
       ap (λ (l : List ℕ). leadKind k (drop i l)) e
       ∙ ap (leadKind k) (map-drop carriedKind i (take n held))
       ∙ lead-kinds (slice i n held)
+
+-- ---- the kinds of the events in lent words
+
+abbrev pub kinds : List ℕ → List ℕ
+kinds ws = map carriedKind (slotsIn ws)
+
+pub kinds-long : (ws : List ℕ) (to : ℕ) → to ≤ eventsMax → to ≤ length (kinds ws)
+kinds-long ws to h = omega (arith, length-map (slotsIn ws) carriedKind, slots-length ws)
+
+-- the kind at a place
+pub kind-at : (ws : List ℕ) (i k : ℕ) (h : Held) → k ≡ carriedKind h → h ≡ getD (slotsIn ws) i noHeld → getD (kinds ws) i 0 ≡ k
+kind-at ws i k h e l = List·getD-map carriedKind (slotsIn ws) i noHeld ∙ sym (e ∙ ap carriedKind l)
+
+-- a run of kinds is the run of the objects
+pub run-of : (ws : List ℕ) (k n i : ℕ) → leadKind k (slice i n (kinds ws)) ≡ lead k (carriedObjects (slice i n (slotsIn ws)))
+run-of ws k n i = lead-from k (slotsIn ws) (kinds ws) n i (map-take carriedKind n (slotsIn ws))

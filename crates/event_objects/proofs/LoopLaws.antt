@@ -1,4 +1,4 @@
--- Laws of the two loops over the held events.
+-- Laws of the loop over the held events.
 -- Assumes nothing.
 use mathlib.Core.Path.{_≡_, sym, ap, _∙_}
 use mathlib.Core.Bool.{true, false}
@@ -9,11 +9,14 @@ use lib.ListN.{length, take, getD, length-take, drop-of-length-le}
 use lib.Seq.{slice}
 use Rattle.laws.proofs.Loops.{front}
 use Rattle.laws.proofs.Filling.{clamped}
+use Rattle.laws.specs.Limits.{eventsMax}
 use Rattle.octets.specs.Bytes.{splice}
 use Rattle.objects.proofs.WriterLaws.{Writing, writing-start, writing-end, writing-passed}
-use Rattle.events.specs.Queue.{queue, noHeld}
+use Rattle.events.specs.Queue.{Buffer, queue, noHeld}
 use Rattle.events.specs.declared.Held.{Held}
-use Rattle.events.specs.declared.Buffer.{Buffer}
+use Rattle.event_store.specs.declared.BufferStatus.{BufferStatus}
+use Rattle.event_store.specs.EventWords.{queueIn}
+use Rattle.event_store.proofs.LentLaws.{statusOf, clamped-in}
 use Rattle.event_objects.specs.Events.{eventHeading, eventObject, carriedObjects, carriedBytes}
 use Rattle.event_objects.proofs.EventLaws.{carried-nil, carried-yes, carried-no, heading-length, none-first}
 
@@ -49,3 +52,8 @@ module _ (out₀ : List ℕ) (at : ℕ) (b : Buffer) (n : ℕ) (slots : length (
   unfolding carriedBytes
   written out to last i g h =
       writing-end eventHeading 5 heading-length out₀ at (carriedObjects (queue b .held)) (none-first (queue b .held)) out to last _ g (over n i (b .held) h)
+
+-- a clamped count holds what the count holds
+pub held-of : (ws : List ℕ) (t : BufferStatus) (n : ℕ) → n ≡ min (t .count) eventsMax → queueIn ws (statusOf n) .held ≡ queueIn ws t .held
+unfolding queue
+held-of ws t n least = clamped-in ws t n least

@@ -1,11 +1,12 @@
-// The events that a response carries, written into lent bytes.
+// The events that a response carries, written from lent words into lent bytes.
 ghost use mathlib.Core.Path.{_≡_};
 ghost use mathlib.Core.List.{map};
-ghost use Prim.Native.Nat.{_+_, _≤_, min};
-ghost use lib.ListN.{length, take};
+ghost use Prim.Native.Nat.{_+_, _≤_};
+ghost use lib.ListN.{length};
 ghost use lib.Seq.{slice};
+ghost use Rattle.laws.specs.Limits.{eventsMax};
 ghost use Rattle.octets.specs.Bytes.{splice};
-ghost use Rattle.events.specs.Queue.{queue};
+ghost use Rattle.event_store.specs.EventWords.{slotsIn, queueIn};
 ghost use Rattle.event_objects.specs.Events.{
   groupOf,
   variationOf,
@@ -15,7 +16,8 @@ ghost use Rattle.event_objects.specs.Events.{
   leadKind,
   carriedBytes,
 };
-use events::Buffer;
+use event_store::BufferStatus;
+use event_store::EVENT_WORDS;
 use events::Event;
 use events::Held;
 use events::Shown;
@@ -42,7 +44,7 @@ fn variation(kind: u8) -> u8
 }
 
 // Puts a header at the offset, and answers the offset after it.
-pub fn put_heading(out: &mut [u8], at: usize, kind: u8, n: u16) -> usize
+fn put_heading(out: &mut [u8], at: usize, kind: u8, n: u16) -> usize
     requires { ⌜ at + 5 ≤ length (now out) ⌝ }
     ensures { λ r. ⌜ (r ≡ at + 5) × (now (out .exit) ≡ splice (now (out .entry)) at (eventHeading kind 0 n)) ⌝ }
 {
@@ -54,7 +56,7 @@ pub fn put_heading(out: &mut [u8], at: usize, kind: u8, n: u16) -> usize
 }
 
 // Puts an event's object at the offset, and answers the offset after it.
-pub fn put_event(out: &mut [u8], at: usize, e: Event) -> usize
+fn put_event(out: &mut [u8], at: usize, e: Event) -> usize
     requires { ⌜ at + length (eventBytes e) ≤ length (now out) ⌝ }
     ensures { λ r. ⌜
         (r ≡ at + length (eventBytes e))
@@ -78,7 +80,7 @@ pub fn put_event(out: &mut [u8], at: usize, e: Event) -> usize
 }
 
 // The kind of a held event, 0 where it is not carried.
-pub fn carried_kind(h: Held) -> u8
+fn carried_kind(h: Held) -> u8
     ensures { λ r. ⌜ r ≡ carriedKind h ⌝ }
 {
     if h.carried {
@@ -89,30 +91,15 @@ pub fn carried_kind(h: Held) -> u8
     }
 }
 
-// The kinds of the slots in use: bytes that can be lent, where the buffer would be copied.
-fn carried_kinds(b: Buffer) -> [u8; 256]
-    ensures { λ r. ⌜ take (min (b .count) 256) r ≡ map carriedKind (take (min (b .count) 256) (b .held)) ⌝ }
-{
-    let n = events::filled(b.count);
-    let mut kinds = [0u8; 256];
-    let mut i: usize = 0;
-    while i < n {
-        let h = b.held[i];
-        kinds[i] = carried_kind(h);
-        i += 1;
-    }
-    kinds
-}
-
-// How many of the kind follow one another from a place on, up to another, 0 being passed over.
-fn run_length(kinds: &[u8], from: usize, to: usize, kind: u8) -> u16
-    requires { ⌜ (to ≤ length (now kinds)) × (to ≤ 256) ⌝ }
-    ensures { λ r. ⌜ (r ≡ leadKind kind (slice from to (now (kinds .entry)))) × (r ≤ 256) ⌝ }
+// How many of the kind follow one another from a place on, up to another, those that are not carried passed over.
+fn run_length(held: &[u64; EVENT_WORDS], from: usize, to: usize, kind: u8) -> u16
+    requires { ⌜ to ≤ eventsMax ⌝ }
+    ensures { λ r. ⌜ (r ≡ leadKind kind (slice from to (map carriedKind (slotsIn (now (held .entry)))))) × (r ≤ eventsMax) ⌝ }
 {
     let mut i = from;
     let mut m: u16 = 0;
     while i < to {
-        let k = kinds[i];
+        let k = carried_kind(event_store::load(held, i));
         i += 1;
         if k != 0 {
             if k == kind {
@@ -126,19 +113,23 @@ fn run_length(kinds: &[u8], from: usize, to: usize, kind: u8) -> u16
 }
 
 // Puts the carried events at the offset, and answers the offset after them.
-pub fn put_events(out: &mut [u8], at: usize, b: Buffer) -> usize
-    requires { ⌜ at + length (carriedBytes (queue b .held)) ≤ length (now out) ⌝ }
+pub fn put_events(
+    out: &mut [u8],
+    at: usize,
+    held: &[u64; EVENT_WORDS],
+    status: BufferStatus,
+) -> usize
+    requires { ⌜ at + length (carriedBytes (queueIn (now held) status .held)) ≤ length (now out) ⌝ }
     ensures { λ r. ⌜
-        (r ≡ at + length (carriedBytes (queue b .held)))
-        × (now (out .exit) ≡ splice (now (out .entry)) at (carriedBytes (queue b .held))) ⌝ }
+        (r ≡ at + length (carriedBytes (queueIn (now (held .entry)) status .held)))
+        × (now (out .exit) ≡ splice (now (out .entry)) at (carriedBytes (queueIn (now (held .entry)) status .held))) ⌝ }
 {
-    let kinds = carried_kinds(b);
-    let n = events::filled(b.count);
+    let n = events::filled(status.count);
     let mut to = at;
     let mut last: u8 = 0;
     let mut i: usize = 0;
     while i < n {
-        let h = b.held[i];
+        let h = event_store::load(held, i);
         i += 1;
         if h.carried {
             let e = h.event;
@@ -146,7 +137,7 @@ pub fn put_events(out: &mut [u8], at: usize, b: Buffer) -> usize
             if k == last {
                 to = put_event(out, to, e);
             } else {
-                let m = run_length(&kinds, i, n, k);
+                let m = run_length(held, i, n, k);
                 let after = put_heading(out, to, k, m + 1);
                 to = put_event(out, after, e);
                 last = k;

@@ -1,7 +1,7 @@
 -- Laws of the buffer's operations, stated on the list of its slots.
 -- Assumes nothing.
 use mathlib.Core.Path.{_≡_, sym, ap, _∙_}
-use mathlib.Core.Bool.{Bool, true, false}
+use mathlib.Core.Bool.{true}
 use mathlib.Core.List.{List, [], _∷_, _++_}
 use Prim.Native.Nat.{ℕ, _+_, _≤_, _<_, min}
 use native.Mathlib.Numerals.{add-one}
@@ -9,14 +9,11 @@ use native.Mathlib.Omega.{arith}
 use borrow.Author.Tests.{lt-ltb}
 use lib.ListN.{length, take, getD, set, length-take, length-set}
 use lib.Seq.{slice, slice-empty, take-suc-set}
-use Rattle.laws.specs.Lists.{some}
 use Rattle.laws.proofs.Loops.{take-slice, put, skip, keep, done}
 use Rattle.laws.proofs.Filling.{clamped}
-use Rattle.laws.proofs.Search.{Searching, searching-found, searching-end}
-use Rattle.events.specs.Queue.{queue, noHeld, newly, edited, pushed}
+use Rattle.events.specs.Queue.{Buffer, queue, noHeld, newly, edited, pushed}
 use Rattle.events.specs.declared.Event.{Event}
 use Rattle.events.specs.declared.Held.{Held}
-use Rattle.events.specs.declared.Buffer.{Buffer}
 
 module _ (b : Buffer) (e : Event) (long : length (b .held) ≡ 256) where
   pub pushed-in : b .count < 256 → queue (record { held = set (b .held) (b .count) (newly e); count = b .count + 1; overflow = b .overflow }) ≡ pushed e (queue b)
@@ -122,13 +119,3 @@ module _ (G H : List Held → List Held) (n : ℕ) (from next : Buffer) (i : ℕ
       let same : i ≡ n = omega (arith, g .read) in
       let gone : slice i n (next .held) ≡ [] = ap (λ (m : ℕ). slice m n (next .held)) same ∙ slice-empty n (next .held) in
       halted (ap H gone ∙ none ∙ sym gone)
-
--- a search of the held events: found, and not found
-module _ (p : Held → Bool) (b : Buffer) (n i : ℕ) (slots : length (b .held) ≡ 256) (least : n ≡ min (b .count) 256) (s : Searching p (b .held) n i) where
-  pub found : i < n → p (getD (b .held) i noHeld) ≡ true → true ≡ some p (queue b .held)
-  unfolding queue
-  found below h = searching-found p (b .held) n i s noHeld below h ∙ ap (some p) (clamped (b .held) 256 (b .count) n slots least)
-
-  pub not-found : n ≤ i → false ≡ some p (queue b .held)
-  unfolding queue
-  not-found over = searching-end p (b .held) n i s over ∙ ap (some p) (clamped (b .held) 256 (b .count) n slots least)

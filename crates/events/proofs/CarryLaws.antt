@@ -1,20 +1,14 @@
 -- Laws of the selection: a turn's three answers, and what each makes of the rest.
 -- Assumes nothing.
-use mathlib.Core.Path.{_≡_, refl, sym, ap, _∙_}
+use mathlib.Core.Path.{_≡_, refl, ap, _∙_}
 use mathlib.Core.Bool.{Bool, true, false, cond}
 use mathlib.Core.List.{List, [], _∷_}
-use Prim.Native.Nat.{ℕ, _+_, _-_, _≤_, _<_, min}
-use native.Mathlib.Omega.{arith}
+use Prim.Native.Nat.{ℕ, _-_, _≤_, _<_}
 use borrow.Author.Tests.{le-leb, lt-leb}
-use lib.ListN.{length, getD, set}
-use lib.Seq.{slice}
-use Rattle.laws.proofs.Loops.{front}
-use Rattle.events.proofs.BufferLaws.{Going, stores, keeps, halted, rewritten}
-use Rattle.events.specs.Placing.{asked, kindOf, costOf, fits, packed, turnOf, emptyPack}
-use Rattle.events.specs.Queue.{queue, noHeld, marked, edited, carry}
+use Rattle.events.specs.Placing.{asked, kindOf, costOf, fits, packed, turnOf}
+use Rattle.events.specs.Queue.{marked, carry}
 use Rattle.events.specs.declared.Event.{Event}
 use Rattle.events.specs.declared.Held.{Held}
-use Rattle.events.specs.declared.Buffer.{Buffer}
 use Rattle.events.specs.declared.Classes.{Classes}
 use Rattle.events.specs.declared.Pack.{Pack}
 use Rattle.events.specs.declared.Turn.the-variants.{Pass, Stop, Carry}
@@ -69,34 +63,3 @@ module _ (m : Classes) (k : Pack) (h : Held) (hs : List Held) where
 pub carry-nil : (m : Classes) (k : Pack) → carry m k [] ≡ []
 unfolding carry
 carry-nil m k = refl
-
--- what the selection's loop knows
-abbrev pub Selecting : Classes → ℕ → ℕ → Buffer → Buffer → ℕ → ℕ → ℕ → Type 0
-Selecting m room n from next left last i = Going (carry m (emptyPack room)) (carry m (record { left = left; kind = last })) n from next i i
-
-module _ (m : Classes) (room n : ℕ) (from next : Buffer) (left last i : ℕ) (short : n ≤ 256) (s : Selecting m room n from next left last i) where
-  abbrev k : Pack
-  k = record { left = left; kind = last }
-
-  abbrev h : Held
-  h = getD (next .held) i noHeld
-
-  abbrev hs : List Held
-  hs = slice (i + 1) n (next .held)
-
-  pub passed : i < n → turnOf m k (h .event) ≡ Pass → Selecting m room n from next left last (i + 1)
-  passed below t = keeps _ _ _ n from next i i short below s refl (carry-pass m k h hs t)
-
-  pub taken : i < n → (q : Pack) (v : Held) → turnOf m k (h .event) ≡ Carry q → v ≡ marked true h
-      → Selecting m room n from (record { held = set (next .held) i v; count = next .count; overflow = next .overflow }) (q .left) (q .kind) (i + 1)
-  taken below q v t e =
-      stores _ _ _ n from next i i short below s v (carry-carry m k h hs q t ∙ ap (λ (x : Held). x ∷ carry m q hs) (sym e))
-
-  module _ (slots : length (from .held) ≡ 256) (least : n ≡ min (from .count) 256) where
-    pub stopped : i < n → turnOf m k (h .event) ≡ Stop → queue next ≡ edited (carry m (emptyPack room)) (queue from)
-    stopped below t =
-        let head : slice i n (next .held) ≡ h ∷ hs = front (λ l. l) (λ l. l) n i i (next .held) noHeld below (omega (arith, s .slots)) in
-        halted _ _ n from next i slots least s (ap (carry m k) head ∙ carry-stop m k h hs t ∙ sym head)
-
-    pub finished : n ≤ i → queue next ≡ edited (carry m (emptyPack room)) (queue from)
-    finished over = rewritten _ _ n from next i slots least s over (carry-nil m k)

@@ -10,9 +10,8 @@ use lib.Seq.{slice, slice-empty}
 use Rattle.laws.specs.Lists.{some}
 use Rattle.laws.proofs.Loops.{front}
 use Rattle.laws.proofs.Filling.{clamped}
-use Rattle.events.specs.Queue.{queue, noHeld}
+use Rattle.events.specs.Queue.{Buffer, queue, noHeld}
 use Rattle.events.specs.declared.Held.{Held}
-use Rattle.events.specs.declared.Buffer.{Buffer}
 
 turn : (s q r : Bool) → ((s || q) || r) ≡ (s || (q || r))
 turn true q r = refl

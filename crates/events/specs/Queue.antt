@@ -9,7 +9,6 @@ use Rattle.laws.specs.Lists.{filter, some}
 use Rattle.events.specs.declared.Event.{Event}
 use Rattle.events.specs.declared.Held.{Held}
 use Rattle.events.specs.declared.Shown.the-variants.{State}
-use Rattle.events.specs.declared.Buffer.{Buffer}
 use Rattle.events.specs.declared.Classes.{Classes}
 use Rattle.events.specs.declared.Pack.{Pack}
 use Rattle.events.specs.Placing.{asked, emptyPack, fits, packed}
@@ -18,7 +17,13 @@ pub record Queue : Type 0 where
   pub held : List Held
   pub overflow : Bool
 
--- the first `count` slots; a count past the array holds them all, so every value of the struct has a meaning
+-- the slots that events are kept in, how many of them are in use, and whether events were dropped
+pub record Buffer : Type 0 where
+  pub held : List Held
+  pub count : ℕ
+  pub overflow : Bool
+
+-- the first `count` slots; a count past them all holds them all, so that every buffer has a meaning
 unfoldable pub queue : Buffer → Queue
 queue b = record { held = take (b .count) (b .held); overflow = b .overflow }
 

@@ -1,12 +1,9 @@
-// The held events: at most 256, oldest first, and the overflow indication.
+// Events: what is held of each, and what the selection of a response does with it.
 ghost use mathlib.Core.Path.{_≡_};
-ghost use mathlib.Core.Bool.{false, _||_};
-ghost use mathlib.Core.List.{[]};
+ghost use mathlib.Core.Bool.{_||_};
 ghost use Prim.Native.Nat.{min, _≤_};
-ghost use Rattle.laws.specs.Limits.{eventsMax};
-ghost use Rattle.laws.specs.Lists.{some};
-ghost use Rattle.events.specs.Placing.{kindOf, sizeOf, asked, emptyPack, costOf, turnOf};
-ghost use Rattle.events.specs.Queue.{queue, marked, edited, carry, selected, released, cleared, isCarried, leftOf, leftBehind};
+ghost use Rattle.events.specs.Placing.{kindOf, sizeOf, asked, costOf, turnOf};
+ghost use Rattle.events.specs.Queue.{leftOf};
 use points::Value;
 
 // How many events may be held.
@@ -18,8 +15,7 @@ pub enum Shown {
     Analog(Value),
 }
 
-// An event: its reading's time, what it shows, its point, the shown flags without the state, its point's class. The fields stand from
-// wide to narrow, so that a held event has 32 bytes and not 48.
+// An event: its reading's time, what it shows, its point, the shown flags without the state, its point's class.
 pub struct Event {
     pub time: u64,
     pub shown: Shown,
@@ -32,13 +28,6 @@ pub struct Event {
 pub struct Held {
     pub event: Event,
     pub carried: bool,
-}
-
-// The first `count` slots hold events, oldest first; overflow: events were dropped (IIN2.3).
-pub struct Buffer {
-    pub held: [Held; 256],
-    pub count: usize,
-    pub overflow: bool,
 }
 
 // Classes 1 to 3: those that a request asks for, or of which events are left behind.
@@ -54,82 +43,11 @@ pub struct Pack {
     pub kind: u8,
 }
 
-fn blank() -> Held {
-    Held {
-        event: Event {
-            time: 0,
-            shown: Shown::State(false),
-            point: 0,
-            flags: 0,
-            class: 0,
-        },
-        carried: false,
-    }
-}
-
-// No event held, none dropped.
-pub fn empty() -> Buffer
-    ensures { λ r. ⌜ (queue r ≡ record { held = []; overflow = false }) × (r .count ≡ 0) ⌝ }
-{
-    let h = blank();
-    let a = [h; 256];
-    Buffer {
-        held: a,
-        count: 0,
-        overflow: false,
-    }
-}
-
 // How many slots hold an event.
 pub fn filled(count: usize) -> usize
     ensures { λ r. ⌜ r ≡ min count 256 ⌝ }
 {
     if count < CAPACITY { count } else { CAPACITY }
-}
-
-fn with_mark(h: Held, carried: bool) -> Held
-    ensures { λ r. ⌜ r ≡ marked carried h ⌝ }
-{
-    let e = h.event;
-    Held {
-        event: e,
-        carried: carried,
-    }
-}
-
-// A new request: no event is carried any more.
-pub fn clear(b: Buffer) -> Buffer
-    ensures { λ r. ⌜ (queue r ≡ cleared (queue b)) × (r .count ≡ b .count) ⌝ }
-{
-    let n = filled(b.count);
-    let mut next = b;
-    let mut i = 0;
-    while i < n {
-        let h = next.held[i];
-        next.held[i] = with_mark(h, false);
-        i += 1;
-    }
-    next
-}
-
-// An accepted confirmation: exactly the carried events go.
-pub fn release(b: Buffer) -> Buffer
-    ensures { λ r. ⌜ (queue r ≡ released (queue b)) × (r .count ≤ eventsMax) ⌝ }
-{
-    let n = filled(b.count);
-    let mut next = b;
-    let mut i = 0;
-    let mut j = 0;
-    while i < n {
-        let h = next.held[i];
-        i += 1;
-        if !h.carried {
-            next.held[j] = h;
-            j += 1;
-        }
-    }
-    next.count = j;
-    next
 }
 
 // Whether events of the class are asked for.
@@ -164,7 +82,7 @@ pub fn kind(e: Event) -> u8
 }
 
 // The bytes of an event's object with its index.
-pub fn size(kind: u8) -> usize
+fn size(kind: u8) -> usize
     ensures { λ r. ⌜ (r ≡ sizeOf kind) × (r ≤ 13) ⌝ }
 {
     if kind == 1 {
@@ -209,67 +127,6 @@ pub fn weigh(m: Classes, k: Pack, e: Event) -> Turn
     }
 }
 
-// Marks the events that a response carries, none being marked yet.
-fn mark(b: Buffer, m: Classes, room: usize) -> Buffer
-    ensures { λ r. ⌜ (queue r ≡ edited (carry m (emptyPack room)) (queue b)) × (r .count ≡ b .count) ⌝ }
-{
-    let n = filled(b.count);
-    let mut next = b;
-    let mut left = room;
-    let mut last: u8 = 0;
-    let mut i = 0;
-    while i < n {
-        let h = next.held[i];
-        let e = h.event;
-        let t = weigh(
-            m,
-            Pack {
-                left: left,
-                kind: last,
-            },
-            e,
-        );
-        match t {
-            Turn::Stop => {
-                return next;
-            }
-            Turn::Pass => {
-                i += 1;
-            }
-            Turn::Carry(k) => {
-                next.held[i] = with_mark(h, true);
-                last = k.kind;
-                left = k.left;
-                i += 1;
-            }
-        }
-    }
-    next
-}
-
-// A READ's response carries the events of the asked classes, oldest first, up to the first that does not fit in the room.
-pub fn select(b: Buffer, m: Classes, room: usize) -> Buffer
-    ensures { λ r. ⌜ (queue r ≡ selected m room (queue b)) × (r .count ≡ b .count) ⌝ }
-{
-    mark(clear(b), m, room)
-}
-
-// Some event is carried.
-pub fn any_carried(b: Buffer) -> bool
-    ensures { λ r. ⌜ r ≡ some isCarried (queue b .held) ⌝ }
-{
-    let n = filled(b.count);
-    let mut i = 0;
-    while i < n {
-        let h = b.held[i];
-        if h.carried {
-            return true;
-        }
-        i += 1;
-    }
-    false
-}
-
 // The held event is of the class and not carried.
 fn left_of(h: Held, class: u8) -> bool
     ensures { λ r. ⌜ r ≡ leftOf class h ⌝ }
@@ -287,23 +144,4 @@ pub fn seen(earlier: bool, h: Held, class: u8) -> bool
     ensures { λ r. ⌜ r ≡ (earlier || leftOf class h) ⌝ }
 {
     if earlier { true } else { left_of(h, class) }
-}
-
-// The classes of which events are held and not carried. One loop for all three, for a function that reads the slots copies the buffer.
-pub fn left_behind(b: Buffer) -> Classes
-    ensures { λ r. ⌜ r ≡ leftBehind (queue b .held) ⌝ }
-{
-    let n = filled(b.count);
-    let mut one = false;
-    let mut two = false;
-    let mut three = false;
-    let mut i = 0;
-    while i < n {
-        let h = b.held[i];
-        i += 1;
-        one = seen(one, h, 1);
-        two = seen(two, h, 2);
-        three = seen(three, h, 3);
-    }
-    Classes { one, two, three }
 }

@@ -24,8 +24,7 @@ use Rattle.control.specs.Objects.{Holding}
 use Rattle.select.specs.Select.{latchOf}
 use Rattle.repeat.specs.Repeat.{Memory, kept, answerOf, isRepeat}
 use Rattle.repeat.proofs.ReplyLaws.{answer-taken}
-use Rattle.events.specs.declared.Buffer.{Buffer}
-use Rattle.events.specs.Queue.{Queue, queue, released}
+use Rattle.events.specs.Queue.{Buffer, Queue, queue, released}
 use Rattle.outstation.specs.World.{World, Exchange}
 use Rattle.outstation.specs.Step.{Result, answers, silent, done, atTime, indicationsOf, indications, responseBytes, deedBy, readStep, requestStep, repeatStep, clearing}
 use Rattle.outstation.specs.Step as S

@@ -23,14 +23,14 @@ use Rattle.request.specs.declared.Verdict.the-variants as Vs
 use Rattle.request.specs.Parse.{Parsed, headers, fault}
 use Rattle.request.specs.Plans.{planned}
 use Rattle.static_objects.specs.Static.{readOf}
-use Rattle.read.specs.Response.{queueAfter, responseObjects}
+use Rattle.read.specs.Response.{queueAfter, responseObjects, RepliedAs}
 use Rattle.control.specs.declared.Crob.{Crob}
 use Rattle.control.specs.declared.Crobs.{Crobs}
 use Rattle.control.specs.Objects.{answerMax, listOf, Holding}
 use Rattle.select.specs.declared.ControlFunction.the-variants.{Select, Operate, DirectOperate, DirectOperateNoResponse}
 use Rattle.select.specs.declared.Latch.{Latch}
 use Rattle.select.specs.Select.{noSelect, latchOf}
-use Rattle.repeat.specs.Repeat.{kept, lastOf, answerOf}
+use Rattle.repeat.specs.Repeat.{kept, lastIn, answerOf}
 use Rattle.outstation.specs.declared.Wait.{Wait}
 use Rattle.outstation.specs.declared.Wait.the-variants.{Idle, Awaiting}
 use Rattle.outstation.specs.World.{World}
@@ -41,17 +41,14 @@ use Rattle.fragments.specs.declared.FragmentAnswer.{FragmentAnswer}
 use Rattle.fragments.specs.declared.FragmentAnswer.the-variants as Fs
 use Rattle.effects.specs.declared.Seen.{Seen}
 use Rattle.effects.specs.Effects.{Worked, WorkedWith, seenWorld, Confirms, confirmBy}
-use Rattle.fragments.proofs.AnswerLaws.{read-queue, read-most}
+use Rattle.fragments.proofs.AnswerLaws.{read-queue, read-most, overflow-stored, read-given, request-any, repeat-any}
 use Rattle.effects.proofs.EffectLaws.{confirm-given, silent-objects, deed-queue, deed-idle, deed-small}
-use Rattle.fragments.proofs.AnswerLaws.{overflow-stored, read-given, request-any, repeat-any}
 use Rattle.words.specs.Numbers.{holds}
 use Rattle.point_store.specs.PointWords.{inputsIn}
 use Rattle.event_store.specs.declared.BufferStatus.{BufferStatus}
 use Rattle.event_store.specs.EventWords.{bufferIn, queueIn}
-use Rattle.lent_read.specs.declared.Reply.{Reply}
-use Rattle.lent_read.specs.LentResponse.{RepliedAs}
-use Rattle.lent_repeat.specs.declared.LastLengths.{LastLengths}
-use Rattle.lent_repeat.specs.LentLast.{lastIn}
+use Rattle.read.specs.declared.Reply.{Reply}
+use Rattle.repeat.specs.declared.LastLengths.{LastLengths}
 use Rattle.outstation.specs.declared.Head.{Head}
 use Rattle.outstation.specs.Lent.{Lent, HeadCounted, installedOf, statusOf, waitOf, worldOf}
 use Rattle.fragments.specs.declared.FragmentResult.{FragmentResult}
@@ -388,8 +385,8 @@ leftHead h time restarted kind sequence sent shown since k held armed from at le
 
 module _ (h : Head) (time : ℕ) (k : LastLengths) (held : ℕ) (keeps : holds held ≡ k .held) where
   last-left : (p s : List ℕ)
-      → lastOf (record { held = holds held; request = p; «request_len» = k .«request_len»; answer = s; «answer_len» = k .«answer_len» }) ≡ lastIn p s k
-  last-left p s = λ i. lastOf (record { held = keeps i; request = p; «request_len» = k .«request_len»; answer = s; «answer_len» = k .«answer_len» })
+      → lastIn p s (record { held = holds held; «request_len» = k .«request_len»; «answer_len» = k .«answer_len» }) ≡ lastIn p s k
+  last-left p s = λ i. lastIn p s (record { held = keeps i; «request_len» = k .«request_len»; «answer_len» = k .«answer_len» })
 
   pub after-read : (q : ApplicationSequence) (con : Bool) (kind : ℕ) → holds kind ≡ con
       → ReadLeft h time (cond con (Awaiting q time (holds (h .overflow)) false) Idle) k

@@ -20,9 +20,8 @@ use Rattle.control.specs.declared.Crob.{Crob}
 use Rattle.control.specs.declared.Crobs.{Crobs}
 use Rattle.control.specs.Objects.{echoMax, answerMax, listOf, Holding}
 use Rattle.select.specs.Select.{Selection, noSelect}
-use Rattle.repeat.specs.Repeat.{isRepeat}
-use Rattle.lent_repeat.specs.declared.LastLengths.{LastLengths}
-use Rattle.lent_repeat.specs.LentLast.{lastIn}
+use Rattle.repeat.specs.Repeat.{isRepeat, lastIn}
+use Rattle.repeat.specs.declared.LastLengths.{LastLengths}
 use Rattle.words.specs.Numbers.{holds}
 use Rattle.event_store.specs.EventWords.{queueIn}
 use Rattle.outstation.specs.declared.Head.{Head}

@@ -9,10 +9,9 @@ ghost use Rattle.octets.specs.Bytes.{splice};
 ghost use Rattle.application.specs.Response.{responseOf};
 ghost use Rattle.control.specs.Objects.{Holding, answerMax};
 ghost use Rattle.select.specs.Select.{noSelect, latchOf};
-ghost use Rattle.repeat.specs.Repeat.{answerOf};
+ghost use Rattle.repeat.specs.Repeat.{answerOf, lastIn};
 ghost use Rattle.outstation.specs.Step.{indicationsOf};
 ghost use Rattle.event_store.specs.EventWords.{queueIn};
-ghost use Rattle.lent_repeat.specs.LentLast.{lastIn};
 ghost use Rattle.words.specs.Numbers.{holds};
 ghost use Rattle.fragments.specs.Given.{
   lastLengths,
@@ -42,12 +41,12 @@ use effects::Deed;
 use effects::Seen;
 use event_store::BufferStatus;
 use event_store::EVENT_WORDS;
-use lent_repeat::LastLengths;
 use outstation::Head;
 use outstation::Wait;
 use point_store::ANALOG_WORDS;
 use point_store::BINARY_WORDS;
 use point_store::Installed;
+use repeat::LastLengths;
 use request::Verdict;
 use select::Latch;
 
@@ -229,11 +228,11 @@ fn answer_read(
         analogs: h.analog_count,
     };
     let t = outstation::status_of(h);
-    let reply = lent_read::respond(out, &f[2..], binaries, analogs, n, held, t);
+    let reply = read::respond(out, &f[2..], binaries, analogs, n, held, t);
     let v = reply.verdict;
     let s = read_said(v, event_store::any_carried(held, t), t.overflow);
     put_header(out, q, s, held, t, outstation::truth(h.restarted));
-    let kept = lent_repeat::remember(request, answer, f, &f[..0]);
+    let kept = repeat::remember(request, answer, f, &f[..0]);
     let next = after_read(h, q, time, s.con, kept);
     let a = FragmentAnswer::Answer(reply.size);
     let none = control::none();
@@ -285,7 +284,7 @@ fn put_again(
     if function == 6 {
         return 0;
     }
-    lent_repeat::answer_again(request, answer, last_of(h), out)
+    repeat::answer_again(request, answer, last_of(h), out)
 }
 
 // The same answer again, nothing done, only the clock moves.
@@ -413,7 +412,7 @@ fn answer_request(
     let t = outstation::status_of(h);
     event_store::clear(held, t);
     let n = put_answer(out, q, function, d, held, t);
-    let kept = lent_repeat::remember(request, answer, f, &out[..n]);
+    let kept = repeat::remember(request, answer, f, &out[..n]);
     let latch = d.latch;
     let next = after_request(h, objects, time, d.restarted, latch, kept);
     let a = answer_as(function, n);
@@ -450,7 +449,7 @@ fn take_request(
     if function == 1 {
         return answer_read(h, binaries, analogs, held, request, answer, q, time, f, out);
     }
-    if lent_repeat::repeats(request, answer, last_of(h), f) {
+    if repeat::repeats(request, answer, last_of(h), f) {
         return repeat_request(h, request, answer, function, time, out);
     }
     answer_request(h, held, request, answer, objects, q, function, time, f, out)

@@ -8,7 +8,7 @@ use Rattle.laws.specs.Limits.{pointsMax, eventsMax, fragmentMax}
 use Rattle.control.specs.Objects.{echoMax, answerMax}
 use Rattle.points.specs.Inputs.{Inputs}
 use Rattle.select.specs.Select.{latchOf}
-use Rattle.repeat.specs.Repeat.{lastOf}
+use Rattle.repeat.specs.Repeat.{lastIn}
 use Rattle.words.specs.Numbers.{holds}
 use Rattle.point_store.specs.declared.Installed.{Installed}
 use Rattle.point_store.specs.PointWords.{inputsIn}
@@ -48,14 +48,7 @@ exchangeIn h m =
       restarted = holds (h .restarted);
       wait = waitOf h;
       last =
-          lastOf
-          (record {
-            held = holds (h .«request_kept»);
-            request = m .request;
-            «request_len» = h .«request_len»;
-            answer = m .answer;
-            «answer_len» = h .«answer_len»;
-          });
+          lastIn (m .request) (m .answer) (record { held = holds (h .«request_kept»); «request_len» = h .«request_len»; «answer_len» = h .«answer_len» });
       latch =
           latchOf
           (record {

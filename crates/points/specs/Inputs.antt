@@ -1,5 +1,6 @@
 -- The inputs as contracts see them: the installed points of each kind, in the order of their numbers.
 -- Assumes nothing.
+use Prim.Native.Nat.{ℕ}
 use mathlib.Core.Bool.{false}
 use mathlib.Core.List.{List}
 use lib.IntN.{pos}
@@ -9,13 +10,19 @@ use Rattle.points.specs.declared.WholeGate.the-variants as W
 use Rattle.points.specs.declared.Measure.the-variants as Ms
 use Rattle.points.specs.declared.BinaryPoint.{BinaryPoint}
 use Rattle.points.specs.declared.AnalogPoint.{AnalogPoint}
-use Rattle.points.specs.declared.Points.{Points}
 
 pub record Inputs : Type 0 where
   pub binaries : List BinaryPoint
   pub analogs : List AnalogPoint
 
--- a count past the array has all of it, so every value of the struct has a meaning
+-- the places of the points of each kind; the first so many are installed
+pub record Points : Type 0 where
+  pub binaries : List BinaryPoint
+  pub «binary_count» : ℕ
+  pub analogs : List AnalogPoint
+  pub «analog_count» : ℕ
+
+-- a count past the places has all of them, so that any points have a meaning
 unfoldable pub inputs : Points → Inputs
 inputs p = record { binaries = take (p .«binary_count») (p .binaries); analogs = take (p .«analog_count») (p .analogs) }
 

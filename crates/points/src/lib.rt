@@ -127,14 +127,6 @@ pub struct AnalogPoint {
 // How many binary and how many analog inputs there may be.
 pub const POINTS_MAX: usize = 64;
 
-// The inputs: the first so many of each kind are installed.
-pub struct Points {
-    pub binaries: [BinaryPoint; 64],
-    pub binary_count: usize,
-    pub analogs: [AnalogPoint; 64],
-    pub analog_count: usize,
-}
-
 // How many points of a kind are installed: a count past the array has all of it.
 pub fn installed(count: usize) -> usize
     ensures { λ r. ⌜ r ≡ min count 64 ⌝ }

@@ -1,15 +1,19 @@
 -- What a READ is answered with behind control, function and indications: "Events come first", "then static parts in the order asked".
 -- Assumes nothing.
-use Prim.Native.Nat.{ℕ, _-_}
+use mathlib.Core.Path.{_≡_}
+use Prim.Native.Nat.{ℕ, _+_, _-_}
 use mathlib.Core.List.{List, [], _++_}
 use lib.ListN.{length}
+use Rattle.octets.specs.Bytes.{splice}
 use Rattle.points.specs.Inputs.{Inputs}
 use Rattle.events.specs.declared.Classes.{Classes}
 use Rattle.events.specs.Queue.{Queue, cleared, selected}
 use Rattle.request.specs.declared.Header.{Header}
 use Rattle.request.specs.Parse.{Parsed, headers, fault, asksFor}
+use Rattle.request.specs.Plans.{planned}
 use Rattle.event_objects.specs.Events.{carriedBytes}
-use Rattle.static_objects.specs.Static.{staticBytes}
+use Rattle.static_objects.specs.Static.{staticBytes, readOf}
+use Rattle.read.specs.declared.Reply.{Reply}
 
 -- the event classes asked for
 abbrev pub classesOf : List Header → Classes
@@ -28,3 +32,12 @@ queueAfter i (fault n) q = cleared q
 abbrev pub responseObjects : Inputs → Parsed → Queue → List ℕ
 responseObjects i (headers hs) q = carriedBytes (queueAfter i (headers hs) q .held) ++ staticBytes i hs
 responseObjects i (fault n) q = []
+
+-- r is the reply to the bytes s of a READ, of the inputs i and the events q, that leaves the events q₁; the lent bytes were out and are out₁
+pub record RepliedAs (i : Inputs) (s : List ℕ) (q : Queue) (out : List ℕ) (r : Reply) (q₁ : Queue) (out₁ : List ℕ) : Type 0 where
+  -- the headers asked for, where there is no fault
+  pub asked : List Header
+  pub verdict : planned (r .verdict) asked ≡ readOf i s
+  pub events : q₁ ≡ queueAfter i (readOf i s) q
+  pub size : r .size ≡ 4 + length (responseObjects i (readOf i s) q)
+  pub bytes : out₁ ≡ splice out 4 (responseObjects i (readOf i s) q)

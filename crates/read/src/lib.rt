@@ -1,30 +1,32 @@
-// The objects of a READ's response, written into lent bytes behind the first four, and the events that it carries.
+// A READ's answer from lent words: its objects are put into lent bytes behind the first four, and the events that it carries are marked in
+// place.
 ghost use mathlib.Core.Path.{_≡_};
 ghost use mathlib.Core.List.{_++_};
 ghost use Prim.Native.Nat.{_+_, _≤_};
 ghost use lib.ListN.{length, take};
 ghost use Rattle.octets.specs.Bytes.{splice};
-ghost use Rattle.points.specs.Inputs.{inputs};
-ghost use Rattle.events.specs.Queue.{queue, selected};
-ghost use Rattle.request.specs.Parse.{headersMax};
-ghost use Rattle.request.specs.Plans.{plannedOf};
+ghost use Rattle.point_store.specs.PointWords.{inputsIn};
+ghost use Rattle.event_store.specs.EventWords.{queueIn};
 ghost use Rattle.event_objects.specs.Events.{carriedBytes};
-ghost use Rattle.static_objects.specs.Static.{staticBytes, readOf};
-ghost use Rattle.read.specs.Response.{classesOf, roomBeside, queueAfter, responseObjects};
-use events::Buffer;
+ghost use Rattle.static_objects.specs.Static.{staticBytes};
+ghost use Rattle.read.specs.Response.{classesOf, RepliedAs};
+use event_store::BufferStatus;
+use event_store::EVENT_WORDS;
 use events::Classes;
-use points::Points;
+use point_store::ANALOG_WORDS;
+use point_store::BINARY_WORDS;
+use point_store::Installed;
 use request::Plan;
 use request::Verdict;
 
-// The plan or its fault, the buffer with the carried events marked, and the size of the response.
+// Whether the READ is faultless or what its fault is, and the size of the response.
 pub struct Reply {
-    pub plan: Plan,
-    pub buffer: Buffer,
+    pub verdict: Verdict,
     pub size: usize,
 }
 
-pub fn classes(plan: Plan) -> Classes
+// The event classes that a READ asks for.
+fn classes(plan: Plan) -> Classes
     ensures { λ r. ⌜ r ≡ classesOf (take (plan .count) (plan .headers)) ⌝ }
 {
     Classes {
@@ -34,65 +36,64 @@ pub fn classes(plan: Plan) -> Classes
     }
 }
 
-// Marks the events that fit beside the static part.
-fn select(plan: Plan, p: Points, b: Buffer) -> Buffer
-    requires { ⌜ length (staticBytes (inputs p) (take (plan .count) (plan .headers))) + 4 ≤ 2048 ⌝ }
-    ensures { λ r. ⌜
-        (queue r ≡ selected (classesOf (take (plan .count) (plan .headers))) (roomBeside (inputs p) (take (plan .count) (plan .headers))) (queue b))
-        × (r .count ≡ b .count) ⌝ }
-{
-    let size = static_objects::static_size(plan, p);
-    let m = classes(plan);
-    events::select(b, m, 2044 - size)
-}
-
 // Puts the carried events and then the static part behind the first four bytes, and answers the offset after them.
-fn put_objects(out: &mut [u8], plan: Plan, p: Points, b: Buffer) -> usize
-    requires { ⌜ 4 + length (carriedBytes (queue b .held)) + length (staticBytes (inputs p) (take (plan .count) (plan .headers))) ≤ length (now out) ⌝ }
+fn put_objects(
+    out: &mut [u8],
+    plan: Plan,
+    binaries: &[u32; BINARY_WORDS],
+    analogs: &[u32; ANALOG_WORDS],
+    n: Installed,
+    held: &[u64; EVENT_WORDS],
+    status: BufferStatus,
+) -> usize
+    requires { ⌜ 4 + length (carriedBytes (queueIn (now held) status .held))
+        + length (staticBytes (inputsIn n (now binaries) (now analogs)) (take (plan .count) (plan .headers))) ≤ length (now out) ⌝ }
     ensures { λ r. ⌜
-        (r ≡ 4 + length (carriedBytes (queue b .held) ++ staticBytes (inputs p) (take (plan .count) (plan .headers))))
-        × (now (out .exit) ≡ splice (now (out .entry)) 4 (carriedBytes (queue b .held) ++ staticBytes (inputs p) (take (plan .count) (plan .headers)))) ⌝ }
+        (r ≡ 4 + length (carriedBytes (queueIn (now (held .entry)) status .held) ++ staticBytes (inputsIn n (now (binaries .entry)) (now (analogs .entry))) (take (plan .count) (plan .headers))))
+        × (now (out .exit) ≡ splice (now (out .entry)) 4 (carriedBytes (queueIn (now (held .entry)) status .held) ++ staticBytes (inputsIn n (now (binaries .entry)) (now (analogs .entry))) (take (plan .count) (plan .headers)))) ⌝ }
 {
-    let to = event_objects::put_events(out, 4, b);
-    static_objects::put_static(out, to, plan, p)
+    let to = event_objects::put_events(out, 4, held, status);
+    static_objects::put_static(out, to, plan, binaries, analogs, n)
 }
 
 // Answers a READ, of the bytes after control and function.
-pub fn respond(out: &mut [u8], s: &[u8], p: Points, b: Buffer) -> Reply
+pub fn respond(
+    out: &mut [u8],
+    s: &[u8],
+    binaries: &[u32; BINARY_WORDS],
+    analogs: &[u32; ANALOG_WORDS],
+    n: Installed,
+    held: &mut [u64; EVENT_WORDS],
+    status: BufferStatus,
+) -> Reply
     requires { ⌜ 2048 ≤ length (now out) ⌝ }
-    ensures { λ r. ⌜
-        (plannedOf (r .plan) ≡ readOf (inputs p) (now (s .entry)))
-        × (queue (r .buffer) ≡ queueAfter (inputs p) (readOf (inputs p) (now (s .entry))) (queue b))
-        × (r .size ≡ 4 + length (responseObjects (inputs p) (readOf (inputs p) (now (s .entry))) (queue b)))
-        × (now (out .exit) ≡ splice (now (out .entry)) 4 (responseObjects (inputs p) (readOf (inputs p) (now (s .entry))) (queue b)))
-        × (r .buffer .count ≡ b .count)
-        × (r .plan .count ≤ headersMax) ⌝ }
+    ensures { λ r. ⌜ RepliedAs (inputsIn n (now (binaries .entry)) (now (analogs .entry))) (now (s .entry)) (queueIn (now (held .entry)) status) (now (out .entry)) r
+        (queueIn (now (held .exit)) status) (now (out .exit)) ⌝ }
 {
-    let plan = static_objects::asked(s, p);
+    let a = static_objects::asked(s, analogs, n);
+    let plan = a.plan;
     let v = plan.verdict;
     match v {
         Verdict::Faultless => {
-            let held = select(plan, p, b);
-            let size = put_objects(out, plan, p, held);
+            let m = classes(plan);
+            event_store::select(held, status, m, 2044 - a.size);
+            let size = put_objects(out, plan, binaries, analogs, n, held, status);
             Reply {
-                plan: plan,
-                buffer: held,
+                verdict: Verdict::Faultless,
                 size: size,
             }
         }
         Verdict::ObjectUnknown => {
-            let held = events::clear(b);
+            event_store::clear(held, status);
             Reply {
-                plan: plan,
-                buffer: held,
+                verdict: Verdict::ObjectUnknown,
                 size: 4,
             }
         }
         Verdict::BadParameter => {
-            let held = events::clear(b);
+            event_store::clear(held, status);
             Reply {
-                plan: plan,
-                buffer: held,
+                verdict: Verdict::BadParameter,
                 size: 4,
             }
         }

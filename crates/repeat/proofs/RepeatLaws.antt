@@ -8,16 +8,17 @@ use borrow.Author.Tests.{eq-eqb, ne-eqb}
 use lib.ListN.{take}
 use Rattle.laws.specs.Lists.{same}
 use Rattle.application.specs.Fragment.{functionOf}
-use Rattle.repeat.specs.declared.Last.{Last}
-use Rattle.repeat.specs.Repeat.{nothing, kept, lastOf, isRepeat}
+use Rattle.repeat.specs.declared.LastLengths.{LastLengths}
+use Rattle.repeat.specs.Repeat.{nothing, kept, lastIn, isRepeat}
 
-pub last-none : (m : Last) → m .held ≡ false → lastOf m ≡ nothing
-unfolding lastOf
-last-none m h = rw h
+module _ (request answer : List ℕ) (n : LastLengths) where
+  pub last-none : n .held ≡ false → lastIn request answer n ≡ nothing
+  unfolding lastIn
+  last-none h = rw h
 
-pub last-held : (m : Last) → m .held ≡ true → lastOf m ≡ kept (take (m .«request_len») (m .request)) (take (m .«answer_len») (m .answer))
-unfolding lastOf
-last-held m h = rw h
+  pub last-held : n .held ≡ true → lastIn request answer n ≡ kept (take (n .«request_len») request) (take (n .«answer_len») answer)
+  unfolding lastIn
+  last-held h = rw h
 
 pub repeat-none : (f : List ℕ) → isRepeat nothing f ≡ false
 unfolding isRepeat

@@ -7,16 +7,16 @@ use lib.ListN.{take}
 use lib.Dec.{eqb}
 use Rattle.laws.specs.Lists.{all, same}
 use Rattle.application.specs.Fragment.{functionOf}
-use Rattle.repeat.specs.declared.Last.{Last}
+use Rattle.repeat.specs.declared.LastLengths.{LastLengths}
 
 -- none yet, or the last accepted request with its answer (no bytes where none was sent)
 pub data Memory : Type 0 where
   nothing : Memory
   kept : List ℕ → List ℕ → Memory
 
--- what the code keeps
-unfoldable pub lastOf : Last → Memory
-lastOf m = cond (m .held) (kept (take (m .«request_len») (m .request)) (take (m .«answer_len») (m .answer))) nothing
+-- what lent bytes and lengths stand for. Any stand for some
+unfoldable pub lastIn : (request answer : List ℕ) → LastLengths → Memory
+lastIn request answer n = cond (n .held) (kept (take (n .«request_len») request) (take (n .«answer_len») answer)) nothing
 
 -- "A request equal in every byte to the last accepted request, not a READ, is a repeat"
 unfoldable pub isRepeat : Memory → List ℕ → Bool

@@ -1,82 +1,95 @@
-// The last accepted request and its answer: a repeat is told by them, and answered by them.
+// The last accepted request and its answer in bytes that the host lends: a repeat is told by them, and answered by them.
 ghost use mathlib.Core.Path.{_≡_};
-ghost use Prim.Native.Nat.{_≤_};
+ghost use mathlib.Core.List.{List};
+ghost use Prim.Native.Nat.{ℕ, _≤_};
 ghost use lib.ListN.{length};
 ghost use Rattle.octets.specs.Bytes.{splice};
 ghost use Rattle.laws.specs.Limits.{fragmentMax};
 ghost use Rattle.control.specs.Objects.{answerMax};
-ghost use Rattle.repeat.specs.Repeat.{nothing, kept, lastOf, isRepeat, answerOf};
+ghost use Rattle.repeat.specs.Repeat.{nothing, kept, lastIn, isRepeat, answerOf};
 use application::FRAGMENT_MAX;
 use control::ANSWER_MAX;
 
-// None yet, or the last accepted request with its answer. An answer of no bytes: none was sent.
-pub struct Last {
+// Whether there is a last request, and how many of the lent bytes it and its answer have. An answer of no bytes: none was sent.
+pub struct LastLengths {
     pub held: bool,
-    pub request: [u8; FRAGMENT_MAX],
     pub request_len: usize,
-    pub answer: [u8; ANSWER_MAX],
     pub answer_len: usize,
 }
 
-// After a restart there is no last request.
-pub fn none() -> Last
-    ensures { λ r. ⌜ (lastOf r ≡ nothing) × (r .«request_len» ≤ fragmentMax) × (r .«answer_len» ≤ answerMax) ⌝ }
+// After a restart there is no last request, whatever the lent bytes are.
+pub fn none() -> LastLengths
+    ensures { λ r. ⌜
+        ((request answer : List ℕ) → lastIn request answer r ≡ nothing) × (r .«request_len» ≡ 0) × (r .«answer_len» ≡ 0) ⌝ }
 {
-    let request = [0u8; FRAGMENT_MAX];
-    let answer = [0u8; ANSWER_MAX];
-    Last {
+    LastLengths {
         held: false,
-        request: request,
         request_len: 0,
-        answer: answer,
         answer_len: 0,
     }
 }
 
 // Keeps an accepted request and its answer.
-pub fn remember(f: &[u8], a: &[u8]) -> Last
+pub fn remember(
+    request: &mut [u8; FRAGMENT_MAX],
+    answer: &mut [u8; ANSWER_MAX],
+    f: &[u8],
+    a: &[u8],
+) -> LastLengths
     requires { ⌜ (length (now f) ≤ fragmentMax) × (length (now a) ≤ answerMax) ⌝ }
-    ensures { λ r. ⌜ (lastOf r ≡ kept (now (f .entry)) (now (a .entry))) × (r .«request_len» ≤ fragmentMax) × (r .«answer_len» ≤ answerMax) ⌝ }
+    ensures { λ r. ⌜
+        (lastIn (now (request .exit)) (now (answer .exit)) r ≡ kept (now (f .entry)) (now (a .entry)))
+        × (r .«request_len» ≡ length (now (f .entry)))
+        × (r .«answer_len» ≡ length (now (a .entry))) ⌝ }
 {
-    let mut request = [0u8; FRAGMENT_MAX];
-    octets::copy(&mut request, 0, f);
-    let mut answer = [0u8; ANSWER_MAX];
-    octets::copy(&mut answer, 0, a);
-    Last {
+    octets::copy(request, 0, f);
+    octets::copy(answer, 0, a);
+    LastLengths {
         held: true,
-        request: request,
         request_len: f.len(),
-        answer: answer,
         answer_len: a.len(),
     }
 }
 
 // Whether a request is a repeat.
-pub fn repeats(m: Last, f: &[u8]) -> bool
+pub fn repeats(
+    request: &[u8; FRAGMENT_MAX],
+    answer: &[u8; ANSWER_MAX],
+    lengths: LastLengths,
+    f: &[u8],
+) -> bool
     requires { ⌜ 2 ≤ length (now f) ⌝ }
-    ensures { λ r. ⌜ r ≡ isRepeat (lastOf m) (now (f .entry)) ⌝ }
+    ensures { λ r. ⌜ r ≡ isRepeat (lastIn (now (request .entry)) (now (answer .entry)) lengths) (now (f .entry)) ⌝ }
 {
-    if !m.held {
+    if !lengths.held {
         return false;
     }
     if f[1] == 1 {
         return false;
     }
-    let request = m.request;
-    let n = octets::least(m.request_len, FRAGMENT_MAX);
-    application::equal(f, &request[..n])
+    let n = octets::least(lengths.request_len, FRAGMENT_MAX);
+    let whole = &request[..];
+    application::equal(f, &whole[..n])
 }
 
 // Puts the kept answer at the front of the lent bytes, and says its length.
-pub fn answer_again(m: Last, out: &mut [u8]) -> usize
+pub fn answer_again(
+    request: &[u8; FRAGMENT_MAX],
+    answer: &[u8; ANSWER_MAX],
+    lengths: LastLengths,
+    out: &mut [u8],
+) -> usize
     requires { ⌜ answerMax ≤ length (now out) ⌝ }
-    ensures { λ r. ⌜ (now (out .exit) ≡ splice (now (out .entry)) 0 (answerOf (lastOf m))) × (r ≡ length (answerOf (lastOf m))) ⌝ }
+    ensures { λ r. ⌜
+        (now (out .exit) ≡ splice (now (out .entry)) 0 (answerOf (lastIn (now (request .entry)) (now (answer .entry)) lengths)))
+        × (r ≡ length (answerOf (lastIn (now (request .entry)) (now (answer .entry)) lengths)))
+        × (r ≤ answerMax) ⌝ }
 {
-    if !m.held {
+    if !lengths.held {
         return 0;
     }
-    let answer = m.answer;
-    let n = octets::least(m.answer_len, ANSWER_MAX);
-    octets::copy(out, 0, &answer[..n]);
+    let n = octets::least(lengths.answer_len, ANSWER_MAX);
+    let whole = &answer[..];
+    octets::copy(out, 0, &whole[..n]);
     n
 }

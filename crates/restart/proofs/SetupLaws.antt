@@ -15,7 +15,7 @@ use Rattle.points.specs.Setup.{classOk, analogOk, freshBinary, freshAnalog}
 use Rattle.points.specs.Inputs.{inputs}
 use Rattle.events.specs.Queue.{queue}
 use Rattle.select.specs.Select.{latchOf}
-use Rattle.repeat.specs.Repeat.{lastOf}
+use Rattle.repeat.specs.Repeat.{lastIn}
 use Rattle.outstation.specs.Setup.{setupOk, binaryClasses, analogSetups}
 use Rattle.outstation.specs.World.{restarted, bareSetup, freshExchange}
 use Rattle.outstation.proofs.SetupLaws.{bounds}
@@ -98,7 +98,7 @@ module _ (s : SetupWords) (classes : List ℕ) (setups : List AnalogSetupWords) 
       → take (length setups) (analogsIn ps) ≡ map (λ w. freshAnalog (analogSetupOf w)) setups
       → worldOf (freshHead (s .«arm_time») (s .«confirm_time») (s .outputs) (length classes) (length setups)) (withWords (record { binaries = bs; analogs = ps; held = m .held }) m)
       ≡ restarted (setupOf s classes setups)
-  unfolding restarted inputs queue waitOf lastOf latchOf binaryClasses analogSetups
+  unfolding restarted inputs queue waitOf lastIn latchOf binaryClasses analogSetups
   fresh-world bs ps m b p =
       λ k.
       record {
@@ -119,7 +119,7 @@ module _ (s : SetupWords) (classes : List ℕ) (setups : List AnalogSetupWords) 
 
 pub bare-world : (bs ps : List ℕ) (m : Lent)
     → worldOf (freshHead 0 0 0 0 0) (withWords (record { binaries = bs; analogs = ps; held = m .held }) m) ≡ restarted bareSetup
-unfolding restarted inputs queue waitOf lastOf latchOf binaryClasses analogSetups
+unfolding restarted inputs queue waitOf lastIn latchOf binaryClasses analogSetups
 bare-world bs ps m = refl
 
 -- no count passes its array

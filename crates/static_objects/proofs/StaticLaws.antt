@@ -1,25 +1,18 @@
 -- Laws of static objects: their number of bytes, and how they are put.
 -- Assumes nothing.
 use mathlib.Core.Path.{_≡_, refl, sym, ap, _∙_}
-use mathlib.Core.Bool.{Bool, true, false, cond}
+use mathlib.Core.Bool.{Bool, false}
 use mathlib.Core.List.{List, [], _∷_, _++_, append-nil}
-use Prim.Native.Nat.{ℕ, zero, suc, _+_, _-_, _≤_, _<_, min}
+use Prim.Native.Nat.{ℕ, zero, suc, _+_, _-_, _≤_, _<_}
 use native.Mathlib.Omega.{arith}
-use borrow.Author.Tests.{ltb-true, ltb-false}
-use lib.Dec.{ltb}
-use lib.ListN.{length, take, getD, set, length-append}
-use Rattle.laws.proofs.Choices.{split}
-use Rattle.laws.proofs.Counted.{counted, read-in, read-out}
+use lib.ListN.{length, set, length-append}
 use Rattle.octets.specs.Bytes.{splice, le}
 use Rattle.octets.proofs.Splice.{splice-append, splice-cons, splice-one, splice-nil, length-splice}
 use Rattle.octets.proofs.Le.{length-le}
-use Rattle.points.specs.Inputs.{Inputs, inputs, noBinary, noAnalog}
+use Rattle.points.specs.Inputs.{Inputs}
 use Rattle.points.specs.declared.Value.{Value}
 use Rattle.points.specs.declared.Value.the-variants.{Long, Short, Real}
-use Rattle.points.specs.declared.BinaryPoint.{BinaryPoint}
-use Rattle.points.specs.declared.AnalogPoint.{AnalogPoint}
-use Rattle.points.specs.declared.Points.{Points}
-use Rattle.objects.specs.Values.{valueBytes, valueSize, stateByte}
+use Rattle.objects.specs.Values.{valueBytes, valueSize}
 use Rattle.objects.proofs.ValueLaws.{length-value}
 use Rattle.objects.specs.Runs.{Object, runs, objectBytes, allBytes, encoded, lead}
 use Rattle.objects.proofs.RunLaws.{lead-nil, lead-other}
@@ -27,42 +20,6 @@ use Rattle.objects.proofs.WriterLaws.{three-put}
 use Rattle.static_objects.specs.declared.Shown.{Shown}
 use Rattle.static_objects.specs.declared.Shown.the-variants.{Binary, Analog}
 use Rattle.static_objects.specs.Static.{shownAt, variationOf, pointBytes, staticHeading, pointObject, pointObjects, rangeBytes}
-
--- ---- what a point shows, installed or not
-
-pub binaries-count : (p : Points) (n : ℕ) → length (p .binaries) ≡ 64 → n ≡ min (p .«binary_count») 64 → n ≡ length (inputs p .binaries)
-unfolding inputs
-binaries-count p n slots e = e ∙ sym (counted (p .binaries) 64 (p .«binary_count») slots)
-
-pub analogs-count : (p : Points) (n : ℕ) → length (p .analogs) ≡ 64 → n ≡ min (p .«analog_count») 64 → n ≡ length (inputs p .analogs)
-unfolding inputs
-analogs-count p n slots e = e ∙ sym (counted (p .analogs) 64 (p .«analog_count») slots)
-
--- a point read at its slot, or at the last one where there is none: only an installed point is shown
-slot-read : {A B : Type 0} (show : A → B) (l : List A) (d : A) (c n i j : ℕ) → length l ≡ 64 → n ≡ min c 64 → j ≡ min i 63
-    → cond (ltb i n) (show (getD l j d)) (show d) ≡ show (getD (take c l) i d)
-slot-read show l d c n i j slots hn hj =
-    split (λ z. z ≡ show (getD (take c l) i d)) (ltb i n)
-    (λ t.
-    let below : i < n = ltb-true i n t in
-    let q : j ≡ i = omega arith in
-    ap (λ k. show (getD l k d)) q ∙ ap show (read-in l 64 c slots i d (omega arith)))
-    (λ t.
-    let past : n ≤ i = ltb-false i n t in
-    ap show (read-out l 64 c slots i d (omega arith)))
-
-module _ (p : Points) (i n j : ℕ) (hj : j ≡ min i 63) (s : Shown) where
-  pub binary-read : length (p .binaries) ≡ 64 → n ≡ min (p .«binary_count») 64
-      → s ≡ cond (ltb i n) (Binary (stateByte (getD (p .binaries) j noBinary .state) (getD (p .binaries) j noBinary .flags))) (Binary 0)
-      → s ≡ shownAt (inputs p) false i
-  unfolding inputs
-  binary-read slots hn e = e ∙ slot-read (λ (b : BinaryPoint). Binary (stateByte (b .state) (b .flags))) (p .binaries) noBinary (p .«binary_count») n i j slots hn hj
-
-  pub analog-read : length (p .analogs) ≡ 64 → n ≡ min (p .«analog_count») 64
-      → s ≡ cond (ltb i n) (Analog (getD (p .analogs) j noAnalog .flags) (getD (p .analogs) j noAnalog .value)) (Analog (noAnalog .flags) (noAnalog .value))
-      → s ≡ shownAt (inputs p) true i
-  unfolding inputs
-  analog-read slots hn e = e ∙ slot-read (λ (a : AnalogPoint). Analog (a .flags) (a .value)) (p .analogs) noAnalog (p .«analog_count») n i j slots hn hj
 
 -- ---- putting
 

@@ -1,75 +1,51 @@
-// The static part of a response, written into lent bytes.
+// The static part of a response, written from points in lent words into lent bytes. Its size is worked out once, for the test and for the
+// room that is left to events.
 ghost use mathlib.Core.Path.{_≡_};
 ghost use mathlib.Core.Bool.{true, false, cond};
-ghost use mathlib.Core.List.{[]};
-ghost use Prim.Native.Nat.{ℕ, _+_, _*_, _≤_, _<_, min};
-ghost use lib.Dec.{eqb, ltb};
+ghost use mathlib.Core.List.{List, []};
+ghost use Prim.Native.Nat.{ℕ, _+_, _*_, _≤_, _<_};
+ghost use lib.Dec.{eqb};
 ghost use lib.ListN.{length, take};
 ghost use Rattle.octets.specs.Bytes.{splice};
-ghost use Rattle.points.specs.Inputs.{Inputs, inputs, noAnalog};
-ghost use Rattle.objects.specs.Values.{stateByte};
+ghost use Rattle.points.specs.Inputs.{Inputs};
 ghost use Rattle.objects.specs.Runs.{objectBytes};
 ghost use Rattle.request.specs.Parse.{headersMax};
 ghost use Rattle.request.specs.Plans.{plannedOf};
-ghost use Rattle.static_objects.specs.declared.Shown.the-variants.{Binary, Analog};
+ghost use Rattle.point_store.specs.PointWords.{inputsIn};
 ghost use Rattle.static_objects.specs.Static.{
   groupOf,
   variationOf,
   pointBytes,
   staticHeading,
+  shownAt,
   pointObjects,
   rangeBytes,
   headerBytes,
   staticBytes,
   readOf,
 };
-use points::AnalogPoint;
-use points::BinaryPoint;
-use points::Points;
+ghost use Rattle.static_objects.specs.Alone.{binariesAlone, analogsAlone};
+use point_store::ANALOG_WORDS;
+use point_store::BINARY_WORDS;
+use point_store::Installed;
 use points::Value;
 use request::Header;
 use request::Plan;
 use request::Verdict;
 
 // What a point shows: a binary's flags with its state, or an analog's flags and value.
-pub enum Shown {
+enum Shown {
     Binary(u8),
     Analog(u8, Value),
 }
 
-// A point's place in its array; past its end the last place, whose point is then not shown.
-fn slot(i: usize) -> usize
-    ensures { λ r. ⌜ r ≡ min i 63 ⌝ }
-{
-    if i < points::POINTS_MAX {
-        i
-    } else {
-        points::POINTS_MAX - 1
-    }
+// What a READ asks for, or its fault, and the bytes of the static part of its headers.
+pub struct SizedPlan {
+    pub plan: Plan,
+    pub size: usize,
 }
 
-// What the i-th binary shows, of so many installed.
-fn binary_shown(b: BinaryPoint, i: usize, count: usize) -> Shown
-    ensures { λ r. ⌜ r ≡ cond (ltb i count) (Binary (stateByte (b .state) (b .flags))) (Binary 0) ⌝ }
-{
-    if i < count {
-        Shown::Binary(objects::state_byte(b.state, b.flags))
-    } else {
-        Shown::Binary(0)
-    }
-}
-
-// What the i-th analog shows, of so many installed.
-fn analog_shown(a: AnalogPoint, i: usize, count: usize) -> Shown
-    ensures { λ r. ⌜ r ≡ cond (ltb i count) (Analog (a .flags) (a .value)) (Analog (noAnalog .flags) (noAnalog .value)) ⌝ }
-{
-    if i < count {
-        let v = a.value;
-        Shown::Analog(a.flags, v)
-    } else {
-        Shown::Analog(0, Value::Long(0))
-    }
-}
+// ---- one point, and one header
 
 fn group(analog: bool) -> u8
     ensures { λ r. ⌜ r ≡ groupOf analog ⌝ }
@@ -77,7 +53,7 @@ fn group(analog: bool) -> u8
     if analog { 30 } else { 1 }
 }
 
-pub fn variation(s: Shown) -> u8
+fn variation(s: Shown) -> u8
     ensures { λ r. ⌜ r ≡ variationOf s ⌝ }
 {
     match s {
@@ -91,7 +67,7 @@ pub fn variation(s: Shown) -> u8
 }
 
 // The bytes of what a point shows.
-pub fn size(s: Shown) -> usize
+fn size(s: Shown) -> usize
     ensures { λ r. ⌜ (r ≡ length (pointBytes s)) × (r ≤ 5) ⌝ }
 {
     match s {
@@ -105,7 +81,7 @@ pub fn size(s: Shown) -> usize
 }
 
 // Puts a header of the point `first` and m more at the offset, and answers the offset after it.
-pub fn put_heading(
+fn put_heading(
     out: &mut [u8],
     at: usize,
     analog: bool,
@@ -127,7 +103,7 @@ pub fn put_heading(
 }
 
 // Puts what a point shows at the offset, and answers the offset after it.
-pub fn put_point(out: &mut [u8], at: usize, s: Shown) -> usize
+fn put_point(out: &mut [u8], at: usize, s: Shown) -> usize
     requires { ⌜ at + length (pointBytes s) ≤ length (now out) ⌝ }
     ensures { λ r. ⌜
         (r ≡ at + length (pointBytes s))
@@ -145,30 +121,59 @@ pub fn put_point(out: &mut [u8], at: usize, s: Shown) -> usize
     }
 }
 
+// ---- what the i-th point shows, of so many installed
+
+fn binary_shown(ws: &[u32; BINARY_WORDS], count: usize, i: usize) -> Shown
+    ensures { λ r. ⌜ r ≡ shownAt (binariesAlone count (now (ws .entry))) false i ⌝ }
+{
+    if i < points::installed(count) {
+        let b = point_store::load_binary(ws, i);
+        Shown::Binary(objects::state_byte(b.state, b.flags))
+    } else {
+        Shown::Binary(0)
+    }
+}
+
+fn analog_shown(ws: &[u32; ANALOG_WORDS], count: usize, i: usize) -> Shown
+    ensures { λ r. ⌜ r ≡ shownAt (analogsAlone count (now (ws .entry))) true i ⌝ }
+{
+    if i < points::installed(count) {
+        let a = point_store::load_shown(ws, i);
+        let v = a.value;
+        Shown::Analog(a.flags, v)
+    } else {
+        Shown::Analog(0, Value::Long(0))
+    }
+}
+
 // ---- binaries: all of one variation, so one header
 
 // The bytes that n binaries take.
-pub fn binaries_size(n: usize) -> usize
+fn binaries_size(n: usize) -> usize
     requires { ⌜ n < 200000 ⌝ }
     ensures { λ r. ⌜ ((i : Inputs) (from : ℕ) → r ≡ length (rangeBytes i false from n)) × (r ≤ 7 + n) ⌝ }
 {
     if n == 0 { 0 } else { 7 + n }
 }
 
-// Puts the bytes of n binaries from `from` on at the offset, with no header. The loop reads the array itself: a function that it
-// handed the points to would copy them at each call.
-fn put_states(out: &mut [u8], at: usize, p: Points, from: usize, n: usize)
+// Puts the bytes of n binaries from `from` on at the offset, with no header.
+fn put_states(
+    out: &mut [u8],
+    at: usize,
+    ws: &[u32; BINARY_WORDS],
+    count: usize,
+    from: usize,
+    n: usize,
+)
     requires { ⌜ (at + n ≤ length (now out)) × (from + n < 200000) ⌝ }
-    ensures { λ _. ⌜ now (out .exit) ≡ splice (now (out .entry)) at (objectBytes (pointObjects (inputs p) false from n)) ⌝ }
+    ensures { λ _. ⌜ now (out .exit) ≡
+        splice (now (out .entry)) at (objectBytes (pointObjects (binariesAlone count (now (ws .entry))) false from n)) ⌝ }
 {
-    let count = points::installed(p.binary_count);
     let mut to = at;
     let mut i = from;
     let mut left = n;
     while 0 < left {
-        let j = slot(i);
-        let b = p.binaries[j];
-        let s = binary_shown(b, i, count);
+        let s = binary_shown(ws, count, i);
         to = put_point(out, to, s);
         i += 1;
         left -= 1;
@@ -176,36 +181,42 @@ fn put_states(out: &mut [u8], at: usize, p: Points, from: usize, n: usize)
 }
 
 // Puts n binaries from `from` on at the offset, and answers the offset after them.
-fn put_binaries(out: &mut [u8], at: usize, p: Points, from: usize, n: usize) -> usize
-    requires { ⌜ (at + length (rangeBytes (inputs p) false from n) ≤ length (now out)) × (from + n < 200000) ⌝ }
+fn put_binaries(
+    out: &mut [u8],
+    at: usize,
+    ws: &[u32; BINARY_WORDS],
+    count: usize,
+    from: usize,
+    n: usize,
+) -> usize
+    requires { ⌜
+        (at + length (rangeBytes (binariesAlone count (now ws)) false from n) ≤ length (now out))
+        × (from + n < 200000) ⌝ }
     ensures { λ r. ⌜
-        (r ≡ at + length (rangeBytes (inputs p) false from n))
-        × (now (out .exit) ≡ splice (now (out .entry)) at (rangeBytes (inputs p) false from n)) ⌝ }
+        (r ≡ at + length (rangeBytes (binariesAlone count (now (ws .entry))) false from n))
+        × (now (out .exit) ≡ splice (now (out .entry)) at (rangeBytes (binariesAlone count (now (ws .entry))) false from n)) ⌝ }
 {
     if n == 0 {
         return at;
     }
     let to = put_heading(out, at, false, 2, from, n - 1);
-    put_states(out, to, p, from, n);
+    put_states(out, to, ws, count, from, n);
     to + n
 }
 
 // ---- analogs: a header where the variation changes
 
 // The bytes that n analogs from `from` on take.
-fn analogs_size(p: Points, from: usize, n: usize) -> usize
+fn analogs_size(ws: &[u32; ANALOG_WORDS], count: usize, from: usize, n: usize) -> usize
     requires { ⌜ from + n < 200000 ⌝ }
-    ensures { λ r. ⌜ (r ≡ length (rangeBytes (inputs p) true from n)) × (r ≤ 12 * n) ⌝ }
+    ensures { λ r. ⌜ (r ≡ length (rangeBytes (analogsAlone count (now (ws .entry))) true from n)) × (r ≤ 12 * n) ⌝ }
 {
-    let count = points::installed(p.analog_count);
     let mut total: usize = 0;
     let mut last: u8 = 0;
     let mut i = from;
     let mut left = n;
     while 0 < left {
-        let j = slot(i);
-        let a = p.analogs[j];
-        let s = analog_shown(a, i, count);
+        let s = analog_shown(ws, count, i);
         let k = variation(s);
         let bytes = size(s);
         i += 1;
@@ -221,7 +232,7 @@ fn analogs_size(p: Points, from: usize, n: usize) -> usize
 }
 
 // Puts the header of a run that ends, of the point `first` and m more. The variation 0 stands for no run.
-pub fn end_run(out: &mut [u8], at: usize, variation: u8, first: usize, m: usize)
+fn end_run(out: &mut [u8], at: usize, variation: u8, first: usize, m: usize)
     requires { ⌜
         (at + length (cond (eqb variation 0) [] (staticHeading true variation first (m + 1))) ≤ length (now out))
         × (first + m < 200000) ⌝ }
@@ -235,13 +246,21 @@ pub fn end_run(out: &mut [u8], at: usize, variation: u8, first: usize, m: usize)
 
 // Puts n analogs from `from` on at the offset, and answers the offset after them. A header holds the last index of its run, so its
 // place is left free until the run ends.
-fn put_analogs(out: &mut [u8], at: usize, p: Points, from: usize, n: usize) -> usize
-    requires { ⌜ (at + length (rangeBytes (inputs p) true from n) ≤ length (now out)) × (from + n < 200000) ⌝ }
+fn put_analogs(
+    out: &mut [u8],
+    at: usize,
+    ws: &[u32; ANALOG_WORDS],
+    count: usize,
+    from: usize,
+    n: usize,
+) -> usize
+    requires { ⌜
+        (at + length (rangeBytes (analogsAlone count (now ws)) true from n) ≤ length (now out))
+        × (from + n < 200000) ⌝ }
     ensures { λ r. ⌜
-        (r ≡ at + length (rangeBytes (inputs p) true from n))
-        × (now (out .exit) ≡ splice (now (out .entry)) at (rangeBytes (inputs p) true from n)) ⌝ }
+        (r ≡ at + length (rangeBytes (analogsAlone count (now (ws .entry))) true from n))
+        × (now (out .exit) ≡ splice (now (out .entry)) at (rangeBytes (analogsAlone count (now (ws .entry))) true from n)) ⌝ }
 {
-    let count = points::installed(p.analog_count);
     let mut to = at;
     let mut run = at;
     let mut last: u8 = 0;
@@ -250,9 +269,7 @@ fn put_analogs(out: &mut [u8], at: usize, p: Points, from: usize, n: usize) -> u
     let mut i = from;
     let mut left = n;
     while 0 < left {
-        let j = slot(i);
-        let a = p.analogs[j];
-        let s = analog_shown(a, i, count);
+        let s = analog_shown(ws, count, i);
         let k = variation(s);
         let here = i;
         i += 1;
@@ -273,83 +290,128 @@ fn put_analogs(out: &mut [u8], at: usize, p: Points, from: usize, n: usize) -> u
     to
 }
 
-// ---- the headers of a request
+// ---- the headers of a request. A size reads no binary, and is the same whatever their words are: (b : List ℕ) → …
 
-fn header_size(h: Header, p: Points) -> usize
-    ensures { λ r. ⌜ (r ≡ length (headerBytes (inputs p) h)) × (r ≤ 1600000) ⌝ }
+fn header_size(h: Header, analogs: &[u32; ANALOG_WORDS], n: Installed) -> usize
+    ensures { λ r. ⌜ ((b : List ℕ) → r ≡ length (headerBytes (inputsIn n b (now (analogs .entry))) h)) × (r ≤ 1600000) ⌝ }
 {
-    let binaries = binaries_size(h.binaries as usize);
-    let analogs = analogs_size(p, h.analog as usize, h.analogs as usize);
-    binaries + analogs
+    let binary_bytes = binaries_size(h.binaries as usize);
+    let analog_bytes = analogs_size(analogs, n.analogs, h.analog as usize, h.analogs as usize);
+    binary_bytes + analog_bytes
 }
 
-fn put_header(out: &mut [u8], at: usize, h: Header, p: Points) -> usize
-    requires { ⌜ at + length (headerBytes (inputs p) h) ≤ length (now out) ⌝ }
+fn put_header(
+    out: &mut [u8],
+    at: usize,
+    h: Header,
+    binaries: &[u32; BINARY_WORDS],
+    analogs: &[u32; ANALOG_WORDS],
+    n: Installed,
+) -> usize
+    requires { ⌜ at + length (headerBytes (inputsIn n (now binaries) (now analogs)) h) ≤ length (now out) ⌝ }
     ensures { λ r. ⌜
-        (r ≡ at + length (headerBytes (inputs p) h))
-        × (now (out .exit) ≡ splice (now (out .entry)) at (headerBytes (inputs p) h)) ⌝ }
+        (r ≡ at + length (headerBytes (inputsIn n (now (binaries .entry)) (now (analogs .entry))) h))
+        × (now (out .exit) ≡ splice (now (out .entry)) at (headerBytes (inputsIn n (now (binaries .entry)) (now (analogs .entry))) h)) ⌝ }
 {
-    let to = put_binaries(out, at, p, h.binary as usize, h.binaries as usize);
-    put_analogs(out, to, p, h.analog as usize, h.analogs as usize)
+    let to = put_binaries(
+        out,
+        at,
+        binaries,
+        n.binaries,
+        h.binary as usize,
+        h.binaries as usize,
+    );
+    put_analogs(
+        out,
+        to,
+        analogs,
+        n.analogs,
+        h.analog as usize,
+        h.analogs as usize,
+    )
 }
 
 // The bytes of the static part.
-pub fn static_size(plan: Plan, p: Points) -> usize
+fn static_size(plan: Plan, analogs: &[u32; ANALOG_WORDS], n: Installed) -> usize
     ensures { λ r. ⌜
-        (r ≡ length (staticBytes (inputs p) (take (plan .count) (plan .headers))))
+        ((b : List ℕ) → r ≡ length (staticBytes (inputsIn n b (now (analogs .entry))) (take (plan .count) (plan .headers))))
         × (r ≤ 25600000) ⌝ }
 {
-    let n = request::filled(plan.count);
+    let stop = request::filled(plan.count);
     let mut total: usize = 0;
     let mut i: usize = 0;
-    while i < n {
+    while i < stop {
         let h = plan.headers[i];
-        total += header_size(h, p);
+        total += header_size(h, analogs, n);
         i += 1;
     }
     total
 }
 
 // Puts the static part at the offset, and answers the offset after it.
-pub fn put_static(out: &mut [u8], at: usize, plan: Plan, p: Points) -> usize
-    requires { ⌜ at + length (staticBytes (inputs p) (take (plan .count) (plan .headers))) ≤ length (now out) ⌝ }
+pub fn put_static(
+    out: &mut [u8],
+    at: usize,
+    plan: Plan,
+    binaries: &[u32; BINARY_WORDS],
+    analogs: &[u32; ANALOG_WORDS],
+    n: Installed,
+) -> usize
+    requires { ⌜ at + length (staticBytes (inputsIn n (now binaries) (now analogs)) (take (plan .count) (plan .headers))) ≤ length (now out) ⌝ }
     ensures { λ r. ⌜
-        (r ≡ at + length (staticBytes (inputs p) (take (plan .count) (plan .headers))))
-        × (now (out .exit) ≡ splice (now (out .entry)) at (staticBytes (inputs p) (take (plan .count) (plan .headers)))) ⌝ }
+        (r ≡ at + length (staticBytes (inputsIn n (now (binaries .entry)) (now (analogs .entry))) (take (plan .count) (plan .headers))))
+        × (now (out .exit) ≡ splice (now (out .entry)) at (staticBytes (inputsIn n (now (binaries .entry)) (now (analogs .entry))) (take (plan .count) (plan .headers)))) ⌝ }
 {
-    let n = request::filled(plan.count);
+    let stop = request::filled(plan.count);
     let mut to = at;
     let mut i: usize = 0;
-    while i < n {
+    while i < stop {
         let h = plan.headers[i];
-        to = put_header(out, to, h, p);
+        to = put_header(out, to, h, binaries, analogs, n);
         i += 1;
     }
     to
 }
 
 // What a READ asks for, or its fault, of the bytes after control and function.
-pub fn asked(s: &[u8], p: Points) -> Plan
-    ensures { λ r. ⌜ (plannedOf r ≡ readOf (inputs p) (now (s .entry))) × (r .count ≤ headersMax) ⌝ }
+pub fn asked(s: &[u8], analogs: &[u32; ANALOG_WORDS], n: Installed) -> SizedPlan
+    ensures { λ r. ⌜
+        ((b : List ℕ) → plannedOf (r .plan) ≡ readOf (inputsIn n b (now (analogs .entry))) (now (s .entry)))
+        × ((b : List ℕ) → r .size ≡ length (staticBytes (inputsIn n b (now (analogs .entry))) (take (r .plan .count) (r .plan .headers))))
+        × (r .plan .count ≤ headersMax) ⌝ }
 {
-    let binaries = points::installed(p.binary_count) as u16;
-    let analogs = points::installed(p.analog_count) as u16;
-    let plan = request::headers(s, binaries, analogs);
+    let binary_count = points::installed(n.binaries) as u16;
+    let analog_count = points::installed(n.analogs) as u16;
+    let plan = request::headers(s, binary_count, analog_count);
+    let size = static_size(plan, analogs, n);
     let v = plan.verdict;
     match v {
         Verdict::Faultless => {
-            if 2048 < static_size(plan, p) + 4 {
+            if 2048 < size + 4 {
                 let headers = plan.headers;
-                Plan {
+                let over = Plan {
                     verdict: Verdict::BadParameter,
                     headers: headers,
                     count: plan.count,
+                };
+                SizedPlan {
+                    plan: over,
+                    size: size,
                 }
             } else {
-                plan
+                SizedPlan {
+                    plan: plan,
+                    size: size,
+                }
             }
         }
-        Verdict::ObjectUnknown => plan,
-        Verdict::BadParameter => plan,
+        Verdict::ObjectUnknown => SizedPlan {
+            plan: plan,
+            size: size,
+        },
+        Verdict::BadParameter => SizedPlan {
+            plan: plan,
+            size: size,
+        },
     }
 }

@@ -6,7 +6,7 @@ use Prim.Native.Nat.{ℕ}
 use Rattle.laws.proofs.Filling.{to-end}
 use Rattle.point_store.specs.PointWords.{inputsIn}
 use Rattle.event_store.specs.EventWords.{queueIn}
-use Rattle.lent_read.specs.LentResponse.{RepliedAs}
+use Rattle.read.specs.Response.{RepliedAs}
 use Rattle.outstation.specs.Lent.{installedOf}
 use Rattle.fragments.proofs.LentGivenLaws.{read-in}
 use borrow.Author.Needs.{needs}

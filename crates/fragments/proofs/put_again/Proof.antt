@@ -5,9 +5,8 @@ use native.Mathlib.Omega.{arith}
 use borrow.Author.Tests.{eq-eqb, ne-eqb}
 use lib.ListN.{length}
 use Rattle.octets.specs.Bytes.{splice}
-use Rattle.repeat.specs.Repeat.{answerOf}
-use Rattle.lent_repeat.specs.declared.LastLengths.{LastLengths}
-use Rattle.lent_repeat.specs.LentLast.{lastIn}
+use Rattle.repeat.specs.Repeat.{answerOf, lastIn}
+use Rattle.repeat.specs.declared.LastLengths.{LastLengths}
 use borrow.Author.Needs.{needs}
 use Rattle.fragments.proofs.put_again.Statement.{statement}
 use Rattle.fragments.proofs.put_again.Tie as tie

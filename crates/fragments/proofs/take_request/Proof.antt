@@ -3,10 +3,9 @@
 use mathlib.Core.Path.{sym, ap, _∙_}
 use borrow.Author.Tests.{eq-eqb, ne-eqb}
 use Rattle.outstation.specs.World.{World}
-use Rattle.repeat.specs.Repeat.{isRepeat}
+use Rattle.repeat.specs.Repeat.{isRepeat, lastIn}
 use Rattle.fragments.proofs.AnswerLaws.{by-read, by-repeat, by-other}
-use Rattle.lent_repeat.specs.declared.LastLengths.{LastLengths}
-use Rattle.lent_repeat.specs.LentLast.{lastIn}
+use Rattle.repeat.specs.declared.LastLengths.{LastLengths}
 use Rattle.outstation.specs.Lent.{Lent, worldOf}
 use Rattle.fragments.specs.Given.{GivenIn}
 use borrow.Author.Needs.{needs}

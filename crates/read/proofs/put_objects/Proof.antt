@@ -2,11 +2,11 @@
 -- Assumes nothing.
 use native.Mathlib.Omega.{arith}
 use lib.ListN.{take, length-append}
-use Rattle.points.specs.Inputs.{inputs}
-use Rattle.events.specs.Queue.{queue}
 use Rattle.event_objects.specs.Events.{carriedBytes}
 use Rattle.static_objects.specs.Static.{staticBytes}
 use Rattle.read.proofs.ResponseLaws.{two-put}
+use Rattle.event_store.specs.EventWords.{queueIn}
+use Rattle.point_store.specs.PointWords.{inputsIn}
 use borrow.Author.Needs.{needs}
 use Rattle.read.proofs.put_objects.Statement.{statement}
 use Rattle.read.proofs.put_objects.Tie as tie
@@ -22,9 +22,12 @@ same-length c = search needs
 
 returns : tie.Need-returns
 returns c =
-    let a = c .before .before .before .before .before .before .before .before .before .args in (
-      omega (arith, length-append (carriedBytes (queue (a .b) .held)) (staticBytes (inputs (a .p)) (take (a .plan .count) (a .plan .headers))), c .before .before .put-static .ensures .0, c .before .before .before .before .before .before .put-events .ensures .0),
-      two-put _ _ _ _ _ _ (c .before .before .before .before .before .before .put-events .ensures .0) (c .before .before .before .before .before .before .put-events .ensures .1) (c .before .before .put-static .ensures .1),
+    let events = c .before .before .before .before .before .before in
+    let static = c .before .before .put-static in
+    let a = events .before .before .before .args in
+    let s = staticBytes (inputsIn (a .n) (a .binaries .now) (a .analogs .now)) (take (a .plan .count) (a .plan .headers)) in (
+      omega (arith, length-append (carriedBytes (queueIn (a .held .now) (a .status) .held)) s, static .ensures .0, events .put-events .ensures .0),
+      two-put _ _ _ _ _ _ (events .put-events .ensures .0) (events .put-events .ensures .1) (static .ensures .1),
     )
 
 pub put-objects-spec : {M : Type 1} → statement M

@@ -1,18 +1,27 @@
 -- `read::respond` meets its contract. By what the READ is.
 -- Assumes nothing.
 use mathlib.Core.Path.{sym, _∙_}
+use Prim.Native.Nat.{_+_, _≤_}
 use native.Mathlib.Omega.{arith}
+use mathlib.Core.List.{[]}
 use lib.ListN.{length, take}
-use Rattle.points.specs.Inputs.{inputs}
-use Rattle.events.specs.Queue.{queue}
 use Rattle.request.specs.Parse.{parse}
-use Rattle.static_objects.specs.Static.{staticBytes}
 use Rattle.static_objects.proofs.HeaderLaws.{plan-headers, plan-object, plan-parameter}
-use Rattle.read.specs.Response.{classesOf}
-use Rattle.read.proofs.ResponseLaws.{fitting, beside, answered, refused}
+use Rattle.read.proofs.ResponseLaws.{fitting, beside, answered, refused, chosen}
+use Rattle.event_store.specs.EventWords.{queueIn}
+use Rattle.point_store.specs.PointWords.{inputsIn}
 use borrow.Author.Needs.{needs}
 use Rattle.read.proofs.respond.Statement.{statement}
 use Rattle.read.proofs.respond.Tie as tie
+
+-- of a faultless READ, the static part fits
+fits : (c : tie.After-enum-told) → c .before .before .before .asked .result .size + 4 ≤ 2048
+fits c =
+    let q = c .before .before .before in
+    let a = q .before .before .before .args in
+    let i = inputsIn (a .n) (a .binaries .now) (a .analogs .now) in
+    let e = sym (plan-headers (q .asked .result .plan) (c .enum-told .given .1)) ∙ q .asked .ensures .0 (a .binaries .now) in
+    omega (arith, fitting i (parse (length (i .binaries)) (length (i .analogs)) (a .s .now)) _ e, q .asked .ensures .1 (a .binaries .now))
 
 asked-requires : tie.Need-asked-requires
 asked-requires c κs = search needs
@@ -20,21 +29,22 @@ asked-requires c κs = search needs
 enum-told : tie.Need-enum-told
 enum-told c = search needs
 
+classes-requires : tie.Need-classes-requires
+classes-requires c κs = search needs
+
+sub-select : tie.Need-sub-select
+sub-select c = omega (arith, fits (c .before .before .before))
+
 select-requires : tie.Need-select-requires
-select-requires c κs =
-    let a = c .before .before .before .before .before .args in
-    let q = c .before .before .asked in
-    let i = inputs (a .p) in
-    fitting i (parse (length (i .binaries)) (length (i .analogs)) (a .s .now)) _ (sym (plan-headers (q .result) (c .enum-told .given .1)) ∙ q .ensures .0)
+select-requires c κs = search needs
 
 put-objects-requires : tie.Need-put-objects-requires
 put-objects-requires c κs =
-    let a = c .before .before .before .before .before .before .before .args in
-    let q = c .before .before .before .before .asked in
-    let i = inputs (a .p) in
-    let f = fitting i (parse (length (i .binaries)) (length (i .analogs)) (a .s .now)) _ (sym (plan-headers (q .result) (c .before .before .enum-told .given .1)) ∙ q .ensures .0) in
-    let hs = take (q .result .count) (q .result .headers) in
-    omega (arith, beside (classesOf hs) (length (staticBytes i hs)) (queue (a .b)) (queue (c .before .select .result)) f (c .before .select .ensures .0), c .before .before .before .before .before .before .before .pre)
+    let m = c .before .before .before .before .before in
+    let q = m .before .before .before .before in
+    let s = q .before .before .before in
+    let a = s .args in
+    omega (arith, beside (m .classes .result) (q .asked .result .size) (queueIn (a .held .now) (a .status)) _ (fits (m .before)) (c .before .before .select .ensures), q .asked .ensures .1 (a .binaries .now), s .pre)
 
 enum-told-2 : tie.Need-enum-told-2
 enum-told-2 c = search needs
@@ -53,21 +63,31 @@ same-length c = search needs
 
 returns : tie.Need-returns
 returns c =
-    let q = c .before .before .before .before .before .before .before .asked in
-    let w = answered _ _ _ _ _ _ _ _ (sym (plan-headers (q .result) (c .before .before .before .before .before .enum-told .given .1)) ∙ q .ensures .0) (c .before .before .before .before .select .ensures .0) (c .before .before .put-objects .ensures .0) (c .before .before .put-objects .ensures .1) in
-    (q .ensures .0, w .0, w .1, w .2, c .before .before .before .before .select .ensures .1, q .ensures .1)
+    let put = c .before .before .put-objects in
+    let m = c .before .before .before .before .before .before .before .before in
+    let q = m .before .before .before .before in
+    let a = q .before .before .before .args in
+    let p = q .asked .result .plan in
+    let e = sym (plan-headers p (m .before .enum-told .given .1)) ∙ q .asked .ensures .0 (a .binaries .now) in
+    let k = c .before .before .before .before .before .select .ensures ∙ chosen (queueIn (a .held .now) (a .status)) (m .classes .ensures) (q .asked .ensures .1 (a .binaries .now)) in
+    let w = answered _ _ _ _ _ _ _ _ e k (put .ensures .0) (put .ensures .1) in
+    record { asked = take (p .count) (p .headers); verdict = e; events = w .0; size = w .1; bytes = w .2 }
 
 returns-2 : tie.Need-returns-2
 returns-2 c =
-    let q = c .before .before .before .asked in
-    let w = refused _ _ _ _ (c .before .before .before .before .before .before .args .out .now) 2 (sym (plan-object (q .result) (c .before .enum-told2 .given .1)) ∙ q .ensures .0) (c .clear .ensures .0) in
-    (q .ensures .0, w .0, w .1, w .2, c .clear .ensures .1, q .ensures .1)
+    let q = c .before .before .before .before .before in
+    let a = q .before .before .before .args in
+    let e = sym (plan-object (q .asked .result .plan) (c .before .before .enum-told2 .given .1)) ∙ q .asked .ensures .0 (a .binaries .now) in
+    let w = refused _ _ _ _ (a .out .now) 2 e (c .clear .ensures) in
+    record { asked = []; verdict = e; events = w .0; size = w .1; bytes = w .2 }
 
 returns-3 : tie.Need-returns-3
 returns-3 c =
-    let q = c .before .before .before .asked in
-    let w = refused _ _ _ _ (c .before .before .before .before .before .before .args .out .now) 4 (sym (plan-parameter (q .result) (c .before .enum-told3 .given .1)) ∙ q .ensures .0) (c .clear2 .ensures .0) in
-    (q .ensures .0, w .0, w .1, w .2, c .clear2 .ensures .1, q .ensures .1)
+    let q = c .before .before .before .before .before in
+    let a = q .before .before .before .args in
+    let e = sym (plan-parameter (q .asked .result .plan) (c .before .before .enum-told3 .given .1)) ∙ q .asked .ensures .0 (a .binaries .now) in
+    let w = refused _ _ _ _ (a .out .now) 4 e (c .clear2 .ensures) in
+    record { asked = []; verdict = e; events = w .0; size = w .1; bytes = w .2 }
 
 pub respond-spec : {M : Type 1} → statement M
 respond-spec =
@@ -75,6 +95,8 @@ respond-spec =
     (tie.spec
     asked-requires
     enum-told
+    classes-requires
+    sub-select
     select-requires
     put-objects-requires
     enum-told-2

@@ -6,47 +6,26 @@ use mathlib.Core.Bool.{true}
 use Prim.Native.Nat.{_+_, _*_, _≤_}
 use native.Mathlib.Omega.{arith}
 use lib.ListN.{length}
-use Rattle.laws.proofs.Loops.{long}
-use Rattle.points.specs.Inputs.{inputs}
 use Rattle.objects.specs.Runs.{sizeAfter}
 use Rattle.objects.proofs.WriterLaws.{encoded-size, sum-same, sum-own, sum-end}
-use Rattle.static_objects.specs.Static.{shownAt, variationOf, pointBytes, staticHeading, pointObjects, rangeBytes}
+use Rattle.static_objects.specs.Static.{variationOf, pointBytes, staticHeading, pointObjects, rangeBytes}
 use Rattle.static_objects.specs.declared.Shown.{Shown}
-use Rattle.static_objects.proofs.StaticLaws.{analog-read, heading-length, points-nil, points-cons, none-first}
+use Rattle.static_objects.proofs.StaticLaws.{heading-length, points-nil, points-cons, none-first}
+use Rattle.static_objects.specs.Alone.{analogsAlone}
 use Rattle.static_objects.proofs.analogs_size.Statement.{statement}
 use Rattle.static_objects.proofs.analogs_size.Tie as tie
 
 abbrev Inv-loop : tie.InvT-loop
-Inv-loop from n p count total₀ last₀ i₀ left₀ total last i left =
-    (total + sizeAfter 7 last (pointObjects (inputs p) true i left) ≡ sizeAfter 7 0 (pointObjects (inputs p) true from n))
+Inv-loop ws count from n total₀ last₀ i₀ left₀ total last i left =
+    (total + sizeAfter 7 last (pointObjects (analogsAlone count ws) true i left) ≡ sizeAfter 7 0 (pointObjects (analogsAlone count ws) true from n))
     × (total + 12 * left ≤ 12 * n)
     × (i + left ≡ from + n)
 
 abbrev μ-loop : tie.MeasureT-loop
-μ-loop from n p count total₀ last₀ i₀ left₀ total last i left = left
-
--- the point read is the one to show
-read : (c : tie.After-analog-shown Inv-loop μ-loop)
-    → c .analog-shown .result ≡ shownAt (inputs (c .before .before .before .before .before .before .args .t1)) true (c .before .before .before .before .loop .i)
-read c =
-    let a = c .before .before .before .before .before .before .args in
-    let h : length (a .t1 .analogs) ≡ 64 = search (long, needs) in
-    analog-read (a .t1) _ _ _ (c .before .before .slot .ensures) _ h (c .before .before .before .before .before .installed .ensures) (c .analog-shown .ensures)
-
-installed-requires : tie.Need-installed-requires Inv-loop μ-loop
-installed-requires c κs = search needs
+μ-loop ws count from n total₀ last₀ i₀ left₀ total last i left = left
 
 loop-holds : tie.Need-loop-holds Inv-loop μ-loop
 loop-holds c = (omega arith, omega arith, refl)
-
-slot-requires : tie.Need-slot-requires Inv-loop μ-loop
-slot-requires c κs = search needs
-
-mul-a : tie.Need-mul-a Inv-loop μ-loop
-mul-a c = search needs
-
-element-copy-out-a : tie.Need-element-copy-out-a Inv-loop μ-loop
-element-copy-out-a c = search needs
 
 analog-shown-requires : tie.Need-analog-shown-requires Inv-loop μ-loop
 analog-shown-requires c κs = search needs
@@ -72,8 +51,8 @@ loop-less c = search needs
 loop-again : tie.Need-loop-again Inv-loop μ-loop
 loop-again c =
     let s = c .before .before .before in
-    let l = s .before .before .before in
-    let e = read s in (
+    let l = s .before in
+    let e = s .analog-shown .ensures in (
       sum-same 7 _ _ _ _ (l .before .loop .inv .0) _ _ (points-cons _ _ _ _ (l .loop-test .taken)) _ (c .before .before .variation .ensures ∙ ap variationOf e) _ (c .before .size .ensures .0 ∙ ap (λ (x : Shown). length (pointBytes x)) e) (c .if1 .taken),
       omega (arith, l .before .loop .inv .1, c .before .size .ensures .1),
       omega (arith, l .before .loop .inv .2),
@@ -91,8 +70,8 @@ loop-less-2 c = search needs
 loop-again-2 : tie.Need-loop-again-2 Inv-loop μ-loop
 loop-again-2 c =
     let s = c .before .before .before in
-    let l = s .before .before .before in
-    let e = read s in (
+    let l = s .before in
+    let e = s .analog-shown .ensures in (
       sum-own 7 _ _ _ _ (l .before .loop .inv .0) _ _ (points-cons _ _ _ _ (l .loop-test .taken)) _ (c .before .before .variation .ensures ∙ ap variationOf e) _ (c .before .size .ensures .0 ∙ ap (λ (x : Shown). length (pointBytes x)) e) (c .if1 .left),
       omega (arith, l .before .loop .inv .1, c .before .size .ensures .1),
       omega (arith, l .before .loop .inv .2),
@@ -101,8 +80,9 @@ loop-again-2 c =
 returns : tie.Need-returns Inv-loop μ-loop
 unfolding rangeBytes
 returns c =
-    let a = c .before .before .before .args in (
-      sum-end _ _ _ _ _ (c .before .loop .inv .0) (points-nil _ _ _ _ (c .loop-test .left)) ∙ sym (encoded-size (staticHeading true) 7 (heading-length true) (pointObjects (inputs (a .t1)) true (a .from) (a .n)) (none-first (inputs (a .t1)) true (a .from) (a .n))),
+    let a = c .before .before .args in
+    let i = analogsAlone (a .count) (a .ws .now) in (
+      sum-end _ _ _ _ _ (c .before .loop .inv .0) (points-nil _ _ _ _ (c .loop-test .left)) ∙ sym (encoded-size (staticHeading true) 7 (heading-length true) (pointObjects i true (a .from) (a .n)) (none-first i true (a .from) (a .n))),
       omega (arith, c .before .loop .inv .1),
     )
 
@@ -112,11 +92,7 @@ analogs-size-spec =
     (tie.spec
     Inv-loop
     μ-loop
-    installed-requires
     loop-holds
-    slot-requires
-    mul-a
-    element-copy-out-a
     analog-shown-requires
     variation-requires
     size-requires

@@ -1,8 +1,11 @@
 -- `static_objects::header_size` meets its contract.
 -- Assumes nothing.
+use mathlib.Core.Path.{ap, _∙_}
 use native.Mathlib.Omega.{arith}
-use Rattle.points.specs.Inputs.{inputs}
+use lib.ListN.{length}
 use Rattle.static_objects.proofs.HeaderLaws.{header-length}
+use Rattle.point_store.specs.PointWords.{inputsIn}
+use Rattle.static_objects.proofs.AloneLaws.{analogs-alone}
 use borrow.Author.Needs.{needs}
 use Rattle.static_objects.proofs.header_size.Statement.{statement}
 use Rattle.static_objects.proofs.header_size.Tie as tie
@@ -27,8 +30,13 @@ add-result c = search needs
 
 returns : tie.Need-returns
 returns c =
-    let a = c .before .before .before .before .before .args in
-    (omega (arith, header-length (inputs (a .p)) (a .h), c .analogs-size .ensures .0, c .before .before .before .binaries-size .ensures .0 (inputs (a .p)) (a .h .binary)), search needs)
+    let a = c .before .before .before .before .before .args in (
+      λ b.
+          let i = inputsIn (a .n) b (a .analogs .now) in
+          let size = c .analogs-size .ensures .0 ∙ ap length (analogs-alone (a .n) b (a .analogs .now) (a .h .analog) (a .h .analogs)) in
+          omega (arith, header-length i (a .h), size, c .before .before .before .binaries-size .ensures .0 i (a .h .binary)),
+      search needs,
+    )
 
 pub header-size-spec : {M : Type 1} → statement M
 header-size-spec =

@@ -8,19 +8,23 @@ use mathlib.Core.List.{List}
 use lib.ListN.{length, take}
 use Rattle.laws.proofs.Loops.{long}
 use Rattle.octets.specs.Bytes.{splice}
-use Rattle.points.specs.Inputs.{inputs}
 use Rattle.request.specs.declared.Header.{Header}
 use Rattle.request.proofs.AskLaws.{in-plan}
 use Rattle.static_objects.specs.Static.{staticBytes}
 use Rattle.static_objects.proofs.HeaderLaws.{Putting, room-for, put-more, written}
+use Rattle.point_store.specs.PointWords.{inputsIn}
 use Rattle.static_objects.proofs.put_static.Statement.{statement}
 use Rattle.static_objects.proofs.put_static.Tie as tie
 
 abbrev Inv-loop : tie.InvT-loop
-Inv-loop out₀ at p plan n to₀ i₀ out to i = Putting (inputs p) out₀ at n (plan .headers) out to i
+Inv-loop out₀ at binaries analogs n plan stop to₀ i₀ out to i = Putting (inputsIn n binaries analogs) out₀ at stop (plan .headers) out to i
 
 abbrev μ-loop : tie.MeasureT-loop
-μ-loop out₀ at p plan n to₀ i₀ out to i = n - i
+μ-loop out₀ at binaries analogs n plan stop to₀ i₀ out to i = stop - i
+
+-- the plan's array of headers
+slots : (c : tie.Start Inv-loop μ-loop) → length (c .args .t3 .headers) ≡ 16
+slots c = search (long, needs)
 
 filled-requires : tie.Need-filled-requires Inv-loop μ-loop
 filled-requires c κs = search needs
@@ -28,9 +32,9 @@ filled-requires c κs = search needs
 loop-holds : tie.Need-loop-holds Inv-loop μ-loop
 loop-holds c =
     let a = c .before .before .args in
-    let h : length (a .t3 .headers) ≡ 16 = search (long, needs) in
-    let e : take (c .filled .result) (a .t3 .headers) ≡ take (a .t3 .count) (a .t3 .headers) = in-plan (a .t3) (c .filled .result) (c .filled .ensures) h in
-    let f : a .at + length (staticBytes (inputs (a .p)) (take (c .filled .result) (a .t3 .headers))) ≤ length (a .out .now) = rw e (c .before .before .pre) in
+    let e : take (c .filled .result) (a .t3 .headers) ≡ take (a .t3 .count) (a .t3 .headers) = in-plan (a .t3) (c .filled .result) (c .filled .ensures) (slots (c .before .before)) in
+    let i = inputsIn (a .n) (a .binaries .now) (a .analogs .now) in
+    let f : a .at + length (staticBytes i (take (c .filled .result) (a .t3 .headers))) ≤ length (a .out .now) = rw e (c .before .before .pre) in
     record { ahead = refl; long = refl; room = refl; fits = f }
 
 mul-h : tie.Need-mul-h Inv-loop μ-loop
@@ -41,8 +45,8 @@ element-copy-out-h c = search needs
 
 put-header-requires : tie.Need-put-header-requires Inv-loop μ-loop
 put-header-requires c κs =
-    let h : length (c .before .before .before .before .before .before .args .t3 .headers) ≡ 16 = search (long, needs) in
-    room-for _ _ _ _ _ _ _ _ (c .before .before .before .loop .inv) (c .before .before .loop-test .taken) (omega (arith, h, c .before .before .before .before .filled .ensures))
+    let l = c .before .before in
+    room-for _ _ _ _ _ _ _ _ (l .before .loop .inv) (l .loop-test .taken) (omega (arith, slots (l .before .before .before .before), l .before .before .filled .ensures))
 
 add-i : tie.Need-add-i Inv-loop μ-loop
 add-i c = search needs
@@ -52,8 +56,9 @@ loop-less c = search needs
 
 loop-again : tie.Need-loop-again Inv-loop μ-loop
 loop-again c =
-    let h : length (c .before .before .before .before .before .before .before .before .before .args .t3 .headers) ≡ 16 = search (long, needs) in
-    put-more _ _ _ _ _ _ _ _ (c .before .before .before .before .before .before .loop .inv) (c .before .before .before .before .before .loop-test .taken) (omega (arith, h, c .before .before .before .before .before .before .before .filled .ensures)) _ _ (c .before .before .put-header .ensures .0) (c .before .before .put-header .ensures .1)
+    let l = c .before .before .before .before .before in
+    let put = c .before .before .put-header in
+    put-more _ _ _ _ _ _ _ _ (l .before .loop .inv) (l .loop-test .taken) (omega (arith, slots (l .before .before .before .before), l .before .before .filled .ensures)) _ _ (put .ensures .0) (put .ensures .1)
 
 same-length : tie.Need-same-length Inv-loop μ-loop
 same-length c = c .before .loop .inv .long
@@ -61,11 +66,11 @@ same-length c = c .before .loop .inv .long
 returns : tie.Need-returns Inv-loop μ-loop
 returns c =
     let a = c .before .before .before .before .args in
-    let h : length (a .t3 .headers) ≡ 16 = search (long, needs) in
-    let e = in-plan (a .t3) (c .before .before .filled .result) (c .before .before .filled .ensures) h in
+    let i = inputsIn (a .n) (a .binaries .now) (a .analogs .now) in
+    let e = in-plan (a .t3) (c .before .before .filled .result) (c .before .before .filled .ensures) (slots (c .before .before .before .before)) in
     let w = written _ _ _ _ _ _ _ _ (c .before .loop .inv) (c .loop-test .left) in (
-      w .0 ∙ ap (λ (l : List Header). a .at + length (staticBytes (inputs (a .p)) l)) e,
-      w .1 ∙ ap (λ (l : List Header). splice (a .out .now) (a .at) (staticBytes (inputs (a .p)) l)) e,
+      w .0 ∙ ap (λ (l : List Header). a .at + length (staticBytes i l)) e,
+      w .1 ∙ ap (λ (l : List Header). splice (a .out .now) (a .at) (staticBytes i l)) e,
     )
 
 pub put-static-spec : {M : Type 1} → statement M

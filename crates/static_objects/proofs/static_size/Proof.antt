@@ -2,30 +2,34 @@
 -- Assumes nothing.
 use borrow.Author.Needs.{needs}
 use mathlib.Core.Path.{_≡_, ap, _∙_}
-use Prim.Native.Nat.{_-_}
-use mathlib.Core.List.{List}
+use Prim.Native.Nat.{ℕ, _-_}
+use mathlib.Core.List.{List, []}
 use native.Mathlib.Omega.{arith}
 use lib.ListN.{length}
 use Rattle.laws.proofs.Loops.{long}
-use Rattle.points.specs.Inputs.{inputs}
 use Rattle.request.specs.declared.Header.{Header}
 use Rattle.request.proofs.AskLaws.{in-plan}
 use Rattle.static_objects.specs.Static.{staticBytes}
 use Rattle.static_objects.proofs.HeaderLaws.{Summing, sum-more, summed}
+use Rattle.point_store.specs.PointWords.{inputsIn}
 use Rattle.static_objects.proofs.static_size.Statement.{statement}
 use Rattle.static_objects.proofs.static_size.Tie as tie
 
 abbrev Inv-loop : tie.InvT-loop
-Inv-loop p plan n total₀ i₀ total i = Summing (inputs p) n (plan .headers) total i
+Inv-loop analogs n plan stop total₀ i₀ total i = (b : List ℕ) → Summing (inputsIn n b analogs) stop (plan .headers) total i
 
 abbrev μ-loop : tie.MeasureT-loop
-μ-loop p plan n total₀ i₀ total i = n - i
+μ-loop analogs n plan stop total₀ i₀ total i = stop - i
+
+-- the plan's array of headers
+slots : (c : tie.Start Inv-loop μ-loop) → length (c .args .t1 .headers) ≡ 16
+slots c = search (long, needs)
 
 filled-requires : tie.Need-filled-requires Inv-loop μ-loop
 filled-requires c κs = search needs
 
 loop-holds : tie.Need-loop-holds Inv-loop μ-loop
-loop-holds c = record { ahead = omega arith; small = omega arith; read = omega arith }
+loop-holds c = λ b. record { ahead = omega arith; small = omega arith; read = omega arith }
 
 mul-h : tie.Need-mul-h Inv-loop μ-loop
 mul-h c = search needs
@@ -37,7 +41,9 @@ header-size-requires : tie.Need-header-size-requires Inv-loop μ-loop
 header-size-requires c κs = search needs
 
 add-total : tie.Need-add-total Inv-loop μ-loop
-add-total c = omega (arith, c .before .before .before .loop .inv .small, c .before .before .before .loop .inv .read, c .before .before .before .before .filled .ensures, c .header-size .ensures .1)
+add-total c =
+    let g = c .before .before .before .loop .inv [] in
+    omega (arith, g .small, g .read, c .before .before .before .before .filled .ensures, c .header-size .ensures .1)
 
 add-i : tie.Need-add-i Inv-loop μ-loop
 add-i c = search needs
@@ -47,15 +53,17 @@ loop-less c = search needs
 
 loop-again : tie.Need-loop-again Inv-loop μ-loop
 loop-again c =
-    let h : length (c .before .before .before .before .before .args .t1 .headers) ≡ 16 = search (long, needs) in
-    sum-more _ _ _ _ _ (c .before .before .before .loop .inv) (c .before .before .loop-test .taken) (omega (arith, h, c .before .before .before .before .filled .ensures)) _ (c .header-size .ensures .0) (c .header-size .ensures .1)
+    λ b.
+    sum-more _ _ _ _ _ (c .before .before .before .loop .inv b) (c .before .before .loop-test .taken) (omega (arith, slots (c .before .before .before .before .before), c .before .before .before .before .filled .ensures)) _ (c .header-size .ensures .0 b) (c .header-size .ensures .1)
 
 returns : tie.Need-returns Inv-loop μ-loop
 returns c =
     let a = c .before .before .before .args in
-    let h : length (a .t1 .headers) ≡ 16 = search (long, needs) in (
-      summed _ _ _ _ _ (c .before .loop .inv) (c .loop-test .left) ∙ ap (λ (l : List Header). length (staticBytes (inputs (a .p)) l)) (in-plan (a .t1) _ (c .before .before .filled .ensures) h),
-      omega (arith, c .before .loop .inv .small, c .before .loop .inv .read, c .before .before .filled .ensures),
+    let g = c .before .loop .inv in (
+      λ b.
+          summed _ _ _ _ _ (g b) (c .loop-test .left)
+          ∙ ap (λ (l : List Header). length (staticBytes (inputsIn (a .n) b (a .analogs .now)) l)) (in-plan (a .t1) _ (c .before .before .filled .ensures) (slots (c .before .before .before))),
+      omega (arith, g [] .small, g [] .read, c .before .before .filled .ensures),
     )
 
 pub static-size-spec : {M : Type 1} → statement M
