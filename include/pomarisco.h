@@ -135,9 +135,13 @@ struct pomarisco_setup {
     uint16_t outputs;
 };
 
-/* kind 0: a 32-bit point; 1: a 16-bit point; any other: a float point, for which limit, gain and offset are floats' bits. gate 0: never an event by
- * value; 1: on any change; 2: on a change beyond the limit; any other: when the sum of the changes is beyond it. gain and offset count for
- * float points only, the limit for gates above 1. pomarisco_whole_point and pomarisco_float_point make them. */
+/* kind 0: a 32-bit point; 1: a 16-bit point; any other: a float point, for which limit, gain and offset are floats' bits. gate: what change of the value
+ * is an event, as below; any number above 3 is as 3. gain and offset count for float points only, the limit for the gates above 1.
+ * pomarisco_point_32, _16 and _float make them. */
+#define POMARISCO_NEVER 0
+#define POMARISCO_ANY_CHANGE 1
+#define POMARISCO_BEYOND 2         /* further from the value last reported than the limit */
+#define POMARISCO_SUMMED 3         /* the distances since the last report sum up to more than the limit */
 struct pomarisco_analog_setup {
     uint32_t limit;
     uint32_t gain;
@@ -400,28 +404,30 @@ static inline struct pomarisco_reading pomarisco_float_reading(uint64_t time, ui
     return pomarisco_reading_of(time, point, 2, pomarisco_float_bits(value), flags);
 }
 
-/* A point that shows 32 or, where `narrow` is not 0, 16 bits. */
-static inline struct pomarisco_analog_setup pomarisco_whole_point(uint8_t class_, uint8_t narrow, uint8_t gate, uint32_t limit) {
+static inline struct pomarisco_analog_setup pomarisco_point_of(uint8_t class_, uint8_t kind, uint32_t gain, uint32_t offset, uint8_t gate, uint32_t limit) {
     struct pomarisco_analog_setup a;
     a.limit = limit;
-    a.gain = 0;
-    a.offset = 0;
+    a.gain = gain;
+    a.offset = offset;
     a.class_ = class_;
-    a.kind = narrow != 0;
+    a.kind = kind;
     a.gate = gate;
     return a;
 }
 
-/* A point that shows reading * gain + offset. */
-static inline struct pomarisco_analog_setup pomarisco_float_point(uint8_t class_, float gain, float offset, uint8_t gate, float limit) {
-    struct pomarisco_analog_setup a;
-    a.limit = pomarisco_float_bits(limit);
-    a.gain = pomarisco_float_bits(gain);
-    a.offset = pomarisco_float_bits(offset);
-    a.class_ = class_;
-    a.kind = 2;
-    a.gate = gate;
-    return a;
+/* A point that shows whole readings in 32 bits. */
+static inline struct pomarisco_analog_setup pomarisco_point_32(uint8_t class_, uint8_t gate, uint32_t limit) {
+    return pomarisco_point_of(class_, 0, 0, 0, gate, limit);
+}
+
+/* A point that shows whole readings in 16 bits, clamped. */
+static inline struct pomarisco_analog_setup pomarisco_point_16(uint8_t class_, uint8_t gate, uint32_t limit) {
+    return pomarisco_point_of(class_, 1, 0, 0, gate, limit);
+}
+
+/* A point that shows float readings as reading * gain + offset. */
+static inline struct pomarisco_analog_setup pomarisco_point_float(uint8_t class_, float gain, float offset, uint8_t gate, float limit) {
+    return pomarisco_point_of(class_, 2, pomarisco_float_bits(gain), pomarisco_float_bits(offset), gate, pomarisco_float_bits(limit));
 }
 
 /* ---- a look at the state */
