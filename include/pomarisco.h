@@ -72,7 +72,7 @@
 #define POMARISCO_FRAGMENT 2048    /* longest fragment; lend so much for an answer and for an assembly */
 #define POMARISCO_FRAME 292        /* longest frame; lend so much for a frame to be written */
 #define POMARISCO_USER 250         /* longest user data; lend so much for a frame read and a segment written */
-#define POMARISCO_STACK 16384      /* recommended stack, bytes */
+#define POMARISCO_STACK 8192       /* recommended stack, bytes: twice the deepest call as measured */
 
 /* ---- the outstation's state */
 
