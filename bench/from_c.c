@@ -110,38 +110,58 @@ static uint64_t held_reading(uint64_t count, size_t n) {
     return digest(sum);
 }
 
-/* The READ's objects; ordinary Rust writes no response header here, so its four bytes do not count. */
-static uint64_t class_0(uint64_t count, size_t n) {
-    static const uint8_t ask[] = {192, 1, 60, 1, 6};
+/* 64 points of each kind, all read once, the analogs' kinds taking turns; n of them installed. Gives a binary's words, off and on. */
+static void read_points(size_t n, uint32_t words[2]) {
+    static const struct pomarisco_setup setup = {.arm_time = 2000, .confirm_time = 5000, .own = 10, .master = 1, .outputs = 8};
     struct pomarisco_analog_setup analogs[64];
     uint8_t classes[64];
-    uint64_t sum = 1;
     fresh(0);
     for (int i = 0; i < 64; i++) {
         classes[i] = 1;
         analogs[i] = i % 3 == 0 ? pomarisco_point_32(2, POMARISCO_ANY_CHANGE, 0) : i % 3 == 1 ? pomarisco_point_16(2, POMARISCO_ANY_CHANGE, 0) : pomarisco_point_float(2, 1.0f, 0.5f, POMARISCO_ANY_CHANGE, 0.0f);
     }
-    if (pomarisco_restart(&o, (struct pomarisco_setup){.arm_time = 2000, .confirm_time = 5000, .own = 10, .master = 1, .outputs = 8}, classes, 64, analogs, 64) != 0) exit(1);
+    if (pomarisco_restart(&o, setup, classes, 64, analogs, 64) != 0) exit(1);
     for (uint16_t i = 0; i < 64; i++) {
         pomarisco_reading(&o, pomarisco_binary_reading(0, i, 0, 1));
         pomarisco_reading(&o, i % 3 == 2 ? pomarisco_float_reading(0, i, 2.25f, 1) : pomarisco_whole_reading(0, i, i, 1));
     }
-    /* The word of a binary that was read once: off, and on. */
-    const uint32_t words[2] = {o.binaries[0], o.binaries[0] | (uint32_t)1 << 25};
+    words[0] = o.binaries[0];
+    words[1] = o.binaries[0] | (uint32_t)1 << 25;
     for (int i = 0; i < 64; i++) o.binaries[i] = words[1];
     o.head.binary_count = o.head.analog_count = n;
+}
+
+static struct pomarisco_fragment_answer fragment(uint64_t time, const uint8_t *f, size_t n) { return pomarisco_fragment(&o, time, f, n, out, sizeof out, &operated); }
+
+/* The READ's objects. Ordinary Rust makes the objects alone here and no fragment, so the header's four bytes do not count. */
+static uint64_t class_0(uint64_t count, size_t n) {
+    static const uint8_t ask[] = {192, 1, 60, 1, 6};
+    uint32_t words[2];
+    uint64_t sum = 1;
+    read_points(n, words);
     for (uint64_t left = count; left > 0; left--) {
         o.binaries[left % 64] = words[left % 3 == 0];
-        const struct pomarisco_fragment_answer a = pomarisco_fragment(&o, 0, ask, sizeof ask, out, sizeof out, &operated);
+        const struct pomarisco_fragment_answer a = fragment(0, ask, sizeof ask);
         memset(out, 0, 4);
         sum = fold(sum, a.length + out[sum % 1024]);
     }
     return digest(fold_all(sum, out, sizeof out));
 }
 
-static const uint8_t READ_EVENTS[11] = {192, 1, 60, 2, 6, 60, 3, 6, 60, 4, 6};
+static uint64_t class_0_fragment(uint64_t count, size_t n) {
+    uint8_t ask[] = {192, 1, 60, 1, 6};
+    uint32_t words[2];
+    uint64_t sum = 1;
+    read_points(n, words);
+    for (uint64_t left = count; left > 0; left--) {
+        o.binaries[left % 64] = words[left % 3 == 0];
+        ask[0] = (uint8_t)(192 + left % 16);
+        sum = fold_answer(sum, fragment(count - left, ask, sizeof ask));
+    }
+    return digest(fold_all(sum, out, sizeof out));
+}
 
-static struct pomarisco_fragment_answer fragment(uint64_t time, const uint8_t *f, size_t n) { return pomarisco_fragment(&o, time, f, n, out, sizeof out, &operated); }
+static const uint8_t READ_EVENTS[11] = {192, 1, 60, 2, 6, 60, 3, 6, 60, 4, 6};
 
 static uint64_t event_read(uint64_t count, size_t n) {
     uint8_t ask[sizeof READ_EVENTS], confirm[2] = {192, 0};
@@ -230,6 +250,7 @@ static uint64_t table_sized(uint64_t count, size_t n) { return (void)n, table_12
 /* The works, and the most points or held events of each. */
 static const struct { const char *name; size_t most; uint64_t (*run)(uint64_t, size_t); } works[] = {
     {"nothing", 0, nothing_sized}, {"outstation-reading", 64, outstation_reading}, {"held-reading", 255, held_reading}, {"class-0", 64, class_0},
+    {"class-0-fragment", 64, class_0_fragment},
     {"event-read", 256, event_read}, {"confirm", 226, confirm}, {"select", 256, selects}, {"repeat", 256, repeat}, {"table-128", 0, table_sized}};
 
 int main(void) {

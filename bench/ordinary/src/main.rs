@@ -164,16 +164,21 @@ fn binary_of(state: bool, flags: u8) -> BinaryPoint {
     b
 }
 
-/// So many points of each kind.
-fn class_0(count: u64, n: usize) -> u64 {
-    let mut out = [0u8; 2048];
-    let request = [60u8, 1, 6];
-    let mut p = Points {
+/// So many points of each kind, all read once.
+fn read_points(n: usize) -> Points {
+    Points {
         binaries: [binary_of(true, 1); 64],
         binary_count: n,
         analogs: std::array::from_fn(analog_of),
         analog_count: n,
-    };
+    }
+}
+
+/// The objects of a response alone.
+fn class_0(count: u64, n: usize) -> u64 {
+    let mut out = [0u8; 2048];
+    let request = [60u8, 1, 6];
+    let mut p = read_points(n);
     let mut b = Buffer::new();
     let mut sum = 1u64;
     for left in (1..=count).rev() {
@@ -318,6 +323,21 @@ fn fold_answer(sum: u64, r: Result<Answer, FragmentError>, out: &[u8]) -> u64 {
     fold(sum, x)
 }
 
+/// A READ of class 0 as a fragment.
+fn class_0_fragment(count: u64, n: usize) -> u64 {
+    let (mut ask, mut out) = ([192u8, 1, 60, 1, 6], [0u8; 2048]);
+    let mut operated = Operated::default();
+    let mut o = Outstation::new(read_points(n));
+    let mut sum = 1u64;
+    for left in (1..=count).rev() {
+        o.points.binaries[(left % 64) as usize] = binary_of(left % 3 == 0, 1);
+        ask[0] = 192 + (left % 16) as u8;
+        let r = o.fragment(count - left, &ask, &mut out, &mut operated);
+        sum = fold_answer(sum, r, &out);
+    }
+    digest(fold_all(sum, &out), &o.buffer)
+}
+
 const ASK: [u8; 11] = [192, 1, 60, 2, 6, 60, 3, 6, 60, 4, 6];
 const CONFIRM: [u8; 2] = [192, 0];
 
@@ -452,7 +472,7 @@ fn most(name: &str) -> Option<usize> {
     Some(match name {
         "nothing" | "frame-write" | "frame-read" | "frame-write-table" | "frame-read-table" => 0,
         "reading" | "reading-by-value" => 0,
-        "class-0" | "outstation-reading" | "outstation-reading-by-value" => 64,
+        "class-0" | "class-0-fragment" | "outstation-reading" | "outstation-reading-by-value" => 64,
         "held-reading" | "held-reading-by-value" => 255,
         "event-read" | "event-read-by-value" => 256,
         "confirm" => 226,
@@ -472,6 +492,7 @@ fn run(name: &str, count: u64, size: usize) -> Option<u64> {
         "reading" => reading(count),
         "reading-by-value" => reading_by_value(count),
         "class-0" => class_0(count, size),
+        "class-0-fragment" => class_0_fragment(count, size),
         "outstation-reading" => outstation_reading(count, size),
         "outstation-reading-by-value" => outstation_reading_by_value(count, size),
         "held-reading" => held_reading(count, size),
