@@ -12,7 +12,7 @@
  *  - A truth is a uint8_t, 0 for false and any other number for true.
  *  - Of a reading and of an analog's setup only the fields named with its kind count; of a wait, a last request or a latch
  *    that is not there, none. Array elements past the count do not count.
- *  - A count above its array's length means all of it. (Lent to restart it is refused, 5.)
+ *  - A count of the head above its array's length means all of the array. (Over 64 classes or analog setups lent to restart are refused, 5.)
  * From restart on, changed by calls alone, no count passes its array. What does not count may change in any call, also in a refused
  * one: compare meanings, not bytes.
  *
@@ -25,8 +25,8 @@
  *  - p points to n bytes or structs that may be read (or written) for the time of the call; n of them are at most PTRDIFF_MAX bytes;
  *  - an outstation, a line record, lent readings and setups are aligned as C aligns them, and are not NULL. The functions at the end
  *    take NULL with 0; the exported calls do not, so give those some (aligned) address;
- *  - what a call may write overlaps nothing else that it is lent: arrays of the state are lent once each, and lent bytes
- *    are outside the outstation (so copy o->answer before it is sent on by segment_send, or lend it to no call that changes it);
+ *  - what a call may write overlaps nothing else that it is lent: the arrays of one outstation are lent once each, and the bytes lent
+ *    beside an outstation are none of its own;
  *  - no other thread uses an outstation, or writes to lent bytes, during a call: between threads, one lock for each outstation. Writing to
  *    head or arrays between calls gives another state, some state always: do it only where that is meant;
  *  - the stack is deep enough: give the thread POMARISCO_STACK bytes (host/README.md has what each call was measured to use). The
@@ -430,7 +430,7 @@ static inline struct pomarisco_analog_setup pomarisco_point_float(uint8_t class_
     return pomarisco_point_of(class_, 2, pomarisco_float_bits(gain), pomarisco_float_bits(offset), gate, pomarisco_float_bits(limit));
 }
 
-/* ---- a look at the state */
+/* ---- a look at the state. The structs are this file's alone: the library has none of them */
 
 struct pomarisco_event {           /* kind 0: a 32-bit value; 1: a 16-bit value; 2: a float's bits; 3: a binary's state, 0 or 1 */
     uint64_t time;
@@ -559,6 +559,7 @@ static inline struct pomarisco_fragment_answer pomarisco_fragment(struct pomaris
     return r.answer;
 }
 
+/* The calls of the line that may be lent nothing; assembly and sender in place. */
 static inline struct pomarisco_taken pomarisco_link_receive_at(struct pomarisco_line *line, struct pomarisco_station station, const uint8_t *bytes, size_t length, uint8_t *out, size_t out_length) {
     uint8_t none[2] = {0, 0};
     return pomarisco_link_receive(line, station, (const uint8_t *)pomarisco_from(bytes, length, none), length, pomarisco_to(out, out_length, none + 1), out_length);
