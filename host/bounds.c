@@ -1,13 +1,17 @@
-/* What pomarisco.h says at its edges, from C: no bytes lent as NULL, bytes at any address, a stack of POMARISCO_STACK bytes, and
- * that the functions in place do what the calls by value do. Ends with `N passed, M failed`. */
+/* What pomarisco.h says at its edges, from C: nothing lent as NULL, memory at any address up to the end of a page, a stack of POMARISCO_STACK
+ * bytes, any content of the outstation, two threads, and that the functions on an outstation do what the exported calls do. Ends with
+ * `N passed, M failed`. */
 #define _GNU_SOURCE
 #include <pthread.h>
 #include <stdio.h>
 #include <stdlib.h>
 #include <string.h>
 #include <sys/mman.h>
+#include <ucontext.h>
 
 #include "pomarisco.h"
+
+enum { PAGE = 4096, TABLE = 128 };
 
 static int passed, failed;
 
@@ -19,93 +23,116 @@ static void expect(int good, const char *what) {
     }
 }
 
-static struct pomarisco_setup setup;
+static const struct pomarisco_setup setup = {.arm_time = 5000, .confirm_time = 5000, .own = 1, .master = 2, .outputs = 16};
+static const struct pomarisco_station station = {.own = 1, .master = 2};
+static uint8_t classes[POMARISCO_BINARIES];
+static struct pomarisco_analog_setup analogs[POMARISCO_ANALOGS];
 static struct pomarisco_outstation full;
-static struct pomarisco_table table;
+static struct pomarisco_reading table[TABLE];
 static const uint8_t events[] = {0xC3, 0x01, 60, 2, 6, 60, 3, 6, 60, 4, 6, 60, 1, 6};
 static const uint8_t operate[] = {0xC4, 5, 12, 1, 0x17, 1, 5, 3, 1, 0, 0, 0, 0, 0, 0, 0, 0, 0};
 
-/* All points there can be, of every kind, and all held places used. */
-static int prepare(void) {
-    setup = (struct pomarisco_setup){.own = 1, .master = 2, .arm_time = 5000, .confirm_time = 5000, .outputs = 16, .binary_count = POMARISCO_BINARIES, .analog_count = POMARISCO_ANALOGS};
-    for (int i = 0; i < 64; i++) {
-        setup.classes[i] = (uint8_t)(1 + i % 3);
-        setup.analogs[i] = (struct pomarisco_analog_setup){.whole = {5, 3}, .real = {1.5f, 3}, .gain = 2.5f, .offset = 0.25f, .class_ = 1, .kind = (uint8_t)(i % 3)};
-    }
-    if (pomarisco_restart_at(&full, &setup) != 0) return 0;
-    table.count = POMARISCO_TABLE;
-    for (int round = 0; round < 6; round++) {
-        size_t taken;
-        for (int i = 0; i < POMARISCO_TABLE; i++)
-            table.readings[i] = (struct pomarisco_reading){.time = 1000, .whole = i * 100 * round, .real = (float)(i * round), .point = (uint16_t)(i % 64), .flags = (uint8_t)round, .state = (uint8_t)(round % 2), .kind = (uint8_t)(i < 64 ? 0 : i % 64 % 3 == 2 ? 2 : 1)};
-        if (pomarisco_table_at(&full, &table, &taken) != 0 || taken != POMARISCO_TABLE) return 0;
-    }
-    return full.buffer.count == POMARISCO_EVENTS && full.buffer.overflow == 1;
+/* The same numbers throughout: the bytes between a struct's fields are nobody's. */
+static int same_state(const struct pomarisco_outstation *a, const struct pomarisco_outstation *b) {
+    const size_t from = offsetof(struct pomarisco_outstation, events), to = offsetof(struct pomarisco_outstation, latch_objects) + sizeof a->latch_objects;
+    return memcmp(&a->head, &b->head, offsetof(struct pomarisco_head, latch_sequence) + 1) == 0 && memcmp((const uint8_t *)a + from, (const uint8_t *)b + from, to - from) == 0;
 }
 
-/* ---- no bytes, as NULL */
+/* Memory that ends where a page begins that may not be touched. */
+static uint8_t *at_end(size_t n) {
+    const size_t size = (n + PAGE - 1) / PAGE * PAGE;
+    uint8_t *room = mmap(NULL, size + PAGE, PROT_READ | PROT_WRITE, MAP_PRIVATE | MAP_ANONYMOUS, -1, 0);
+    if (room == MAP_FAILED || mprotect(room + size, PAGE, PROT_NONE) != 0) exit(2);
+    return room + size - n;
+}
+
+/* All points there can be, of every kind, and all held places used. */
+static int prepare(void) {
+    for (int i = 0; i < 64; i++) {
+        classes[i] = (uint8_t)(1 + i % 3);
+        analogs[i] = i % 3 == 0 ? pomarisco_point_32(1, POMARISCO_SUMMED, 5) : i % 3 == 1 ? pomarisco_point_16(1, POMARISCO_SUMMED, 5) : pomarisco_point_float(1, 2.5f, 0.25f, POMARISCO_SUMMED, 1.5f);
+    }
+    if (pomarisco_restart(&full, setup, classes, 64, analogs, 64) != 0) return 0;
+    for (int round = 0; round < 6; round++) {
+        size_t taken;
+        for (int i = 0; i < TABLE; i++) {
+            const uint16_t point = (uint16_t)(i % 64);
+            const uint8_t flags = (uint8_t)round;
+            table[i] = i < 64 ? pomarisco_binary_reading(1000, point, (uint8_t)(round % 2), flags) : point % 3 == 2 ? pomarisco_float_reading(1000, point, (float)(i * round), flags) : pomarisco_whole_reading(1000, point, i * 100 * round, flags);
+        }
+        if (pomarisco_table(&full, table, TABLE, &taken) != 0 || taken != TABLE) return 0;
+    }
+    return full.head.event_count == POMARISCO_EVENTS && full.head.overflow == 1;
+}
+
+/* ---- nothing lent, as NULL */
 
 static void null_pointers(void) {
     static uint8_t out[POMARISCO_FRAGMENT], before[POMARISCO_FRAGMENT];
-    static struct pomarisco_outstation s;
+    static struct pomarisco_outstation s, empty;
     struct pomarisco_crobs operated;
     struct pomarisco_line line = {0};
     struct pomarisco_assembly assembly = {0};
     struct pomarisco_sender sender = {0};
+    size_t taken = 7;
     memset(out, 0x5C, sizeof out);
     memcpy(before, out, sizeof out);
     s = full;
-    struct pomarisco_fragment_answer a = pomarisco_fragment_at(&s, 1000, NULL, 0, NULL, 0, &operated);
+    struct pomarisco_fragment_answer a = pomarisco_fragment(&s, 1000, NULL, 0, NULL, 0, &operated);
     expect(a.refusal == 33 && a.kind == 3 && operated.count == 0, "fragment: NULL twice");
-    a = pomarisco_fragment_at(&s, 1000, events, sizeof events, NULL, 0, &operated);
+    a = pomarisco_fragment(&s, 1000, events, sizeof events, NULL, 0, &operated);
     expect(a.refusal == 33 && a.kind == 3 && operated.count == 0, "fragment: NULL for the answer");
-    a = pomarisco_fragment_at(&s, 1000, NULL, 0, out, sizeof out, &operated);
+    a = pomarisco_fragment(&s, 1000, NULL, 0, out, sizeof out, &operated);
     expect(a.refusal == 31 && a.kind == 3 && operated.count == 0, "fragment: NULL for the fragment");
-    expect(pomarisco_link_receive_at(&line, 1, 2, NULL, 0, NULL, 0).refusal == 33 && line.short_frame == 0, "link_receive: NULL twice");
-    expect(pomarisco_link_receive_at(&line, 1, 2, NULL, 0, out, sizeof out).refusal == 11 && line.short_frame == 1, "link_receive: NULL for the bytes");
+    expect(pomarisco_table(&s, NULL, 0, &taken) == 0 && taken == 0, "table: NULL for the readings");
+    expect(pomarisco_link_receive_at(&line, station, NULL, 0, NULL, 0).refusal == 33 && line.short_frame == 0, "link_receive: NULL twice");
+    expect(pomarisco_link_receive_at(&line, station, NULL, 0, out, sizeof out).refusal == 11 && line.short_frame == 1, "link_receive: NULL for the bytes");
     expect(pomarisco_segment_receive_at(&assembly, NULL, 0, NULL, 0).refusal == 33, "segment_receive: NULL twice");
     expect(pomarisco_segment_receive_at(&assembly, NULL, 0, out, sizeof out).refusal == 21, "segment_receive: NULL for the segment");
     expect(pomarisco_segment_send_at(&sender, NULL, 0, NULL, 0).refusal == 33, "segment_send: NULL twice");
     expect(pomarisco_segment_send_at(&sender, NULL, 0, out, sizeof out).refusal == 16, "segment_send: NULL for the fragment");
     expect(memcmp(out, before, sizeof out) == 0, "refused calls leave the lent bytes");
-    expect(s.clock == full.clock && s.buffer.count == full.buffer.count && s.session.wait.kind == full.session.wait.kind, "refused calls leave the state");
+    expect(same_state(&s, &full), "refused calls and an empty table leave the state");
+    memset(&empty, 0x5C, sizeof empty);
+    expect(pomarisco_restart(&empty, setup, NULL, 0, NULL, 0) == 0 && empty.head.binary_count == 0 && empty.head.analog_count == 0 && empty.head.outputs == 16, "restart: NULL twice");
 }
 
 /* ---- any address */
 
-/* The same results at eight addresses in a row. All bytes lent, also those to be read, end where a page begins that may not be touched. */
+/* The same results at eight addresses in a row. All that is lent ends where a page begins that may not be touched. */
 static void addresses(void) {
-    const size_t page = 4096, size = 4 * page;
-    uint8_t *room = mmap(NULL, size + page, PROT_READ | PROT_WRITE, MAP_PRIVATE | MAP_ANONYMOUS, -1, 0);
-    uint8_t *input = mmap(NULL, size + page, PROT_READ | PROT_WRITE, MAP_PRIVATE | MAP_ANONYMOUS, -1, 0);
-    if (room == MAP_FAILED || input == MAP_FAILED || mprotect(room + size, page, PROT_NONE) != 0 || mprotect(input + size, page, PROT_NONE) != 0) exit(2);
     static uint8_t first[3][POMARISCO_FRAGMENT];
+    uint8_t *room = at_end(4 * PAGE) + 4 * PAGE, *input = at_end(4 * PAGE) + 4 * PAGE;
+    struct pomarisco_outstation *s = (struct pomarisco_outstation *)at_end(sizeof *s);
+    struct pomarisco_reading *readings = (struct pomarisco_reading *)at_end(sizeof table);
     int same = 1;
     for (size_t shift = 0; shift < 8; shift++) {
-        static struct pomarisco_outstation s;
         struct pomarisco_crobs operated;
         struct pomarisco_line line = {0};
         struct pomarisco_assembly assembly = {0};
         struct pomarisco_sender sender = {0};
+        size_t taken;
         /* The ends are fixed, so the lengths move the starts. */
-        uint8_t *out = room + size - POMARISCO_FRAGMENT - shift, *frame = room + size - POMARISCO_FRAME - shift, *data = room + size - POMARISCO_USER - shift;
-        s = full;
-        memcpy(input + size - sizeof events, events, sizeof events);
-        const struct pomarisco_fragment_answer a = pomarisco_fragment_at(&s, 1000, input + size - sizeof events, sizeof events, out, POMARISCO_FRAGMENT + shift, &operated);
+        uint8_t *out = room - POMARISCO_FRAGMENT - shift, *frame = room - POMARISCO_FRAME - shift, *data = room - POMARISCO_USER - shift;
+        *s = full;
+        memcpy(readings, table, sizeof table);
+        same &= pomarisco_table(s, readings, TABLE, &taken) == 0 && taken == TABLE;
+        memcpy(input - sizeof events, events, sizeof events);
+        const struct pomarisco_fragment_answer a = pomarisco_fragment(s, 1000, input - sizeof events, sizeof events, out, POMARISCO_FRAGMENT + shift, &operated);
         same &= a.kind == 0 && a.length > 1000;
         if (shift == 0) memcpy(first[0], out, a.length);
         same &= memcmp(first[0], out, a.length) == 0;
 
-        uint8_t *user = input + size - POMARISCO_USER;
+        uint8_t *user = input - POMARISCO_USER;
         for (size_t i = 0; i < POMARISCO_USER; i++) user[i] = (uint8_t)(i * 7 + 0xC0);
         const struct pomarisco_wrote w = pomarisco_frame_write(frame, POMARISCO_FRAME + shift, 0xC4, 1, 2, user, POMARISCO_USER);
         same &= w.refusal == 0 && w.size == POMARISCO_FRAME;
         if (shift == 0) memcpy(first[1], frame, w.size);
         same &= memcmp(first[1], frame, w.size) == 0;
 
-        uint8_t *bytes = input + size - POMARISCO_FRAME;
+        uint8_t *bytes = input - POMARISCO_FRAME;
         memcpy(bytes, first[1], POMARISCO_FRAME);
-        const struct pomarisco_taken t = pomarisco_link_receive_at(&line, 1, 2, bytes, POMARISCO_FRAME, data, POMARISCO_USER + shift);
+        const struct pomarisco_taken t = pomarisco_link_receive(&line, station, bytes, POMARISCO_FRAME, data, POMARISCO_USER + shift);
         same &= t.kind == 0 && t.length == POMARISCO_USER && line.accepted == 1;
         if (shift == 0) memcpy(first[2], data, t.length);
         same &= memcmp(first[2], data, t.length) == 0;
@@ -118,49 +145,145 @@ static void addresses(void) {
         same &= x.refusal == 0 && x.last == 1 && x.size == POMARISCO_USER && memcmp(data, user, x.size) == 0;
     }
     expect(same, "the same at any address, up to the end of a page");
-    munmap(room, size + page);
-    munmap(input, size + page);
 }
 
-/* ---- in place and by value */
+/* ---- exported calls, and on an outstation */
 
 static void in_place(void) {
     static uint8_t one[POMARISCO_FRAGMENT], two[POMARISCO_FRAGMENT];
-    static struct pomarisco_outstation s;
+    static struct pomarisco_outstation s, t;
     struct pomarisco_crobs operated;
-    s = full;
-    const struct pomarisco_fragment_answer a = pomarisco_fragment_at(&s, 2000, operate, sizeof operate, one, sizeof one, &operated);
-    const struct pomarisco_answer b = pomarisco_fragment(full, 2000, operate, sizeof operate, two, sizeof two);
+    s = t = full;
+    const struct pomarisco_fragment_answer a = pomarisco_fragment(&s, 2000, operate, sizeof operate, one, sizeof one, &operated);
+    const struct pomarisco_answer b = pomarisco_lent_fragment(t.head, t.binaries, t.analogs, t.events, t.request, t.answer, t.latch_objects, 2000, operate, sizeof operate, two, sizeof two);
     expect(a.kind == b.answer.kind && a.length == b.answer.length && memcmp(one, two, sizeof one) == 0, "fragment: the same answer");
     expect(operated.count == 1 && b.operated.count == 1 && operated.items[0].index == 5 && b.operated.items[0].index == 5, "fragment: the same objects");
-    expect(s.clock == 2000 && b.image.clock == 2000 && s.session.last.request_len == sizeof operate && full.clock == 1000, "fragment: the argument stays");
+    expect(s.head.clock == 2000 && b.head.clock == 2000 && t.head.clock == 1000 && s.head.request_len == sizeof operate && memcmp(s.request, operate, sizeof operate) == 0, "fragment: the head is given back");
+    expect(memcmp(s.binaries, full.binaries, sizeof s.binaries) == 0 && memcmp(s.analogs, full.analogs, sizeof s.analogs) == 0, "fragment: the points stay");
+    t.head = b.head;
+    expect(memcmp(s.events, t.events, sizeof s.events) == 0 && memcmp(s.request, t.request, sizeof s.request) == 0 && memcmp(s.answer, t.answer, sizeof s.answer) == 0, "fragment: the same arrays");
+
+    s = t = full;
+    const struct pomarisco_reading change = pomarisco_binary_reading(3000, 5, 0, 3), none = pomarisco_binary_reading(3000, 64, 0, 1);
+    expect(pomarisco_reading(&s, change) == 0, "reading");
+    t.head = pomarisco_lent_reading(t.head, t.binaries, t.analogs, t.events, change).head;
+    expect(s.head.clock == 3000 && t.head.clock == 3000 && memcmp(s.binaries, t.binaries, sizeof s.binaries) == 0 && pomarisco_binary_at(&s, 5).flags == 3, "reading: the same");
     s = full;
-    const struct pomarisco_reading reading = {.time = 3000, .point = 64};
-    expect(pomarisco_reading_at(&s, reading) == 2 && pomarisco_reading(full, reading).refusal == 2 && s.clock == 1000, "reading");
+    expect(pomarisco_reading(&s, none) == 2 && same_state(&s, &full), "reading: refused, nothing changed");
+    size_t taken;
+    struct pomarisco_reading two_readings[2] = {change, none};
+    expect(pomarisco_table(&s, two_readings, 2, &taken) == 2 && taken == 1 && s.head.clock == 3000, "table: up to the refused reading");
+}
+
+static void refused_setups(void) {
+    static struct pomarisco_outstation s;
+    static uint8_t many[300];
+    static struct pomarisco_analog_setup many_analogs[65];
     struct pomarisco_setup wrong = setup;
     wrong.master = wrong.own;
-    expect(pomarisco_restart_at(&s, &wrong) == 5 && s.points.binary_count == 0 && s.points.analog_count == 0 && s.outputs == 0, "restart");
+    s = full;
+    expect(pomarisco_restart(&s, wrong, classes, 64, analogs, 64) == 5 && s.head.binary_count == 0 && s.head.analog_count == 0 && s.head.outputs == 0, "restart: addresses");
+    expect(pomarisco_restart(&s, setup, many, 65, analogs, 64) == 5 && pomarisco_restart(&s, setup, many, sizeof many, analogs, 64) == 5, "restart: over 64 binaries");
+    expect(pomarisco_restart(&s, setup, classes, 64, many_analogs, 65) == 5, "restart: over 64 analogs");
+    many[63] = 4;
+    expect(pomarisco_restart(&s, setup, many, 64, NULL, 0) == 5 && s.head.binary_count == 0, "restart: a class");
+    many_analogs[0] = pomarisco_point_float(1, 1.0f, 0.0f, POMARISCO_BEYOND, -0.5f);
+    expect(pomarisco_restart(&s, setup, classes, 64, many_analogs, 1) == 5 && s.head.analog_count == 0, "restart: a limit below 0");
+    expect(pomarisco_reading(&s, pomarisco_binary_reading(1, 0, 0, 1)) == 2, "restart: a refused one has no points");
+}
+
+/* ---- any content */
+
+static uint64_t seed = 1;
+
+static uint64_t any(void) {
+    seed ^= seed << 13;
+    seed ^= seed >> 7;
+    seed ^= seed << 17;
+    return seed;
+}
+
+/* Random bytes for a state: every call returns, and counts stay or are put right. The outstation ends where a page begins that may not be touched. */
+static void any_content(void) {
+    static uint8_t out[POMARISCO_FRAGMENT], fragment[POMARISCO_FRAGMENT];
+    struct pomarisco_outstation *s = (struct pomarisco_outstation *)at_end(sizeof *s);
+    struct pomarisco_crobs operated;
+    int good = 1, answered = 0;
+    for (int round = 0; round < 3000; round++) {
+        uint8_t *bytes = (uint8_t *)s;
+        size_t taken;
+        for (size_t i = 0; i < sizeof *s; i++) bytes[i] = (uint8_t)any();
+        /* Half of them with counts near their arrays, and a clock that lets calls in. */
+        if (round % 2 == 0) {
+            s->head.clock %= 2000;
+            s->head.binary_count %= 130;
+            s->head.analog_count %= 130;
+            s->head.event_count %= 520;
+            s->head.request_len %= 4100;
+            s->head.answer_len %= 230;
+            s->head.latch_len %= 220;
+        }
+        for (size_t i = 0; i < sizeof fragment; i++) fragment[i] = (uint8_t)any();
+        if (round % 4 < 2) memcpy(fragment, events, sizeof events);
+        fragment[0] = (uint8_t)(0xC0 | (fragment[0] & 15));
+        const size_t n = round % 4 < 2 ? sizeof events : any() % (sizeof fragment + 1);
+        const struct pomarisco_fragment_answer a = pomarisco_fragment(s, 2000, fragment, n, out, sizeof out, &operated);
+        good &= a.kind <= 3 && a.length <= sizeof out && operated.count <= POMARISCO_CONTROLS && (a.kind == 3) == (a.refusal != 0);
+        answered += a.kind == 0;
+        good &= pomarisco_table(s, table, TABLE, &taken) <= 4 && taken <= TABLE;
+        for (size_t i = 0; i < POMARISCO_EVENTS; i++) good &= pomarisco_event_at(s, i).kind <= 3;
+    }
+    expect(good && answered > 100, "any content of the outstation");
+}
+
+/* ---- two threads, each with its own */
+
+static void *many_calls(void *where) {
+    struct pomarisco_outstation *s = where;
+    uint8_t out[POMARISCO_FRAGMENT];
+    struct pomarisco_crobs operated;
+    size_t taken;
+    *s = full;
+    for (int i = 0; i < 2000; i++) {
+        pomarisco_table(s, table, TABLE, &taken);
+        pomarisco_fragment(s, 2000, i % 2 == 0 ? events : operate, i % 2 == 0 ? sizeof events : sizeof operate, out, sizeof out, &operated);
+    }
+    return NULL;
+}
+
+static void threads(void) {
+    static struct pomarisco_outstation one, two, alone;
+    pthread_t a, b;
+    expect(pthread_create(&a, NULL, many_calls, &one) == 0 && pthread_create(&b, NULL, many_calls, &two) == 0 && pthread_join(a, NULL) == 0 && pthread_join(b, NULL) == 0, "two threads");
+    many_calls(&alone);
+    expect(same_state(&one, &alone) && same_state(&two, &alone), "two threads: as one alone");
 }
 
 /* ---- the stack */
 
-static void *deep(void *good) {
+static ucontext_t back, there;
+static int deep_good;
+
+static void deep(void) {
     static uint8_t out[POMARISCO_FRAGMENT];
     static struct pomarisco_outstation s;
     struct pomarisco_crobs operated;
     size_t taken;
     s = full;
-    *(int *)good = pomarisco_table_at(&s, &table, &taken) == 0 && pomarisco_reading_at(&s, table.readings[3]) == 0 && pomarisco_fragment_at(&s, 4000, events, sizeof events, out, sizeof out, &operated).kind == 0 && pomarisco_restart_at(&s, &setup) == 0;
-    return NULL;
+    deep_good = pomarisco_table(&s, table, TABLE, &taken) == 0 && pomarisco_reading(&s, table[3]) == 0 && pomarisco_fragment(&s, 4000, events, sizeof events, out, sizeof out, &operated).kind == 0 && pomarisco_fragment(&s, 4000, operate, sizeof operate, out, sizeof out, &operated).kind == 0 && pomarisco_restart(&s, setup, classes, 64, analogs, 64) == 0;
 }
 
-/* A deeper call would meet the page below the stack, and the program would end by a signal. */
+/* Just so much, with a page below that may not be touched: a deeper call would end the program by a signal. */
 static void stack(void) {
-    pthread_attr_t attributes;
-    pthread_t thread;
-    int good = 0;
-    pthread_attr_init(&attributes);
-    expect(pthread_attr_setstacksize(&attributes, POMARISCO_STACK) == 0 && pthread_create(&thread, &attributes, deep, &good) == 0 && pthread_join(thread, NULL) == 0 && good, "a stack of POMARISCO_STACK bytes");
+    uint8_t *room = mmap(NULL, PAGE + POMARISCO_STACK, PROT_READ | PROT_WRITE, MAP_PRIVATE | MAP_ANONYMOUS, -1, 0);
+    if (room == MAP_FAILED || mprotect(room, PAGE, PROT_NONE) != 0) exit(2);
+    getcontext(&there);
+    there.uc_stack.ss_sp = room + PAGE;
+    there.uc_stack.ss_size = POMARISCO_STACK;
+    there.uc_link = &back;
+    makecontext(&there, deep, 0);
+    swapcontext(&back, &there);
+    expect(deep_good, "a stack of POMARISCO_STACK bytes");
 }
 
 int main(void) {
@@ -168,6 +291,9 @@ int main(void) {
     null_pointers();
     addresses();
     in_place();
+    refused_setups();
+    any_content();
+    threads();
     stack();
     printf("%d passed, %d failed\n", passed, failed);
     return failed != 0;

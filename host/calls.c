@@ -3,19 +3,62 @@
  * The words are those of the program `console` and of the second program (reference/README.md, "Grammar decisions"), so that the
  * exported calls can be compared with the second program on random scripts: tests/compare target/host/calls
  *
- * The one thing not asked of the library is `crc`: no exported call gives the check alone, so it is worked out here. */
+ * The one thing not asked of the library is `crc`: no exported call gives the check alone, so it is worked out here.
+ *
+ * Built with APART, each array of the outstation and all that is lent has a place of its own and of exactly its size, and the exported calls are made
+ * directly: a byte too far is seen. With the address sanitizer the places are malloc'ed (it sees this file, memcpy and memset); without it
+ * each ends where a page begins that may not be touched (so the library's own loads and stores are seen too). */
+#define _GNU_SOURCE
 #include <stdbool.h>
 #include <stdio.h>
 #include <stdlib.h>
 #include <string.h>
+#include <sys/mman.h>
 
 #include "pomarisco.h"
 
-enum { LINE = 65536, LENT = 65536, FILL = 0xA5, WORDS = 8 + 64 + 64 + 2 };
+enum { LINE = 65536, LENT = 65536, FILL = 0xA5, MOST = 64, WORDS = 8 + MOST + MOST + 2, TABLE = 128 };
 
-/* What the host keeps. */
+/* ---- places */
+
+enum place { GIVEN, OUTPUT, CLASSES, SETUPS, READINGS, EVENTS, BINARIES, ANALOGS, REQUEST, ANSWER, OBJECTS, PLACES };
+
+/* Memory for so many bytes, until the next for the same use. Aligned for what is kept there: sizes are whole structs. */
+static void *place(enum place which, size_t n) {
+    static void *at[PLACES];
+#if defined APART && defined __SANITIZE_ADDRESS__
+    free(at[which]);
+    at[which] = malloc(n);
+    return at[which];
+#elif defined APART
+    const size_t page = 4096;
+    if (at[which] == NULL) {
+        at[which] = mmap(NULL, LENT + page, PROT_READ | PROT_WRITE, MAP_PRIVATE | MAP_ANONYMOUS, -1, 0);
+        if (at[which] == MAP_FAILED || mprotect((uint8_t *)at[which] + LENT, page, PROT_NONE) != 0) exit(2);
+    }
+    return (uint8_t *)at[which] + LENT - n;
+#else
+    if (at[which] == NULL) at[which] = malloc(LENT);
+    (void)n;
+    return at[which];
+#endif
+}
+
+/* Of exactly their size. */
+static void *copied(enum place which, const void *from, size_t n) {
+    void *to = place(which, n);
+    if (n != 0) memcpy(to, from, n);
+    return to;
+}
+
+/* ---- what the host keeps */
+
 static bool there;
 static struct pomarisco_setup setup;
+static size_t class_count, setup_count;
+static uint8_t classes[256];
+static struct pomarisco_analog_setup setups[256];
+static struct pomarisco_station addresses;
 static struct pomarisco_outstation outstation;
 static struct pomarisco_line line_record;
 static struct pomarisco_assembly assembly;
@@ -23,8 +66,78 @@ static struct pomarisco_sender sender;
 static uint8_t together[LENT];
 
 /* Bytes lent for one call, and what they were before it. */
-static uint8_t lent[LENT], before[LENT];
+static uint8_t *lent, before[LENT];
 static uint8_t given[LINE];
+
+/* ---- the outstation */
+
+#ifdef APART
+
+static uint64_t *events;
+static uint32_t *binaries, *analogs;
+static uint8_t *request, *answer, *latch_objects;
+
+/* Whatever an outstation was, a restart makes it a fresh one. */
+static void forget(void) {
+    memset(&outstation, FILL, sizeof outstation);
+    events = copied(EVENTS, outstation.events, sizeof outstation.events);
+    binaries = copied(BINARIES, outstation.binaries, sizeof outstation.binaries);
+    analogs = copied(ANALOGS, outstation.analogs, sizeof outstation.analogs);
+    request = copied(REQUEST, outstation.request, sizeof outstation.request);
+    answer = copied(ANSWER, outstation.answer, sizeof outstation.answer);
+    latch_objects = copied(OBJECTS, outstation.latch_objects, sizeof outstation.latch_objects);
+}
+
+static uint8_t restart(void) {
+    const uint8_t *c = copied(CLASSES, classes, class_count);
+    const struct pomarisco_analog_setup *a = copied(SETUPS, setups, setup_count * sizeof *setups);
+    const struct pomarisco_restarted r = pomarisco_lent_restart(setup, c, class_count, a, setup_count, binaries, analogs);
+    outstation.head = r.head;
+    return r.refusal;
+}
+
+static uint8_t take_reading(struct pomarisco_reading r) {
+    const struct pomarisco_took t = pomarisco_lent_reading(outstation.head, binaries, analogs, events, r);
+    outstation.head = t.head;
+    return t.refusal;
+}
+
+static uint8_t take_table(const struct pomarisco_reading *readings, size_t n, size_t *taken) {
+    const struct pomarisco_table_took t = pomarisco_lent_table(outstation.head, binaries, analogs, events, copied(READINGS, readings, n * sizeof *readings), n);
+    outstation.head = t.head;
+    *taken = t.taken;
+    return t.refusal;
+}
+
+static struct pomarisco_fragment_answer take_fragment(uint64_t time, const uint8_t *bytes, size_t size, uint8_t *out, size_t length, struct pomarisco_crobs *operated) {
+    const struct pomarisco_answer a = pomarisco_lent_fragment(outstation.head, binaries, analogs, events, request, answer, latch_objects, time, bytes, size, out, length);
+    outstation.head = a.head;
+    *operated = a.operated;
+    return a.answer;
+}
+
+static const struct pomarisco_outstation *seen(void) {
+    memcpy(outstation.events, events, sizeof outstation.events);
+    return &outstation;
+}
+
+#else
+
+static void forget(void) { memset(&outstation, FILL, sizeof outstation); }
+
+static uint8_t restart(void) { return pomarisco_restart(&outstation, setup, classes, class_count, setups, setup_count); }
+
+static uint8_t take_reading(struct pomarisco_reading r) { return pomarisco_reading(&outstation, r); }
+
+static uint8_t take_table(const struct pomarisco_reading *readings, size_t n, size_t *taken) { return pomarisco_table(&outstation, readings, n, taken); }
+
+static struct pomarisco_fragment_answer take_fragment(uint64_t time, const uint8_t *bytes, size_t size, uint8_t *out, size_t length, struct pomarisco_crobs *operated) {
+    return pomarisco_fragment(&outstation, time, bytes, size, out, length, operated);
+}
+
+static const struct pomarisco_outstation *seen(void) { return &outstation; }
+
+#endif
 
 /* ---- words */
 
@@ -81,12 +194,12 @@ static bool hex(struct word w, uint8_t *bytes, size_t *n) {
     return true;
 }
 
-static bool real(struct word w, float *x) {
+/* A float's bits. */
+static bool real(struct word w, uint32_t *bits) {
     uint8_t b[4];
     size_t n;
     if (w.size != 8 || !hex(w, b, &n)) return false;
-    const uint32_t bits = (uint32_t)b[0] << 24 | (uint32_t)b[1] << 16 | (uint32_t)b[2] << 8 | b[3];
-    memcpy(x, &bits, 4);
+    *bits = (uint32_t)b[0] << 24 | (uint32_t)b[1] << 16 | (uint32_t)b[2] << 8 | b[3];
     return true;
 }
 
@@ -108,7 +221,13 @@ static void put_hex(const uint8_t *bytes, size_t n) {
     }
 }
 
-static void lend(size_t n) { memset(lent, FILL, n); }
+static void lend(size_t n) {
+    lent = place(OUTPUT, n);
+    if (n != 0) memset(lent, FILL, n);
+}
+
+/* The bytes of the call. */
+static const uint8_t *give(size_t n) { return copied(GIVEN, given, n); }
 
 /* Whether lent bytes from a place on are no longer as they were filled. */
 static bool touched(size_t from, size_t n) {
@@ -158,42 +277,43 @@ static bool analog(struct word w, struct pomarisco_analog_setup *a, bool *fits) 
     memset(a, 0, sizeof *a);
     a->class_ = (uint8_t)class_;
     a->kind = floating ? 2 : (uint8_t)(p[1].at[0] - '1');
+    a->gate = gate;
     if (floating) {
-        a->real.kind = gate;
         if (!real(p[2], &a->gain) || !real(p[3], &a->offset)) return false;
-        return gate < 2 ? is(p[5], "-") : real(p[5], &a->real.limit);
+        return gate < 2 ? is(p[5], "-") : real(p[5], &a->limit);
     }
-    a->whole.kind = gate;
     if (!is(p[2], "-") || !is(p[3], "-")) return false;
-    return gate < 2 ? is(p[5], "-") : whole_limit(p[5], &a->whole.limit, fits);
+    return gate < 2 ? is(p[5], "-") : whole_limit(p[5], &a->limit, fits);
 }
 
 static bool call_setup(const struct word *w, size_t n) {
-    struct pomarisco_setup u;
+    static struct pomarisco_analog_setup as[MOST];
+    uint8_t cs[MOST];
     uint64_t own, master, arm, confirm, nb, na, no, class_;
     bool fits = true;
     if (n < 8 || !number(w[1], 65535, &own) || !number(w[2], 65535, &master) || !number(w[3], UINT32_MAX, &arm) || !number(w[4], UINT32_MAX, &confirm) || !number(w[5], 255, &nb) || !number(w[6], 255, &na) || !number(w[7], 255, &no)) return false;
-    const size_t bs = nb < 64 ? nb : 64, as = na < 64 ? na : 64;
-    if (n != 8 + bs + as) return false;
-    memset(&u, 0, sizeof u);
-    u.own = (uint16_t)own;
-    u.master = (uint16_t)master;
-    u.arm_time = (uint32_t)arm;
-    u.confirm_time = (uint32_t)confirm;
-    u.outputs = (uint16_t)no;
-    u.binary_count = nb;
-    u.analog_count = na;
-    for (size_t i = 0; i < bs; i++) {
+    const size_t b = nb < MOST ? nb : MOST, a = na < MOST ? na : MOST;
+    if (n != 8 + b + a) return false;
+    for (size_t i = 0; i < b; i++) {
         if (!number(w[8 + i], 255, &class_)) return false;
-        u.classes[i] = (uint8_t)class_;
+        cs[i] = (uint8_t)class_;
     }
-    for (size_t i = 0; i < as; i++)
-        if (!analog(w[8 + bs + i], &u.analogs[i], &fits)) return false;
-    setup = u;
+    for (size_t i = 0; i < a; i++)
+        if (!analog(w[8 + b + i], &as[i], &fits)) return false;
+    setup = (struct pomarisco_setup){.arm_time = (uint32_t)arm, .confirm_time = (uint32_t)confirm, .own = (uint16_t)own, .master = (uint16_t)master, .outputs = (uint16_t)no};
+    addresses = (struct pomarisco_station){.own = setup.own, .master = setup.master};
+    /* Above 64 only 64 are said; the others are as good. */
+    class_count = nb;
+    setup_count = na;
+    memset(classes, 0, sizeof classes);
+    memset(setups, 0, sizeof setups);
+    memcpy(classes, cs, b);
+    memcpy(setups, as, a * sizeof *as);
     memset(together, FILL, sizeof together);
     memset(&assembly, 0, sizeof assembly);
     memset(&sender, 0, sizeof sender);
-    const uint8_t refusal = fits ? pomarisco_restart_at(&outstation, &setup) : 5;
+    forget();
+    const uint8_t refusal = fits ? restart() : 5;
     there = refusal == 0;
     outcome(refusal);
     return true;
@@ -203,23 +323,18 @@ static bool call_setup(const struct word *w, size_t n) {
 
 static bool reading(char kind, const struct word *w, struct pomarisco_reading *r) {
     uint64_t time, point, flags, value;
+    uint32_t bits;
     bool minus;
-    memset(r, 0, sizeof *r);
     if (!number(w[0], UINT64_MAX, &time) || !number(w[1], 255, &point) || !number(w[3], 255, &flags)) return false;
-    r->time = time;
-    r->point = (uint16_t)point;
-    r->flags = (uint8_t)flags;
     if (kind == 'b') {
         if (!number(w[2], 1, &value)) return false;
-        r->kind = 0;
-        r->state = (uint8_t)value;
+        *r = pomarisco_binary_reading(time, (uint16_t)point, (uint8_t)value, (uint8_t)flags);
     } else if (kind == 'a') {
         if (!signed_number(w[2], (uint64_t)1 << 31, INT32_MAX, &minus, &value)) return false;
-        r->kind = 1;
-        r->whole = (int32_t)(minus ? -(int64_t)value : (int64_t)value);
+        *r = pomarisco_whole_reading(time, (uint16_t)point, (int32_t)(minus ? -(int64_t)value : (int64_t)value), (uint8_t)flags);
     } else {
-        r->kind = 2;
-        return real(w[2], &r->real);
+        if (!real(w[2], &bits)) return false;
+        *r = pomarisco_float_reading(time, (uint16_t)point, pomarisco_bits_float(bits), (uint8_t)flags);
     }
     return true;
 }
@@ -227,22 +342,19 @@ static bool reading(char kind, const struct word *w, struct pomarisco_reading *r
 static bool call_reading(char kind, const struct word *w, size_t n) {
     struct pomarisco_reading r;
     if (n != 5 || !reading(kind, w + 1, &r)) return false;
-    if (!none()) outcome(pomarisco_reading_at(&outstation, r));
+    if (!none()) outcome(take_reading(r));
     return true;
 }
 
 static bool call_table(const struct word *w, size_t n) {
-    static struct pomarisco_table t;
+    static struct pomarisco_reading readings[TABLE];
     struct word p[5];
     size_t taken;
-    if (n > 1 + POMARISCO_TABLE) return false;
-    memset(&t, 0, sizeof t);
-    for (size_t i = 1; i < n; i++) {
-        if (split(w[i], ',', p, 5) != 5 || (!is(p[0], "b") && !is(p[0], "a") && !is(p[0], "f")) || !reading(p[0].at[0], p + 1, &t.readings[i - 1])) return false;
-        t.count = i;
-    }
+    if (n > 1 + TABLE) return false;
+    for (size_t i = 1; i < n; i++)
+        if (split(w[i], ',', p, 5) != 5 || (!is(p[0], "b") && !is(p[0], "a") && !is(p[0], "f")) || !reading(p[0].at[0], p + 1, &readings[i - 1])) return false;
     if (none()) return true;
-    const uint8_t refusal = pomarisco_table_at(&outstation, &t, &taken);
+    const uint8_t refusal = take_table(readings, n - 1, &taken);
     printf("took %zu ", taken);
     outcome(refusal);
     return true;
@@ -251,17 +363,14 @@ static bool call_table(const struct word *w, size_t n) {
 static bool call_held(size_t n) {
     if (n != 1) return false;
     if (none()) return true;
-    printf("held %zu", outstation.buffer.count);
-    for (size_t i = 0; i < outstation.buffer.count; i++) {
-        const struct pomarisco_event *e = &outstation.buffer.held[i].event;
-        const struct pomarisco_value *v = &e->shown.value;
-        uint32_t bits;
-        memcpy(&bits, &v->real, 4);
-        if (e->shown.kind == 0) printf(" b,%u,%u", e->point, e->shown.state);
-        else if (v->kind == 0) printf(" 1,%u,%d", e->point, v->wide);
-        else if (v->kind == 1) printf(" 2,%u,%d", e->point, v->narrow);
-        else printf(" 5,%u,%08X", e->point, bits);
-        printf(",%u,%llu", e->flags, (unsigned long long)e->time);
+    const struct pomarisco_outstation *o = seen();
+    printf("held %zu", pomarisco_held(o));
+    for (size_t i = 0; i < pomarisco_held(o); i++) {
+        const struct pomarisco_event e = pomarisco_event_at(o, i);
+        if (e.kind == 3) printf(" b,%u,%u", e.point, e.bits);
+        else if (e.kind == 2) printf(" 5,%u,%08X", e.point, e.bits);
+        else printf(" %u,%u,%d", e.kind + 1, e.point, pomarisco_bits_whole(e.bits));
+        printf(",%u,%llu", e.flags, (unsigned long long)e.time);
     }
     return true;
 }
@@ -292,7 +401,7 @@ static bool call_frag(const struct word *w, size_t n) {
     if (n != 4 || !number(w[1], UINT64_MAX, &time) || !length(w[2], &len) || !hex(w[3], given, &size)) return false;
     if (none()) return true;
     lend(len);
-    const struct pomarisco_fragment_answer a = pomarisco_fragment_at(&outstation, time, given, size, lent, len, &operated);
+    const struct pomarisco_fragment_answer a = take_fragment(time, give(size), size, lent, len, &operated);
     if (a.kind == 0) {
         fputs("ans ", stdout);
         put_hex(lent, a.length);
@@ -331,12 +440,12 @@ static bool call_station(const struct word *w, size_t n) {
     if (n != 3 || !length(w[1], &len) || !hex(w[2], given, &size)) return false;
     if (none()) return true;
     lend(len);
-    const struct pomarisco_taken t = pomarisco_link_receive_at(&line_record, setup.own, setup.master, given, size, lent, len);
+    const struct pomarisco_taken t = pomarisco_link_receive_at(&line_record, addresses, give(size), size, lent, len);
     if (t.kind == 0) {
         fputs("data ", stdout);
         put_hex(lent, t.length);
     } else if (t.kind == 1) {
-        const struct pomarisco_wrote r = pomarisco_link_reply(reply, sizeof reply, setup.own, setup.master, t.control);
+        const struct pomarisco_wrote r = pomarisco_link_reply(reply, sizeof reply, addresses, t.control);
         printf("reply %02X ", t.control);
         put_hex(reply, r.size);
     } else {
@@ -352,7 +461,9 @@ static bool call_seg(const struct word *w, size_t n) {
     if (n != 3 || !length(w[1], &len) || !hex(w[2], given, &size)) return false;
     if (none()) return true;
     memcpy(before, together, len);
-    const struct pomarisco_segment s = pomarisco_segment_receive_at(&assembly, given, size, together, len);
+    lent = copied(OUTPUT, together, len);
+    const struct pomarisco_segment s = pomarisco_segment_receive_at(&assembly, give(size), size, lent, len);
+    if (len != 0) memcpy(together, lent, len);
     if (s.kind == 0) {
         end = assembly.length;
         fputs("more", stdout);
@@ -374,7 +485,7 @@ static bool call_send(const struct word *w, size_t n) {
     if (none()) return true;
     for (;;) {
         lend(len);
-        const struct pomarisco_sent s = pomarisco_segment_send_at(&sender, given, size, lent, len);
+        const struct pomarisco_sent s = pomarisco_segment_send_at(&sender, give(size), size, lent, len);
         clean &= !touched(s.refusal == 0 ? s.size : 0, len);
         if (refused(s.refusal)) break;
         if (!begun) fputs("segs", stdout);
@@ -394,8 +505,9 @@ static bool call_frame_write(const struct word *w, size_t n) {
     if (n != 6 || !length(w[1], &len) || w[2].size != 2 || !hex(w[2], &control, &one) || !number(w[3], 65535, &destination) || !number(w[4], 65535, &source) || !hex(w[5], given, &size)) return false;
     lend(len);
     /* Control 44 is data to a master, which has its own call. */
-    const struct pomarisco_wrote r = control == 0x44 ? pomarisco_link_data(lent, len, (uint16_t)source, (uint16_t)destination, given, size)
-                                                     : pomarisco_frame_write(lent, len, control, (uint16_t)destination, (uint16_t)source, given, size);
+    const struct pomarisco_station station = {.own = (uint16_t)source, .master = (uint16_t)destination};
+    const struct pomarisco_wrote r = control == 0x44 ? pomarisco_link_data(lent, len, station, give(size), size)
+                                                     : pomarisco_frame_write(lent, len, control, station.master, station.own, give(size), size);
     if (!refused(r.refusal)) {
         fputs("frame ", stdout);
         put_hex(lent, r.size);
@@ -408,7 +520,7 @@ static bool call_frame_read(const struct word *w, size_t n) {
     size_t len, size;
     if (n != 3 || !length(w[1], &len) || !hex(w[2], given, &size)) return false;
     lend(len);
-    const struct pomarisco_frame f = pomarisco_frame_read(given, size, lent, len);
+    const struct pomarisco_frame f = pomarisco_frame_read(give(size), size, lent, len);
     if (!refused(f.refusal)) {
         printf("user %02X %u %u ", f.control, f.destination, f.source);
         put_hex(lent, f.length);
@@ -442,7 +554,7 @@ static bool call(struct word line) {
     if (is(w[0], "restart")) {
         if (n != 1) return false;
         if (none()) return true;
-        outcome(pomarisco_restart_at(&outstation, &setup));
+        outcome(restart());
         memset(&assembly, 0, sizeof assembly);
         memset(&sender, 0, sizeof sender);
         return true;

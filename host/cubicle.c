@@ -18,22 +18,9 @@
 
 enum { OWN = 1, MASTER = 2, FEEDERS = 4, STEP = 100, ONLINE = 1 };
 
-static const struct pomarisco_setup setup = {
-    .own = OWN,
-    .master = MASTER,
-    .arm_time = 300,
-    .confirm_time = 400,
-    .outputs = FEEDERS,
-    .binary_count = FEEDERS,
-    .analog_count = FEEDERS,
-    .classes = {1, 1, 1, 2},
-    .analogs = {
-        {.class_ = 2, .kind = 2, .gain = 0.001f, .offset = 0.0f, .real = {.kind = 2, .limit = 0.125f}},
-        {.class_ = 3, .kind = 2, .gain = 0.001f, .offset = 0.5f, .real = {.kind = 3, .limit = 0.5f}},
-        {.class_ = 2, .kind = 0, .whole = {.kind = 2, .limit = 100}},
-        {.class_ = 3, .kind = 1, .whole = {.kind = 3, .limit = 1000}},
-    },
-};
+static const struct pomarisco_setup setup = {.arm_time = 300, .confirm_time = 400, .own = OWN, .master = MASTER, .outputs = FEEDERS};
+static const struct pomarisco_station station = {.own = OWN, .master = MASTER};
+static const uint8_t classes[FEEDERS] = {1, 1, 1, 2};
 
 static struct pomarisco_outstation outstation;
 static struct pomarisco_line line;
@@ -52,14 +39,25 @@ static int32_t volts(int feeder) {
 }
 
 static bool read_inputs(void) {
-    static struct pomarisco_table table;
+    struct pomarisco_reading table[2 * FEEDERS];
     size_t taken;
-    table.count = 0;
-    for (int i = 0; i < FEEDERS; i++)
-        table.readings[table.count++] = (struct pomarisco_reading){.time = clock_ms, .point = (uint16_t)i, .flags = ONLINE, .kind = 0, .state = closed[i]};
-    for (int i = 0; i < FEEDERS; i++)
-        table.readings[table.count++] = (struct pomarisco_reading){.time = clock_ms, .point = (uint16_t)i, .flags = ONLINE, .kind = i < 2 ? 2 : 1, .whole = volts(i), .real = (float)volts(i)};
-    return pomarisco_table_at(&outstation, &table, &taken) == 0;
+    for (int i = 0; i < FEEDERS; i++) {
+        const uint16_t point = (uint16_t)i;
+        table[i] = pomarisco_binary_reading(clock_ms, point, closed[i], ONLINE);
+        table[FEEDERS + i] = i < 2 ? pomarisco_float_reading(clock_ms, point, (float)volts(i), ONLINE) : pomarisco_whole_reading(clock_ms, point, volts(i), ONLINE);
+    }
+    return pomarisco_table(&outstation, table, 2 * FEEDERS, &taken) == 0;
+}
+
+/* Two float points in kV, a 32-bit and a 16-bit point in V. */
+static bool restart(void) {
+    const struct pomarisco_analog_setup analogs[FEEDERS] = {
+        pomarisco_point_float(2, 0.001f, 0.0f, POMARISCO_BEYOND, 0.125f),
+        pomarisco_point_float(3, 0.001f, 0.5f, POMARISCO_SUMMED, 0.5f),
+        pomarisco_point_32(2, POMARISCO_BEYOND, 100),
+        pomarisco_point_16(3, POMARISCO_SUMMED, 1000),
+    };
+    return pomarisco_restart(&outstation, setup, classes, FEEDERS, analogs, FEEDERS) == 0;
 }
 
 /* Only what the outstation hands over is carried out, in its order. */
@@ -81,7 +79,7 @@ static void send_fragment(const uint8_t *bytes, size_t length) {
     for (;;) {
         const struct pomarisco_sent s = pomarisco_segment_send_at(&sender, bytes, length, segment, sizeof segment);
         if (s.refusal != 0) return;
-        put(frame, pomarisco_link_data(frame, sizeof frame, OWN, MASTER, segment, s.size));
+        put(frame, pomarisco_link_data(frame, sizeof frame, station, segment, s.size));
         if (s.last) return;
     }
 }
@@ -93,7 +91,7 @@ static void take_segment(const uint8_t *bytes, size_t length) {
     struct pomarisco_crobs operated;
     const struct pomarisco_segment s = pomarisco_segment_receive_at(&assembly, bytes, length, fragment, sizeof fragment);
     if (s.kind != 1) return;
-    const struct pomarisco_fragment_answer a = pomarisco_fragment_at(&outstation, clock_ms, fragment, s.length, answer, sizeof answer, &operated);
+    const struct pomarisco_fragment_answer a = pomarisco_fragment(&outstation, clock_ms, fragment, s.length, answer, sizeof answer, &operated);
     operate(&operated);
     if (a.kind == 0) send_fragment(answer, a.length);
 }
@@ -101,13 +99,13 @@ static void take_segment(const uint8_t *bytes, size_t length) {
 /* Takes the frame at the front of the bytes; gives how many bytes are done with. */
 static size_t take_frame(const uint8_t *bytes, size_t length) {
     uint8_t user[POMARISCO_USER], frame[POMARISCO_FRAME];
-    const struct pomarisco_taken t = pomarisco_link_receive_at(&line, OWN, MASTER, bytes, length, user, sizeof user);
+    const struct pomarisco_taken t = pomarisco_link_receive_at(&line, station, bytes, length, user, sizeof user);
     hunting = t.refusal >= 11 && t.refusal <= 15;
     if (hunting) return 1;
     clock_ms += STEP;
     if (!read_inputs()) return length;
     if (t.kind == 0) take_segment(user, t.length);
-    if (t.kind == 1) put(frame, pomarisco_link_reply(frame, sizeof frame, OWN, MASTER, t.control));
+    if (t.kind == 1) put(frame, pomarisco_link_reply(frame, sizeof frame, station, t.control));
     const size_t n = (size_t)bytes[2] - 5;
     return 10 + n + 2 * ((n + 15) / 16);
 }
@@ -116,7 +114,7 @@ int main(void) {
     uint8_t bytes[POMARISCO_FRAME], user[POMARISCO_USER];
     size_t length = 0;
     bool ended = false;
-    if (pomarisco_restart_at(&outstation, &setup) != 0) return 1;
+    if (!restart()) return 1;
     for (;;) {
         if (hunting && length > 0 && !(bytes[0] == 0x05 && (length == 1 || bytes[1] == 0x64))) {
             memmove(bytes, bytes + 1, --length);

@@ -1,20 +1,22 @@
 /* Checks the header's layout on a live outstation, then measures the stack and the time of each call.
  *
- * Stack: each call runs on a thread whose stack was painted before; what is no longer painted was used. Time: the best of many rounds. */
+ * Stack: each call runs on a stack of its own, painted before; what is no longer painted was used. Time: the best of many rounds. */
 #define _GNU_SOURCE
-#include <pthread.h>
 #include <stdio.h>
-#include <stdlib.h>
 #include <string.h>
 #include <time.h>
+#include <ucontext.h>
 
 #include "pomarisco.h"
 
-enum { STACK = 4 << 20, PAINT = 0x5C };
+enum { STACK = 1 << 17, PAINT = 0x5C };
 
-static struct pomarisco_setup setup;
+static const struct pomarisco_setup setup = {.arm_time = 5001, .confirm_time = 6002, .own = 1, .master = 2, .outputs = 15};
+static const struct pomarisco_station station = {.own = 1, .master = 2};
+static uint8_t classes[64];
+static struct pomarisco_analog_setup analogs[63];
 static struct pomarisco_outstation outstation, full;
-static struct pomarisco_table table;
+static struct pomarisco_reading table[128];
 static struct pomarisco_crobs operated;
 static struct pomarisco_line line_record;
 static struct pomarisco_assembly assembly;
@@ -23,6 +25,7 @@ static struct pomarisco_fragment_answer answer;
 static uint8_t frame[POMARISCO_FRAME], user[POMARISCO_USER], out[POMARISCO_FRAGMENT], refusal;
 static const uint8_t events[] = {0xC3, 0x01, 60, 2, 6, 60, 3, 6, 60, 4, 6}, class_0[] = {0xC3, 0x01, 60, 1, 6};
 static const uint8_t operate[] = {0xC4, 5, 12, 1, 0x17, 1, 5, 3, 1, 0, 0, 0, 0, 0, 0, 0, 0, 0};
+static uint8_t selects[sizeof operate], longest[POMARISCO_FRAGMENT], controls[2 + 109];
 static size_t taken, frame_size;
 static int wrong;
 
@@ -33,107 +36,144 @@ static void expect(int good, const char *what) {
     }
 }
 
-/* 64 binaries, 64 analogs of the three kinds, all held places used. */
+/* 64 binaries, 63 analogs of the three kinds. */
 static void prepare(void) {
-    setup = (struct pomarisco_setup){.own = 1, .master = 2, .arm_time = 5001, .confirm_time = 6002, .outputs = 15, .binary_count = 64, .analog_count = 63};
-    for (int i = 0; i < 64; i++) {
-        setup.classes[i] = (uint8_t)(1 + i % 3);
-        setup.analogs[i].class_ = (uint8_t)(1 + i % 3);
-        setup.analogs[i].kind = (uint8_t)(i % 3);
-        setup.analogs[i].gain = 2.5f;
-        setup.analogs[i].offset = 0.25f;
-        setup.analogs[i].whole = (struct pomarisco_whole_gate){70000u + (uint32_t)i, (uint8_t)(i % 4)};
-        setup.analogs[i].real = (struct pomarisco_float_gate){1.5f, (uint8_t)(i % 4)};
+    for (int i = 0; i < 64; i++) classes[i] = (uint8_t)(1 + i % 3);
+    for (int i = 0; i < 63; i++) {
+        const uint8_t class_ = (uint8_t)(1 + i % 3), gate = (uint8_t)(i % 4);
+        const uint32_t limit = 70000u + (uint32_t)i;
+        analogs[i] = i % 3 == 0 ? pomarisco_point_32(class_, gate, limit) : i % 3 == 1 ? pomarisco_point_16(class_, gate, limit) : pomarisco_point_float(class_, 2.5f, 0.25f, gate, 1.5f);
     }
-    expect(pomarisco_restart_at(&outstation, &setup) == 0, "restart");
+    memset(&outstation, PAINT, sizeof outstation);
+    expect(pomarisco_restart(&outstation, setup, classes, 64, analogs, 63) == 0, "restart");
+    memcpy(selects, operate, sizeof selects);
+    selects[1] = 3;
+    /* The longest fragments: a request that is no READ, and a SELECT of eight objects. */
+    memset(longest, 0, sizeof longest);
+    longest[0] = 0xC5;
+    longest[1] = 2;
+    memcpy(controls, (const uint8_t[]){0xC6, 3, 12, 1, 0x28, 8, 0}, 7);
+    for (int i = 0; i < 8; i++) memcpy(controls + 7 + 13 * i, (const uint8_t[]){(uint8_t)i, 0, 3, 1, 0, 0, 0, 0, 0, 0, 0, 0, 0}, 13);
 }
 
 static void layout(void) {
-    const struct pomarisco_points *p = &outstation.points;
-    expect(outstation.arm_time == 5001 && outstation.confirm_time == 6002 && outstation.clock == 0 && outstation.outputs == 15, "times, outputs");
-    expect(p->binary_count == 64 && p->analog_count == 63, "counts");
-    for (int i = 0; i < 64; i++) expect(p->binaries[i].class_ == 1 + i % 3 && !p->binaries[i].seen && p->binaries[i].flags == 2, "a binary");
-    for (int i = 0; i < 63; i++) {
-        const struct pomarisco_analog *a = &p->analogs[i];
-        expect(a->class_ == 1 + i % 3 && a->measure.kind == i % 3 && a->flags == 2 && a->value.kind == i % 3, "an analog");
-        if (i % 3 == 2) expect(a->measure.real.gain == 2.5f && a->measure.real.offset == 0.25f && a->measure.real.gate.kind == i % 4 && (i % 4 < 2 || a->measure.real.gate.limit == 1.5f), "a scale");
-        else expect(a->measure.whole.gate.kind == i % 4 && (i % 4 < 2 || a->measure.whole.gate.limit == 70000u + (uint32_t)i), "a gate");
+    const struct pomarisco_head *h = &outstation.head;
+    expect(h->arm_time == 5001 && h->confirm_time == 6002 && h->clock == 0 && h->outputs == 15, "times, outputs");
+    expect(h->binary_count == 64 && h->analog_count == 63 && h->event_count == 0 && h->overflow == 0, "counts");
+    expect(h->restarted == 1 && h->latch_armed == 0 && h->request_kept == 0 && h->waiting == 0, "restarted");
+    for (size_t i = 0; i < 64; i++) {
+        const struct pomarisco_binary p = pomarisco_binary_at(&outstation, i);
+        expect(p.class_ == 1 + i % 3 && p.seen == 0 && p.state == 0 && p.flags == 2 && p.reported == 2, "a binary");
     }
-    expect(outstation.session.restarted == 1 && !outstation.session.latch.armed && !outstation.session.last.held && outstation.session.wait.kind == 0, "session");
+    for (size_t i = 0; i < 63; i++) {
+        const struct pomarisco_analog a = pomarisco_analog_at(&outstation, i);
+        expect(a.class_ == 1 + i % 3 && a.kind == i % 3 && a.seen == 0 && a.flags == 2 && a.value_kind == i % 3 && a.value == 0, "an analog");
+        expect(a.gate == i % 4, "a gate");
+        if (a.gate >= 2) expect(a.kind == 2 ? a.limit == pomarisco_float_bits(1.5f) : a.limit == 70000u + i, "a limit");
+        if (a.kind == 2) expect(a.gain == pomarisco_float_bits(2.5f) && a.offset == pomarisco_float_bits(0.25f), "a scale");
+    }
 
     /* Readings: first values, then changes of flags, which are events. */
     for (uint8_t flags = 1; flags <= 9; flags = (uint8_t)(flags + 8))
         for (int i = 0; i < 63; i++) {
-            const struct pomarisco_reading r = {.time = 1000u * flags + (uint64_t)i, .whole = -40000 - i, .real = 8.0f, .point = (uint16_t)i, .flags = flags, .kind = (uint8_t)(i % 3 == 2 ? 2 : 1)};
-            expect(pomarisco_reading_at(&outstation, r) == 0, "a reading");
+            const uint64_t time = 1000u * flags + (uint64_t)i;
+            const struct pomarisco_reading r = i % 3 == 2 ? pomarisco_float_reading(time, (uint16_t)i, 8.0f, flags) : pomarisco_whole_reading(time, (uint16_t)i, -40000 - i, flags);
+            expect(pomarisco_reading(&outstation, r) == 0, "a reading");
         }
-    expect(outstation.clock == 9062 && outstation.buffer.count == 63 && !outstation.buffer.overflow, "buffer");
-    for (int i = 0; i < 63; i++) {
-        const struct pomarisco_event *e = &outstation.buffer.held[i].event;
-        const struct pomarisco_value *v = &e->shown.value;
-        const int over = i % 3 == 1 ? 32 : 0;
-        expect(e->time == 9000u + (uint64_t)i && e->point == i && e->flags == (9 | over) && e->class_ == 1 + i % 3 && e->shown.kind == 1 && v->kind == i % 3 && !outstation.buffer.held[i].carried, "an event");
-        expect(i % 3 == 0 ? v->wide == -40000 - i : i % 3 == 1 ? v->narrow == -32768 : v->real == 20.25f, "a value");
-        expect(p->analogs[i].seen == 1 && p->analogs[i].reported == (9 | over), "a point");
+    expect(h->clock == 9062 && pomarisco_held(&outstation) == 63 && h->overflow == 0, "events");
+    for (size_t i = 0; i < 63; i++) {
+        const struct pomarisco_event e = pomarisco_event_at(&outstation, i);
+        const struct pomarisco_analog a = pomarisco_analog_at(&outstation, i);
+        const int over = i % 3 == 1 ? 32 : 0, z = -40000 - (int)i;
+        expect(e.time == 9000 + i && e.point == i && e.flags == (9 | over) && e.class_ == 1 + i % 3 && e.kind == i % 3 && e.carried == 0, "an event");
+        expect(e.kind == 2 ? pomarisco_bits_float(e.bits) == 20.25f : pomarisco_bits_whole(e.bits) == (e.kind == 0 ? z : -32768), "an event's value");
+        expect(a.seen == 1 && a.flags == (9 | over) && a.reported_flags == (9 | over) && a.value == e.bits, "a point");
+        expect(a.kind == 2 ? pomarisco_bits_float(a.previous) == 20.25f : pomarisco_bits_whole(a.previous) == z && a.reported == a.previous, "a point's track");
     }
-    answer = pomarisco_fragment_at(&outstation, 10000, events, sizeof events, out, sizeof out, &operated);
-    expect(answer.kind == 0 && answer.length > 4 && out[0] == 0xE3 && outstation.session.wait.kind == 1 && outstation.session.wait.time == 10000 && outstation.session.wait.sequence == 3, "wait");
-    expect(outstation.buffer.held[62].carried == 1, "carried");
-    answer = pomarisco_fragment_at(&outstation, 10000, operate, sizeof operate, out, sizeof out, &operated);
+    expect(pomarisco_reading(&outstation, pomarisco_binary_reading(9063, 7, 1, 3)) == 0, "a binary reading");
+    const struct pomarisco_binary b = pomarisco_binary_at(&outstation, 7);
+    expect(b.class_ == 2 && b.seen == 1 && b.state == 1 && b.flags == 3 && b.reported == 3, "a read binary");
+    expect(pomarisco_reading(&outstation, pomarisco_binary_reading(9064, 7, 0, 3)) == 0 && pomarisco_held(&outstation) == 64, "a change of state");
+    const struct pomarisco_event e = pomarisco_event_at(&outstation, 63);
+    expect(e.kind == 3 && e.bits == 0 && e.time == 9064 && e.point == 7 && e.flags == 3 && e.class_ == 2, "a binary's event");
+
+    answer = pomarisco_fragment(&outstation, 10000, events, sizeof events, out, sizeof out, &operated);
+    expect(answer.kind == 0 && answer.length > 4 && out[0] == 0xE3 && h->waiting == 1 && h->wait_time == 10000 && h->wait_sequence == 3 && h->showed_overflow == 0, "wait");
+    expect(pomarisco_event_at(&outstation, 63).carried == 1, "carried");
+    answer = pomarisco_fragment(&outstation, 10000, operate, sizeof operate, out, sizeof out, &operated);
     expect(operated.count == 1 && operated.items[0].index == 5 && operated.items[0].code == 3 && operated.items[0].count == 1, "operated");
-    expect(outstation.session.last.held && outstation.session.last.request_len == 18 && memcmp(outstation.session.last.request, operate, 18) == 0 && outstation.session.last.answer_len == answer.length && memcmp(outstation.session.last.answer, out, answer.length) == 0, "last");
-    uint8_t select[sizeof operate];
-    memcpy(select, operate, sizeof select);
-    select[1] = 3;
-    answer = pomarisco_fragment_at(&outstation, 10001, select, sizeof select, out, sizeof out, &operated);
-    expect(outstation.session.latch.armed == 1 && outstation.session.latch.sequence == 4 && outstation.session.latch.time == 10001 && outstation.session.latch.len == 16 && memcmp(outstation.session.latch.objects, operate + 2, 16) == 0, "latch");
+    expect(h->request_kept == 1 && h->request_len == 18 && memcmp(outstation.request, operate, 18) == 0 && h->answer_len == answer.length && memcmp(outstation.answer, out, answer.length) == 0, "last request");
+    answer = pomarisco_fragment(&outstation, 10001, selects, sizeof selects, out, sizeof out, &operated);
+    expect(h->latch_armed == 1 && h->latch_sequence == 4 && h->latch_time == 10001 && h->latch_len == 16 && memcmp(outstation.latch_objects, operate + 2, 16) == 0, "latch");
 }
 
 static void fill(void) {
-    for (uint64_t i = 0; i < 400; i++)
-        pomarisco_reading_at(&outstation, (struct pomarisco_reading){.time = 20000 + i, .point = (uint16_t)(i % 64), .flags = 1, .state = (uint8_t)(i / 64 % 2)});
-    expect(outstation.buffer.count == 256 && outstation.buffer.overflow == 1, "full");
+    for (uint64_t i = 0; i < 400; i++) pomarisco_reading(&outstation, pomarisco_binary_reading(20000 + i, (uint16_t)(i % 64), (uint8_t)(i / 64 % 2), 1));
+    expect(outstation.head.event_count == 256 && outstation.head.overflow == 1, "full");
+    answer = pomarisco_fragment(&outstation, 20400, selects, sizeof selects, out, sizeof out, &operated);
     /* A response with events is out, so that a CONFIRM is taken. */
-    answer = pomarisco_fragment_at(&outstation, 20500, events, sizeof events, out, sizeof out, &operated);
+    answer = pomarisco_fragment(&outstation, 20500, events, sizeof events, out, sizeof out, &operated);
     full = outstation;
-    for (size_t i = 0; i < POMARISCO_TABLE; i++) table.readings[i] = (struct pomarisco_reading){.time = 20600, .point = (uint16_t)(i % 64), .flags = 1, .state = (uint8_t)(i / 64)};
-    table.count = POMARISCO_TABLE;
+    for (size_t i = 0; i < 128; i++) {
+        const uint16_t point = (uint16_t)(i / 2 % 63);
+        table[i] = i % 2 == 0 ? pomarisco_binary_reading(20600, point, (uint8_t)(i / 4 % 2), 1) : point % 3 == 2 ? pomarisco_float_reading(20600, point, 3.0f, 1) : pomarisco_whole_reading(20600, point, 1000000, 1);
+    }
     frame_size = pomarisco_frame_write(frame, sizeof frame, 0xC4, 1, 2, user, sizeof user).size;
     expect(frame_size == 292, "frame");
 }
 
+static void fragment_call(const uint8_t *f, size_t n) { answer = pomarisco_fragment(&outstation, 20700, f, n, out, sizeof out, &operated); }
+
 static void nothing(void) {}
-static void restart(void) { refusal = pomarisco_restart_at(&outstation, &setup); }
-static void reading(void) { refusal = pomarisco_reading_at(&outstation, (struct pomarisco_reading){.time = 20600, .point = 3, .flags = 1}); }
-static void tables(void) { refusal = pomarisco_table_at(&outstation, &table, &taken); }
-static void read_events(void) { answer = pomarisco_fragment_at(&outstation, 20700, events, sizeof events, out, sizeof out, &operated); }
-static void read_class_0(void) { answer = pomarisco_fragment_at(&outstation, 20700, class_0, sizeof class_0, out, sizeof out, &operated); }
-static void control(void) { answer = pomarisco_fragment_at(&outstation, 20700, operate, sizeof operate, out, sizeof out, &operated); }
-static void confirm(void) { answer = pomarisco_fragment_at(&outstation, 20700, (const uint8_t[]){0xC3, 0}, 2, out, sizeof out, &operated); }
+static void restart(void) { refusal = pomarisco_restart(&outstation, setup, classes, 64, analogs, 63); }
+static void reading(void) { refusal = pomarisco_reading(&outstation, pomarisco_binary_reading(20600, 3, 0, 1)); }
+static void whole_reading(void) { refusal = pomarisco_reading(&outstation, pomarisco_whole_reading(20600, 3, 900000, 1)); }
+static void float_reading(void) { refusal = pomarisco_reading(&outstation, pomarisco_float_reading(20600, 2, 900000.0f, 1)); }
+static void tables(void) { refusal = pomarisco_table(&outstation, table, 128, &taken); }
+static void read_events(void) { fragment_call(events, sizeof events); }
+static void read_class_0(void) { fragment_call(class_0, sizeof class_0); }
+static void control(void) { fragment_call(operate, sizeof operate); }
+static void select_one(void) { fragment_call(selects, sizeof selects); }
+static void select_eight(void) { fragment_call(controls, sizeof controls); }
+static void longest_request(void) { fragment_call(longest, sizeof longest); }
+static void confirm(void) { fragment_call((const uint8_t[]){0xC3, 0}, 2); }
 static void frame_write(void) { refusal = pomarisco_frame_write(frame, sizeof frame, 0xC4, 1, 2, user, sizeof user).refusal; }
 static void frame_read(void) { refusal = pomarisco_frame_read(frame, frame_size, out, sizeof out).refusal; }
-static void link_receive(void) { refusal = pomarisco_link_receive_at(&line_record, 1, 2, frame, frame_size, out, sizeof out).refusal; }
-static void link_reply(void) { refusal = pomarisco_link_reply(frame, sizeof frame, 1, 2, 0).refusal; }
-static void link_data(void) { refusal = pomarisco_link_data(frame, sizeof frame, 1, 2, user, sizeof user).refusal; }
+static void link_receive(void) { refusal = pomarisco_link_receive_at(&line_record, station, frame, frame_size, out, sizeof out).refusal; }
+static void link_reply(void) { refusal = pomarisco_link_reply(frame, sizeof frame, station, 0).refusal; }
+static void link_data(void) { refusal = pomarisco_link_data(frame, sizeof frame, station, user, sizeof user).refusal; }
 static void segment_receive(void) { assembly.begun = 0; user[0] = 0xC0; refusal = pomarisco_segment_receive_at(&assembly, user, sizeof user, out, sizeof out).refusal; }
 static void segment_send(void) { sender.at = 0; refusal = pomarisco_segment_send_at(&sender, user, sizeof user, out, sizeof out).refusal; }
 
-static void *run(void *call) {
-    (*(void (**)(void))call)();
-    return NULL;
+/* The state after a SELECT, of which the same again is a repeat, and the same with OPERATE carries out. */
+static void after_select(void) {
+    outstation = full;
+    select_one();
 }
 
+static void operate_selected(void) {
+    uint8_t f[sizeof selects];
+    memcpy(f, selects, sizeof f);
+    f[0] = 0xC5;
+    f[1] = 4;
+    fragment_call(f, sizeof f);
+}
+
+static void as_full(void) { outstation = full; }
+
+/* The call is all that runs on this stack: what is no longer painted it used, with the caller's arguments and result. */
 static size_t stack_of(void (*call)(void)) {
-    uint8_t *stack = aligned_alloc(4096, STACK);
-    pthread_attr_t attributes;
-    pthread_t thread;
-    memset(stack, PAINT, STACK);
-    pthread_attr_init(&attributes);
-    if (pthread_attr_setstack(&attributes, stack, STACK) != 0 || pthread_create(&thread, &attributes, run, &call) != 0) exit(1);
-    pthread_join(thread, NULL);
+    static uint8_t stack[STACK];
+    static ucontext_t back, there;
+    memset(stack, PAINT, sizeof stack);
+    getcontext(&there);
+    there.uc_stack.ss_sp = stack;
+    there.uc_stack.ss_size = sizeof stack;
+    there.uc_link = &back;
+    makecontext(&there, call, 0);
+    swapcontext(&back, &there);
     size_t unused = 0;
     while (unused < STACK && stack[unused] == PAINT) unused++;
-    free(stack);
     return STACK - unused;
 }
 
@@ -143,10 +183,10 @@ static double now(void) {
     return (double)t.tv_sec * 1e6 + (double)t.tv_nsec / 1e3;
 }
 
-static double time_of(void (*call)(void)) {
+static double time_of(void (*before)(void), void (*call)(void)) {
     double best = 1e9;
-    for (int round = 0; round < 300; round++) {
-        outstation = full;
+    for (int round = 0; round < 1000; round++) {
+        before();
         const double begin = now();
         call();
         const double spent = now() - begin;
@@ -156,21 +196,26 @@ static double time_of(void (*call)(void)) {
 }
 
 int main(void) {
-    static const struct { const char *name; void (*call)(void); } calls[] = {
-        {"restart", restart}, {"reading", reading}, {"table of 128", tables}, {"fragment: READ events", read_events}, {"fragment: READ class 0", read_class_0},
-        {"fragment: DIRECT OPERATE", control}, {"fragment: CONFIRM", confirm}, {"frame_write", frame_write}, {"frame_read", frame_read}, {"link_receive", link_receive},
-        {"link_reply", link_reply}, {"link_data", link_data}, {"segment_receive", segment_receive}, {"segment_send", segment_send}};
+    static const struct { const char *name; void (*before)(void), (*call)(void); } calls[] = {
+        {"restart", as_full, restart}, {"reading, binary", as_full, reading}, {"reading, whole", as_full, whole_reading}, {"reading, float", as_full, float_reading},
+        {"table of 128", as_full, tables}, {"fragment: READ events", as_full, read_events}, {"fragment: READ class 0", as_full, read_class_0},
+        {"fragment: CONFIRM", as_full, confirm}, {"fragment: SELECT of 1", as_full, select_one}, {"fragment: SELECT of 8", as_full, select_eight},
+        {"fragment: SELECT repeated", after_select, select_one}, {"fragment: OPERATE", after_select, operate_selected},
+        {"fragment: DIRECT OPERATE", as_full, control}, {"fragment: WRITE, 2048 bytes", as_full, longest_request}, {"frame_write", as_full, frame_write},
+        {"frame_read", as_full, frame_read}, {"link_receive", as_full, link_receive}, {"link_reply", as_full, link_reply}, {"link_data", as_full, link_data},
+        {"segment_receive", as_full, segment_receive}, {"segment_send", as_full, segment_send}};
     prepare();
     layout();
     fill();
-    printf("layout %s\n", wrong ? "wrong" : "ok");
+    printf("layout %s, outstation %zu bytes\n", wrong ? "wrong" : "ok", sizeof outstation);
     const size_t base = stack_of(nothing);
+    const double clock_read = time_of(nothing, nothing);
     for (size_t i = 0; i < sizeof calls / sizeof calls[0]; i++) {
-        outstation = full;
+        calls[i].before();
         refusal = answer.refusal = 0;
         const size_t stack = stack_of(calls[i].call) - base;
         expect(refusal == 0 && answer.refusal == 0, calls[i].name);
-        printf("%-26s %8zu bytes of stack %8.2f us\n", calls[i].name, stack, time_of(calls[i].call));
+        printf("%-28s %6zu bytes of stack %8.2f us\n", calls[i].name, stack, time_of(calls[i].before, calls[i].call) - clock_read);
     }
     return wrong;
 }

@@ -1,34 +1,38 @@
-/* Pomarisco, a DNP3 outstation, for a host in C. Link with libstation_c.a (x86-64 Linux, System V ABI; it wants memcpy
- * and memset only). C11; C++ may include it too.
+/* Pomarisco, a DNP3 outstation, for a host in C. Link with libc_api.a (x86-64 Linux, System V ABI; it wants memcpy and
+ * memset only). C11; C++ may include it too.
  *
- * STATE AND OWNERSHIP. The host keeps all state, in the structs below; the library has none, allocates nothing and keeps
- * no pointer after a call. A struct is taken by value and the next one is given back: a call changes no memory of the
- * host but the result and the lent bytes named with it. The functions at the end do the same in place on a pointer.
- * Structs may be copied, saved and put back. Calls on different structs may run at the same time without a lock.
+ * STATE AND OWNERSHIP. The host keeps all state: it allocates one struct pomarisco_outstation for each station, once, and
+ * lends it to each call. The library has no state, allocates nothing and keeps no pointer after a call. The struct is a
+ * small head, which goes in and out by value, and arrays of numbers, which are changed in place; the functions at the end
+ * (pomarisco_restart, _reading, _table, _fragment) do both, and are what a host calls. An outstation may be copied, saved
+ * and put back between calls. Calls on different outstations may run at the same time without a lock.
  *
- * EVERY value of every struct, and every number, may be passed: no content of an argument makes a call misbehave.
+ * EVERY content of every struct and array, and every number, may be passed: each stands for some state, and no content
+ * makes a call misbehave.
  *  - A truth is a uint8_t, 0 for false and any other number for true.
- *  - Of a kind's fields only those named with that kind count; of a latch or a last request that is not armed or held, none.
- *  - A count above its array's length means all of it (in a setup it is refused, 5). Array elements past the count do not count.
- * From restart on, changed by calls alone, a struct has 1 for true, the least number for each kind, and no count above its array. Where the
- * host gives other numbers, the call may give those back; what does not count may change in any call, also a refused one: compare meanings,
- * not bytes.
+ *  - Of a reading and of an analog's setup only the fields named with its kind count; of a wait, a last request or a latch
+ *    that is not there, none. Array elements past the count do not count.
+ *  - A count of the head above its array's length means all of the array. (Over 64 classes or analog setups lent to restart are refused, 5.)
+ * From restart on, changed by calls alone, no count passes its array. What does not count may change in any call, also in a refused
+ * one: compare meanings, not bytes.
  *
  * LENT BYTES. `const uint8_t *p, size_t n` is n bytes that the call reads; `uint8_t *p, size_t n` is n bytes that it may
  * write. It writes the output at their front; the bytes after the output keep what they held, and so do all of them when
- * the call is refused. Any n may be given, the calls say which are refused; the bytes may be at any address.
+ * the call is refused. Any n may be given, the calls say which are refused; the bytes may be at any address. Lent
+ * readings, classes and analog setups are read only; any number of them may be given.
  *
  * WHAT STAYS WITH THE HOST (nothing checks it):
- *  - p points to n bytes that may be read (or written) for the time of the call, and n is at most PTRDIFF_MAX;
- *  - p is not NULL, also where n is 0. The functions at the end take NULL with 0; frame_write, frame_read, link_reply and
- *    link_data have none, so give them some address;
- *  - bytes that a call may write overlap no other bytes lent to it, and no other thread writes bytes lent to a call;
- *  - structs behind pointers (functions at the end) are aligned as C aligns them, and do not overlap each other or lent bytes;
- *  - the stack is deep enough: give the thread POMARISCO_STACK bytes. Measured for one call through the functions at the end, with
- *    their temporaries: reading 53 KB, restart 55 KB, table 59 KB, fragment 115 KB; every call of frames, link and segments
- *    under 1 KB (host/measure.c; gcc -O2 and -O0 agree within 0.2 KB). The proofs know of no stack;
+ *  - p points to n bytes or structs that may be read (or written) for the time of the call; n of them are at most PTRDIFF_MAX bytes;
+ *  - an outstation, a line record, lent readings and setups are aligned as C aligns them, and are not NULL. The functions at the end
+ *    take NULL with 0; the exported calls do not, so give those some (aligned) address;
+ *  - what a call may write overlaps nothing else that it is lent: the arrays of one outstation are lent once each, and the bytes lent
+ *    beside an outstation are none of its own;
+ *  - no other thread uses an outstation, or writes to lent bytes, during a call: between threads, one lock for each outstation. Writing to
+ *    head or arrays between calls gives another state, some state always: do it only where that is meant;
+ *  - the stack is deep enough: give the thread POMARISCO_STACK bytes (host/README.md has what each call was measured to use). The
+ *    proofs know of no stack;
  *  - the structs are laid out as here: the assertions below hold this file to the library's layout;
- *  - it keeps setup, image, line record, assembly and sender of one station together, and carries out the objects it is handed.
+ *  - it keeps setup, outstation, line record, assembly and sender of one station together, and carries out the objects it is handed.
  *
  * REFUSALS. 0 is none. Order of the tests: 1, 33, then by number; 11 for the frame's size comes after 14.
  *
@@ -59,203 +63,122 @@
 
 #include <stddef.h>
 #include <stdint.h>
+#include <string.h>
 
 #define POMARISCO_BINARIES 64      /* most binary inputs */
 #define POMARISCO_ANALOGS 64       /* most analog inputs */
 #define POMARISCO_EVENTS 256       /* most events held */
-#define POMARISCO_TABLE 128        /* most readings of one table */
 #define POMARISCO_CONTROLS 8       /* most objects handed over by one fragment */
 #define POMARISCO_FRAGMENT 2048    /* longest fragment; lend so much for an answer and for an assembly */
 #define POMARISCO_FRAME 292        /* longest frame; lend so much for a frame to be written */
 #define POMARISCO_USER 250         /* longest user data; lend so much for a frame read and a segment written */
-#define POMARISCO_STACK 245760     /* recommended stack, bytes */
+#define POMARISCO_STACK 8192       /* recommended stack, bytes: twice the deepest call as measured */
 
 /* ---- the outstation's state */
 
-struct pomarisco_value {           /* kind 0: wide; 1: narrow; any other: real */
-    int32_t wide;
-    float real;
-    int16_t narrow;
-    uint8_t kind;
-};
-
-struct pomarisco_shown {           /* kind 0: a binary's state; any other: an analog's value */
-    struct pomarisco_value value;
-    uint8_t state;
-    uint8_t kind;
-};
-
-struct pomarisco_event {           /* flags without the state bit */
-    uint64_t time;
-    struct pomarisco_shown shown;
-    uint16_t point;
-    uint8_t flags;
-    uint8_t class_;
-};
-
-struct pomarisco_held {            /* carried: in the response that awaits its confirmation */
-    struct pomarisco_event event;
-    uint8_t carried;
-};
-
-struct pomarisco_buffer {          /* the first `count` are held, oldest first; overflow: IIN2.3, an event was dropped */
-    struct pomarisco_held held[POMARISCO_EVENTS];
-    size_t count;
-    uint8_t overflow;
-};
-
-struct pomarisco_binary {          /* state and flags as READ shows them, also before the first reading */
-    uint8_t class_;
-    uint8_t seen;                  /* a truth: there was a reading */
-    uint8_t state;                 /* a truth */
-    uint8_t flags;
-    uint8_t reported;              /* flags last reported */
-};
-
-struct pomarisco_whole_gate {      /* kind 0: never; 1: any change; 2: beyond the limit; any other: the sum beyond it */
-    uint32_t limit;
-    uint8_t kind;
-};
-
-struct pomarisco_float_gate {      /* kind as above */
-    float limit;
-    uint8_t kind;
-};
-
-struct pomarisco_whole_track {     /* readings before clamping: last reported, previous; sum of distances since the last report */
-    struct pomarisco_whole_gate gate;
-    int32_t reported;
-    int32_t previous;
-    uint32_t sum;
-};
-
-struct pomarisco_float_track {     /* values shown: last reported, previous; sum as above */
-    float gain;
-    float offset;
-    struct pomarisco_float_gate gate;
-    float reported;
-    float previous;
-    float sum;
-};
-
-struct pomarisco_measure {         /* kind 0: a 32-bit point, whole; 1: a 16-bit point, whole; any other: a float point, real */
-    struct pomarisco_whole_track whole;
-    struct pomarisco_float_track real;
-    uint8_t kind;
-};
-
-struct pomarisco_analog {          /* value and flags as READ shows them, also before the first reading */
-    struct pomarisco_value value;
-    struct pomarisco_measure measure;
-    uint8_t class_;
-    uint8_t seen;                  /* a truth: there was a reading */
-    uint8_t flags;
-    uint8_t reported;              /* flags last reported */
-};
-
-struct pomarisco_points {
-    struct pomarisco_binary binaries[POMARISCO_BINARIES];
-    size_t binary_count;
-    struct pomarisco_analog analogs[POMARISCO_ANALOGS];
-    size_t analog_count;
-};
-
-struct pomarisco_wait {            /* kind 0: nothing is awaited; any other: a confirmation is */
-    uint64_t time;                 /* of the READ */
-    uint8_t sequence;
-    uint8_t shown;                 /* a truth: the response showed IIN2.3 */
-    uint8_t since;                 /* a truth: an event was dropped since */
-    uint8_t kind;
-};
-
-struct pomarisco_last {            /* the last accepted request and its answer (none: answer_len 0, for a READ too), while held */
-    uint8_t request[2048];
-    size_t request_len;
-    uint8_t answer[113];
-    size_t answer_len;
-    uint8_t held;                  /* a truth */
-};
-
-struct pomarisco_latch {           /* the select latch: SELECT's time, its objects with their header, its sequence */
-    uint64_t time;
-    uint8_t objects[109];
-    size_t len;
-    uint8_t armed;                 /* a truth */
-    uint8_t sequence;
-};
-
-struct pomarisco_session {
-    struct pomarisco_wait wait;
-    struct pomarisco_last last;
-    struct pomarisco_latch latch;
-    uint8_t restarted;             /* IIN1.7 */
-};
-
-struct pomarisco_outstation {      /* times in milliseconds */
-    uint64_t arm_time;
-    uint64_t confirm_time;
+struct pomarisco_head {            /* all of the state that is no array. Times in milliseconds */
+    uint64_t arm_time;             /* as set up */
+    uint64_t confirm_time;         /* as set up */
     uint64_t clock;                /* time of the last accepted call */
-    struct pomarisco_points points;
-    struct pomarisco_buffer buffer;
-    struct pomarisco_session session;
-    uint16_t outputs;
+    uint64_t wait_time;            /* of the READ that awaits its confirmation */
+    uint64_t latch_time;           /* of the SELECT */
+    size_t binary_count;           /* installed binary inputs */
+    size_t analog_count;           /* installed analog inputs */
+    size_t event_count;            /* held events */
+    size_t request_len;            /* length of the last accepted request */
+    size_t answer_len;             /* length of its answer; 0: there is none, as for a READ */
+    size_t latch_len;              /* length of the select latch's objects */
+    uint16_t outputs;              /* installed control outputs */
+    uint8_t overflow;              /* a truth: IIN2.3, an event was dropped */
+    uint8_t restarted;             /* a truth: IIN1.7 */
+    uint8_t waiting;               /* a truth: a response awaits its confirmation. The other wait_, showed_ and dropped_ fields count only then */
+    uint8_t wait_sequence;         /* the sequence number that confirms it */
+    uint8_t showed_overflow;       /* a truth: it showed IIN2.3 */
+    uint8_t dropped_since;         /* a truth: an event was dropped since */
+    uint8_t request_kept;          /* a truth: there is a last request. Its lengths count only then */
+    uint8_t latch_armed;           /* a truth: a SELECT holds. The other latch_ fields count only then */
+    uint8_t latch_sequence;        /* its sequence number */
+};
+
+/* A host allocates one, once. Words of the arrays are numbers (bit 0 is the lowest); pomarisco_binary_at, _analog_at and _event_at read them. */
+struct pomarisco_outstation {
+    struct pomarisco_head head;
+
+    /* Two words an event, oldest first. The first: time, bits 0 to 47; point, 48 to 63. The second: what it shows, bits 0 to 31; flags
+     * without the state bit, 32 to 39; class, 40 to 47; kind of what it shows, 48 to 55 (0: a 32-bit value, 1: a 16-bit value, 3: a binary's
+     * state, any other: a float's bits); 56 to 63 a truth: it is in the response that awaits confirmation. */
+    uint64_t events[2 * POMARISCO_EVENTS];
+
+    /* One word a point: class, bits 0 to 7; flags, 8 to 15; flags last reported, 16 to 23; seen (there was a reading), bit 24; state, bit 25. */
+    uint32_t binaries[POMARISCO_BINARIES];
+
+    /* Eight words a point. The first: class, bits 0 to 7; flags, 8 to 15; flags last reported, 16 to 23; seen, bit 24; kind of the value,
+     * bits 25 and 26, and of the point, 27 and 28 (0: 32-bit, 1: 16-bit, 2 or 3: float); gate, bits 29 and 30 (as in a setup). Then value as READ
+     * shows it, limit, value last reported, previous value, sum of the distances since that report, gain, offset. Of a float point these are
+     * floats' bits; of others the reported and the previous value are readings before clamping, and gain and offset do not count. */
+    uint32_t analogs[8 * POMARISCO_ANALOGS];
+
+    uint8_t request[POMARISCO_FRAGMENT]; /* the last accepted request: the first request_len */
+    uint8_t answer[113];           /* its answer: the first answer_len */
+    uint8_t latch_objects[109];    /* the SELECT's objects with their header: the first latch_len */
 };
 
 /* ---- what the host gives */
 
-struct pomarisco_analog_setup {    /* kind 0: a 32-bit point; 1: a 16-bit point, both with whole; any other: a float point, with real, gain, offset */
-    struct pomarisco_whole_gate whole;
-    struct pomarisco_float_gate real;
-    float gain;
-    float offset;
-    uint8_t class_;
-    uint8_t kind;
-};
-
 /* Limits (else 5): addresses 0 to 65,519 and different; arm time at most 64,000 ms; confirm time 1 to 60,000 ms; at most 16
  * outputs, 64 binaries, 64 analogs; classes 0 to 3; gain, offset and a float limit finite, the limit not below 0. */
 struct pomarisco_setup {
-    uint16_t own;
-    uint16_t master;
     uint32_t arm_time;
     uint32_t confirm_time;
+    uint16_t own;
+    uint16_t master;
     uint16_t outputs;
-    size_t binary_count;
-    size_t analog_count;
-    uint8_t classes[POMARISCO_BINARIES];
-    struct pomarisco_analog_setup analogs[POMARISCO_ANALOGS];
 };
 
-struct pomarisco_reading {         /* kind 0: a binary's state; 1: a whole reading; any other: a float reading, real */
-    uint64_t time;                 /* milliseconds below 2^48, not before the last accepted call's */
-    int32_t whole;
-    float real;
-    uint16_t point;
-    uint8_t flags;                 /* 0 to 31 */
-    uint8_t state;
+/* kind 0: a 32-bit point; 1: a 16-bit point; any other: a float point, for which limit, gain and offset are floats' bits. gate: what change of the value
+ * is an event, as below; any number above 3 is as 3. gain and offset count for float points only, the limit for the gates above 1.
+ * pomarisco_point_32, _16 and _float make them. */
+#define POMARISCO_NEVER 0
+#define POMARISCO_ANY_CHANGE 1
+#define POMARISCO_BEYOND 2         /* further from the value last reported than the limit */
+#define POMARISCO_SUMMED 3         /* the distances since the last report sum up to more than the limit */
+struct pomarisco_analog_setup {
+    uint32_t limit;
+    uint32_t gain;
+    uint32_t offset;
+    uint8_t class_;
     uint8_t kind;
+    uint8_t gate;
 };
 
-struct pomarisco_table {           /* the first `count` readings, at most 128 */
-    struct pomarisco_reading readings[POMARISCO_TABLE];
-    size_t count;
+struct pomarisco_reading {         /* kind 0: a binary's state, bits a truth; 1: a whole reading, bits an int32_t; any other: a float's bits */
+    uint64_t time;                 /* milliseconds below 2^48, not before the last accepted call's */
+    uint32_t bits;
+    uint16_t point;
+    uint8_t kind;
+    uint8_t flags;                 /* 0 to 31 */
+};
+
+struct pomarisco_station {         /* the addresses, as set up */
+    uint16_t own;
+    uint16_t master;
 };
 
 /* ---- what the calls give. refusal: 0, or the number above. A refused call has 0 for size, length, last, addresses, control and operated */
 
 struct pomarisco_restarted {
-    struct pomarisco_outstation image;
+    struct pomarisco_head head;
     uint8_t refusal;
 };
 
 struct pomarisco_took {
-    struct pomarisco_outstation image;
+    struct pomarisco_head head;
     uint8_t refusal;
 };
 
 struct pomarisco_table_took {      /* taken: how many readings were taken before the refusal */
-    struct pomarisco_outstation image;
     size_t taken;
+    struct pomarisco_head head;
     uint8_t refusal;
 };
 
@@ -280,7 +203,7 @@ struct pomarisco_fragment_answer { /* kind 0: the answer is the first `length` l
 };
 
 struct pomarisco_answer {          /* operated: the host is to carry these out, once, also where kind is 1 */
-    struct pomarisco_outstation image;
+    struct pomarisco_head head;
     struct pomarisco_crobs operated;
     struct pomarisco_fragment_answer answer;
 };
@@ -313,11 +236,6 @@ struct pomarisco_taken {           /* kind 0: user data, the first `length` lent
     uint8_t control;
     uint8_t kind;
     uint8_t refusal;
-};
-
-struct pomarisco_link {
-    struct pomarisco_taken taken;
-    struct pomarisco_line line;
 };
 
 struct pomarisco_assembly {        /* kept between segments received; all 0: nothing begun */
@@ -362,40 +280,23 @@ struct pomarisco_sending {
 #endif
 #define POMARISCO_SIZE(s, n) POMARISCO_IS(sizeof(struct pomarisco_##s), n)
 #define POMARISCO_AT(s, field, n) POMARISCO_IS(offsetof(struct pomarisco_##s, field), n)
-POMARISCO_SIZE(value, 12); POMARISCO_AT(value, wide, 0); POMARISCO_AT(value, real, 4); POMARISCO_AT(value, narrow, 8); POMARISCO_AT(value, kind, 10);
-POMARISCO_SIZE(shown, 16); POMARISCO_AT(shown, value, 0); POMARISCO_AT(shown, state, 12); POMARISCO_AT(shown, kind, 13);
-POMARISCO_SIZE(event, 32); POMARISCO_AT(event, time, 0); POMARISCO_AT(event, shown, 8); POMARISCO_AT(event, point, 24); POMARISCO_AT(event, flags, 26); POMARISCO_AT(event, class_, 27);
-POMARISCO_SIZE(held, 40); POMARISCO_AT(held, event, 0); POMARISCO_AT(held, carried, 32);
-POMARISCO_SIZE(buffer, 10256); POMARISCO_AT(buffer, held, 0); POMARISCO_AT(buffer, count, 10240); POMARISCO_AT(buffer, overflow, 10248);
-POMARISCO_SIZE(binary, 5); POMARISCO_AT(binary, class_, 0); POMARISCO_AT(binary, seen, 1); POMARISCO_AT(binary, state, 2); POMARISCO_AT(binary, flags, 3); POMARISCO_AT(binary, reported, 4);
-POMARISCO_SIZE(whole_gate, 8); POMARISCO_AT(whole_gate, limit, 0); POMARISCO_AT(whole_gate, kind, 4);
-POMARISCO_SIZE(float_gate, 8); POMARISCO_AT(float_gate, limit, 0); POMARISCO_AT(float_gate, kind, 4);
-POMARISCO_SIZE(whole_track, 20); POMARISCO_AT(whole_track, gate, 0); POMARISCO_AT(whole_track, reported, 8); POMARISCO_AT(whole_track, previous, 12); POMARISCO_AT(whole_track, sum, 16);
-POMARISCO_SIZE(float_track, 28); POMARISCO_AT(float_track, gain, 0); POMARISCO_AT(float_track, offset, 4); POMARISCO_AT(float_track, gate, 8); POMARISCO_AT(float_track, reported, 16); POMARISCO_AT(float_track, previous, 20); POMARISCO_AT(float_track, sum, 24);
-POMARISCO_SIZE(measure, 52); POMARISCO_AT(measure, whole, 0); POMARISCO_AT(measure, real, 20); POMARISCO_AT(measure, kind, 48);
-POMARISCO_SIZE(analog, 68); POMARISCO_AT(analog, value, 0); POMARISCO_AT(analog, measure, 12); POMARISCO_AT(analog, class_, 64); POMARISCO_AT(analog, seen, 65); POMARISCO_AT(analog, flags, 66); POMARISCO_AT(analog, reported, 67);
-POMARISCO_SIZE(points, 4688); POMARISCO_AT(points, binaries, 0); POMARISCO_AT(points, binary_count, 320); POMARISCO_AT(points, analogs, 328); POMARISCO_AT(points, analog_count, 4680);
-POMARISCO_SIZE(wait, 16); POMARISCO_AT(wait, time, 0); POMARISCO_AT(wait, sequence, 8); POMARISCO_AT(wait, shown, 9); POMARISCO_AT(wait, since, 10); POMARISCO_AT(wait, kind, 11);
-POMARISCO_SIZE(last, 2192); POMARISCO_AT(last, request, 0); POMARISCO_AT(last, request_len, 2048); POMARISCO_AT(last, answer, 2056); POMARISCO_AT(last, answer_len, 2176); POMARISCO_AT(last, held, 2184);
-POMARISCO_SIZE(latch, 136); POMARISCO_AT(latch, time, 0); POMARISCO_AT(latch, objects, 8); POMARISCO_AT(latch, len, 120); POMARISCO_AT(latch, armed, 128); POMARISCO_AT(latch, sequence, 129);
-POMARISCO_SIZE(session, 2352); POMARISCO_AT(session, wait, 0); POMARISCO_AT(session, last, 16); POMARISCO_AT(session, latch, 2208); POMARISCO_AT(session, restarted, 2344);
-POMARISCO_SIZE(outstation, 17328); POMARISCO_AT(outstation, arm_time, 0); POMARISCO_AT(outstation, confirm_time, 8); POMARISCO_AT(outstation, clock, 16); POMARISCO_AT(outstation, points, 24); POMARISCO_AT(outstation, buffer, 4712); POMARISCO_AT(outstation, session, 14968); POMARISCO_AT(outstation, outputs, 17320);
-POMARISCO_SIZE(analog_setup, 28); POMARISCO_AT(analog_setup, whole, 0); POMARISCO_AT(analog_setup, real, 8); POMARISCO_AT(analog_setup, gain, 16); POMARISCO_AT(analog_setup, offset, 20); POMARISCO_AT(analog_setup, class_, 24); POMARISCO_AT(analog_setup, kind, 25);
-POMARISCO_SIZE(setup, 1888); POMARISCO_AT(setup, own, 0); POMARISCO_AT(setup, master, 2); POMARISCO_AT(setup, arm_time, 4); POMARISCO_AT(setup, confirm_time, 8); POMARISCO_AT(setup, outputs, 12); POMARISCO_AT(setup, binary_count, 16); POMARISCO_AT(setup, analog_count, 24); POMARISCO_AT(setup, classes, 32); POMARISCO_AT(setup, analogs, 96);
-POMARISCO_SIZE(reading, 24); POMARISCO_AT(reading, time, 0); POMARISCO_AT(reading, whole, 8); POMARISCO_AT(reading, real, 12); POMARISCO_AT(reading, point, 16); POMARISCO_AT(reading, flags, 18); POMARISCO_AT(reading, state, 19); POMARISCO_AT(reading, kind, 20);
-POMARISCO_SIZE(restarted, 17336); POMARISCO_AT(restarted, image, 0); POMARISCO_AT(restarted, refusal, 17328);
-POMARISCO_SIZE(took, 17336); POMARISCO_AT(took, image, 0); POMARISCO_AT(took, refusal, 17328);
-POMARISCO_SIZE(table, 3080); POMARISCO_AT(table, readings, 0); POMARISCO_AT(table, count, 3072);
-POMARISCO_SIZE(table_took, 17344); POMARISCO_AT(table_took, image, 0); POMARISCO_AT(table_took, taken, 17328); POMARISCO_AT(table_took, refusal, 17336);
+POMARISCO_SIZE(head, 104); POMARISCO_AT(head, arm_time, 0); POMARISCO_AT(head, confirm_time, 8); POMARISCO_AT(head, clock, 16); POMARISCO_AT(head, wait_time, 24); POMARISCO_AT(head, latch_time, 32); POMARISCO_AT(head, binary_count, 40); POMARISCO_AT(head, analog_count, 48); POMARISCO_AT(head, event_count, 56); POMARISCO_AT(head, request_len, 64); POMARISCO_AT(head, answer_len, 72); POMARISCO_AT(head, latch_len, 80); POMARISCO_AT(head, outputs, 88); POMARISCO_AT(head, overflow, 90); POMARISCO_AT(head, restarted, 91); POMARISCO_AT(head, waiting, 92); POMARISCO_AT(head, wait_sequence, 93); POMARISCO_AT(head, showed_overflow, 94); POMARISCO_AT(head, dropped_since, 95); POMARISCO_AT(head, request_kept, 96); POMARISCO_AT(head, latch_armed, 97); POMARISCO_AT(head, latch_sequence, 98);
+POMARISCO_SIZE(outstation, 8776); POMARISCO_AT(outstation, head, 0); POMARISCO_AT(outstation, events, 104); POMARISCO_AT(outstation, binaries, 4200); POMARISCO_AT(outstation, analogs, 4456); POMARISCO_AT(outstation, request, 6504); POMARISCO_AT(outstation, answer, 8552); POMARISCO_AT(outstation, latch_objects, 8665);
+POMARISCO_SIZE(setup, 16); POMARISCO_AT(setup, arm_time, 0); POMARISCO_AT(setup, confirm_time, 4); POMARISCO_AT(setup, own, 8); POMARISCO_AT(setup, master, 10); POMARISCO_AT(setup, outputs, 12);
+POMARISCO_SIZE(analog_setup, 16); POMARISCO_AT(analog_setup, limit, 0); POMARISCO_AT(analog_setup, gain, 4); POMARISCO_AT(analog_setup, offset, 8); POMARISCO_AT(analog_setup, class_, 12); POMARISCO_AT(analog_setup, kind, 13); POMARISCO_AT(analog_setup, gate, 14);
+POMARISCO_SIZE(reading, 16); POMARISCO_AT(reading, time, 0); POMARISCO_AT(reading, bits, 8); POMARISCO_AT(reading, point, 12); POMARISCO_AT(reading, kind, 14); POMARISCO_AT(reading, flags, 15);
+POMARISCO_SIZE(station, 4); POMARISCO_AT(station, own, 0); POMARISCO_AT(station, master, 2);
+POMARISCO_SIZE(restarted, 112); POMARISCO_AT(restarted, head, 0); POMARISCO_AT(restarted, refusal, 104);
+POMARISCO_SIZE(took, 112); POMARISCO_AT(took, head, 0); POMARISCO_AT(took, refusal, 104);
+POMARISCO_SIZE(table_took, 120); POMARISCO_AT(table_took, taken, 0); POMARISCO_AT(table_took, head, 8); POMARISCO_AT(table_took, refusal, 112);
 POMARISCO_SIZE(crob, 16); POMARISCO_AT(crob, on_time, 0); POMARISCO_AT(crob, off_time, 4); POMARISCO_AT(crob, index, 8); POMARISCO_AT(crob, code, 10); POMARISCO_AT(crob, count, 11); POMARISCO_AT(crob, status, 12);
 POMARISCO_SIZE(crobs, 136); POMARISCO_AT(crobs, items, 0); POMARISCO_AT(crobs, count, 128);
 POMARISCO_SIZE(fragment_answer, 16); POMARISCO_AT(fragment_answer, length, 0); POMARISCO_AT(fragment_answer, kind, 8); POMARISCO_AT(fragment_answer, refusal, 9);
-POMARISCO_SIZE(answer, 17480); POMARISCO_AT(answer, image, 0); POMARISCO_AT(answer, operated, 17328); POMARISCO_AT(answer, answer, 17464);
+POMARISCO_SIZE(answer, 256); POMARISCO_AT(answer, head, 0); POMARISCO_AT(answer, operated, 104); POMARISCO_AT(answer, answer, 240);
 POMARISCO_SIZE(wrote, 16); POMARISCO_AT(wrote, size, 0); POMARISCO_AT(wrote, refusal, 8);
 POMARISCO_SIZE(frame, 16); POMARISCO_AT(frame, length, 0); POMARISCO_AT(frame, destination, 8); POMARISCO_AT(frame, source, 10); POMARISCO_AT(frame, control, 12); POMARISCO_AT(frame, refusal, 13);
 POMARISCO_SIZE(line, 14); POMARISCO_AT(line, accepted, 0); POMARISCO_AT(line, short_frame, 2); POMARISCO_AT(line, start, 4); POMARISCO_AT(line, header_check, 6); POMARISCO_AT(line, length, 8); POMARISCO_AT(line, block_check, 10); POMARISCO_AT(line, not_taken, 12);
 POMARISCO_SIZE(taken, 16); POMARISCO_AT(taken, length, 0); POMARISCO_AT(taken, control, 8); POMARISCO_AT(taken, kind, 9); POMARISCO_AT(taken, refusal, 10);
-POMARISCO_SIZE(link, 32); POMARISCO_AT(link, taken, 0); POMARISCO_AT(link, line, 16);
 POMARISCO_SIZE(assembly, 16); POMARISCO_AT(assembly, length, 0); POMARISCO_AT(assembly, last, 8); POMARISCO_AT(assembly, begun, 9);
 POMARISCO_SIZE(segment, 16); POMARISCO_AT(segment, length, 0); POMARISCO_AT(segment, kind, 8); POMARISCO_AT(segment, refusal, 9);
 POMARISCO_SIZE(reception, 32); POMARISCO_AT(reception, assembly, 0); POMARISCO_AT(reception, segment, 16);
@@ -406,26 +307,27 @@ POMARISCO_SIZE(sending, 32); POMARISCO_AT(sending, sender, 0); POMARISCO_AT(send
 #undef POMARISCO_SIZE
 #undef POMARISCO_IS
 
-/* ---- the calls */
+/* ---- the exported calls. Arrays of the state are those of one outstation, of its lengths */
 
 #ifdef __cplusplus
 extern "C" {
 #endif
 
-/* A fresh outstation: a restart keeps only the setup, so the host keeps that. Changes nothing. Refusal 5: the image has then no
- * points and no outputs. The host also sets its assembly and its sender to all 0; the line record stays. */
-struct pomarisco_restarted pomarisco_restart(struct pomarisco_setup setup);
+/* A fresh outstation: a restart keeps only the setup, so the host keeps that. Binary i has the class classes[i], analog i is set up by
+ * analogs[i]. Writes the points' words, and leaves the other arrays: the head says that they are empty. Refusal 5: the head then has no points
+ * and no outputs, and some points' words may be stored. The host also sets its assembly and its sender to all 0; the line record stays. */
+struct pomarisco_restarted pomarisco_lent_restart(struct pomarisco_setup setup, const uint8_t *classes, size_t class_count, const struct pomarisco_analog_setup *setups, size_t setup_count, uint32_t *binaries, uint32_t *analogs);
 
-/* One reading. Changes the point, the held events with overflow, a wait's `since`, the clock. Refusals 1 to 4. */
-struct pomarisco_took pomarisco_reading(struct pomarisco_outstation image, struct pomarisco_reading reading);
+/* One reading. Changes the point, the held events with overflow, dropped_since, the clock. Refusals 1 to 4. */
+struct pomarisco_took pomarisco_lent_reading(struct pomarisco_head head, uint32_t *binaries, uint32_t *analogs, uint64_t *events, struct pomarisco_reading reading);
 
 /* A table of readings, each as if it came singly, up to the first refused one; that one and those after it change nothing. Refusals 1 to 4,
  * of the reading at `taken`. An empty table changes nothing. */
-struct pomarisco_table_took pomarisco_table(struct pomarisco_outstation image, struct pomarisco_table table);
+struct pomarisco_table_took pomarisco_lent_table(struct pomarisco_head head, uint32_t *binaries, uint32_t *analogs, uint64_t *events, const struct pomarisco_reading *readings, size_t count);
 
-/* A fragment from the master at a time. Changes the held events with overflow, the session, the clock; not the points. Writes the answer,
- * at most 2,048 bytes. Refusals 1, 31 to 33. out_length at least 2,048, else 33, whatever the fragment is. */
-struct pomarisco_answer pomarisco_fragment(struct pomarisco_outstation image, uint64_t time, const uint8_t *fragment, size_t fragment_length, uint8_t *out, size_t out_length);
+/* A fragment from the master at a time. Changes the held events with overflow, wait, last request and latch, restarted, the clock; not the
+ * points. Writes the answer, at most 2,048 bytes. Refusals 1, 31 to 33. out_length at least 2,048, else 33, whatever the fragment is. */
+struct pomarisco_answer pomarisco_lent_fragment(struct pomarisco_head head, const uint32_t *binaries, const uint32_t *analogs, uint64_t *events, uint8_t *request, uint8_t *answer, uint8_t *latch_objects, uint64_t time, const uint8_t *fragment, size_t fragment_length, uint8_t *out, size_t out_length);
 
 /* Writes a frame with this control byte, any addresses. Changes the lent bytes only. out_length at least 292, else 33; user_length at most
  * 250, else 16. */
@@ -435,16 +337,16 @@ struct pomarisco_wrote pomarisco_frame_write(uint8_t *out, size_t out_length, ui
  * lent bytes only. Refusals 11 to 15, and 33 when out_length is under 250. */
 struct pomarisco_frame pomarisco_frame_read(const uint8_t *bytes, size_t length, uint8_t *out, size_t out_length);
 
-/* Takes the frame at the front of the bytes for the station `own`, and counts it in the line record. Writes its user data; for a reply the
+/* Takes the frame at the front of the bytes for the station, and counts it in the line record. Writes its user data; for a reply the
  * lent bytes stay. Refusals 11 to 15, 17, and 33 when out_length is under 250 (not counted). */
-struct pomarisco_link pomarisco_link_receive(struct pomarisco_line line, uint16_t own, uint16_t master, const uint8_t *bytes, size_t length, uint8_t *out, size_t out_length);
+struct pomarisco_taken pomarisco_link_receive(struct pomarisco_line *line, struct pomarisco_station station, const uint8_t *bytes, size_t length, uint8_t *out, size_t out_length);
 
 /* Writes the reply frame that link_receive asked for: control 00 and 0B hex are sent as they are, any other control as NOT_SUPPORTED, 0F hex.
  * Changes the lent bytes only. out_length at least 292, else 33. */
-struct pomarisco_wrote pomarisco_link_reply(uint8_t *out, size_t out_length, uint16_t own, uint16_t master, uint8_t control);
+struct pomarisco_wrote pomarisco_link_reply(uint8_t *out, size_t out_length, struct pomarisco_station station, uint8_t control);
 
 /* Writes a frame of user data to the master (control 44 hex). As frame_write. */
-struct pomarisco_wrote pomarisco_link_data(uint8_t *out, size_t out_length, uint16_t own, uint16_t master, const uint8_t *user, size_t user_length);
+struct pomarisco_wrote pomarisco_link_data(uint8_t *out, size_t out_length, struct pomarisco_station station, const uint8_t *user, size_t user_length);
 
 /* Takes a segment into the fragment at the front of the lent bytes, behind what came before: lend the same bytes, as they were left, until it is
  * whole. Changes the assembly and those bytes. Refusals 21 to 23, and 33 when out_length is under 2,048. */
@@ -458,57 +360,221 @@ struct pomarisco_sending pomarisco_segment_send(struct pomarisco_sender sender, 
 }
 #endif
 
-/* ---- in place */
+/* ---- numbers in words */
 
-/* Where no bytes are lent any address will do. */
-static inline const uint8_t *pomarisco_from(const uint8_t *p, size_t n, const uint8_t *none) { return n != 0 ? p : none; }
-static inline uint8_t *pomarisco_to(uint8_t *p, size_t n, uint8_t *none) { return n != 0 ? p : none; }
+static inline uint32_t pomarisco_float_bits(float x) {
+    uint32_t bits;
+    memcpy(&bits, &x, sizeof bits);
+    return bits;
+}
 
-/* Each gives the refusal, 0 for none. After 5 *s has no points and no outputs. */
-static inline uint8_t pomarisco_restart_at(struct pomarisco_outstation *s, const struct pomarisco_setup *setup) {
-    const struct pomarisco_restarted r = pomarisco_restart(*setup);
-    *s = r.image;
+static inline float pomarisco_bits_float(uint32_t bits) {
+    float x;
+    memcpy(&x, &bits, sizeof x);
+    return x;
+}
+
+static inline int32_t pomarisco_bits_whole(uint32_t bits) {
+    int32_t z;
+    memcpy(&z, &bits, sizeof z);
+    return z;
+}
+
+/* ---- readings and analog setups */
+
+static inline struct pomarisco_reading pomarisco_reading_of(uint64_t time, uint16_t point, uint8_t kind, uint32_t bits, uint8_t flags) {
+    struct pomarisco_reading r;
+    r.time = time;
+    r.bits = bits;
+    r.point = point;
+    r.kind = kind;
+    r.flags = flags;
+    return r;
+}
+
+static inline struct pomarisco_reading pomarisco_binary_reading(uint64_t time, uint16_t point, uint8_t state, uint8_t flags) {
+    return pomarisco_reading_of(time, point, 0, state, flags);
+}
+
+static inline struct pomarisco_reading pomarisco_whole_reading(uint64_t time, uint16_t point, int32_t value, uint8_t flags) {
+    return pomarisco_reading_of(time, point, 1, (uint32_t)value, flags);
+}
+
+static inline struct pomarisco_reading pomarisco_float_reading(uint64_t time, uint16_t point, float value, uint8_t flags) {
+    return pomarisco_reading_of(time, point, 2, pomarisco_float_bits(value), flags);
+}
+
+static inline struct pomarisco_analog_setup pomarisco_point_of(uint8_t class_, uint8_t kind, uint32_t gain, uint32_t offset, uint8_t gate, uint32_t limit) {
+    struct pomarisco_analog_setup a;
+    a.limit = limit;
+    a.gain = gain;
+    a.offset = offset;
+    a.class_ = class_;
+    a.kind = kind;
+    a.gate = gate;
+    return a;
+}
+
+/* A point that shows whole readings in 32 bits. */
+static inline struct pomarisco_analog_setup pomarisco_point_32(uint8_t class_, uint8_t gate, uint32_t limit) {
+    return pomarisco_point_of(class_, 0, 0, 0, gate, limit);
+}
+
+/* A point that shows whole readings in 16 bits, clamped. */
+static inline struct pomarisco_analog_setup pomarisco_point_16(uint8_t class_, uint8_t gate, uint32_t limit) {
+    return pomarisco_point_of(class_, 1, 0, 0, gate, limit);
+}
+
+/* A point that shows float readings as reading * gain + offset. */
+static inline struct pomarisco_analog_setup pomarisco_point_float(uint8_t class_, float gain, float offset, uint8_t gate, float limit) {
+    return pomarisco_point_of(class_, 2, pomarisco_float_bits(gain), pomarisco_float_bits(offset), gate, pomarisco_float_bits(limit));
+}
+
+/* ---- a look at the state. The structs are this file's alone: the library has none of them */
+
+struct pomarisco_event {           /* kind 0: a 32-bit value; 1: a 16-bit value; 2: a float's bits; 3: a binary's state, 0 or 1 */
+    uint64_t time;
+    uint32_t bits;                 /* for kinds 0 and 1 see pomarisco_bits_whole, for kind 2 pomarisco_bits_float */
+    uint16_t point;
+    uint8_t kind;
+    uint8_t flags;                 /* without the state bit */
+    uint8_t class_;
+    uint8_t carried;               /* 1: in the response that awaits its confirmation */
+};
+
+struct pomarisco_binary {          /* state and flags as READ shows them, also before the first reading */
+    uint8_t class_;
+    uint8_t flags;
+    uint8_t reported;              /* flags last reported */
+    uint8_t seen;                  /* 1: there was a reading */
+    uint8_t state;                 /* 0 or 1 */
+};
+
+struct pomarisco_analog {          /* value and flags as READ shows them, also before the first reading */
+    uint32_t value;                /* bits, by the value's kind as in an event */
+    uint32_t limit;
+    uint32_t reported;             /* value last reported; this and the next two by the point's kind */
+    uint32_t previous;
+    uint32_t sum;                  /* of the distances since the last report */
+    uint32_t gain;
+    uint32_t offset;
+    uint8_t class_;
+    uint8_t flags;
+    uint8_t reported_flags;
+    uint8_t seen;                  /* 1: there was a reading */
+    uint8_t value_kind;            /* 0: a 32-bit value; 1: a 16-bit value; 2: a float; from restart on the point's */
+    uint8_t kind;                  /* 0: a 32-bit point; 1: a 16-bit point; 2: a float point */
+    uint8_t gate;                  /* 0: never; 1: any change; 2: beyond the limit; 3: the sum beyond it */
+};
+
+/* A value's bits as they are shown: 16-bit values are clamped. */
+static inline uint32_t pomarisco_value_bits(uint8_t kind, uint32_t bits) {
+    const int32_t z = pomarisco_bits_whole(bits);
+    return kind != 1 ? bits : z < -32768 ? (uint32_t)-32768 : z > 32767 ? 32767u : bits;
+}
+
+/* How many events are held. */
+static inline size_t pomarisco_held(const struct pomarisco_outstation *o) {
+    return o->head.event_count < POMARISCO_EVENTS ? o->head.event_count : POMARISCO_EVENTS;
+}
+
+/* Event i, from the oldest on; i below POMARISCO_EVENTS. */
+static inline struct pomarisco_event pomarisco_event_at(const struct pomarisco_outstation *o, size_t i) {
+    const uint64_t a = o->events[2 * i], b = o->events[2 * i + 1];
+    const uint8_t kind = (uint8_t)(b >> 48);
+    struct pomarisco_event e;
+    e.time = a & (((uint64_t)1 << 48) - 1);
+    e.point = (uint16_t)(a >> 48);
+    e.kind = kind <= 3 ? kind : 2;
+    e.bits = kind == 3 ? (uint32_t)((uint32_t)b != 0) : pomarisco_value_bits(kind, (uint32_t)b);
+    e.flags = (uint8_t)(b >> 32);
+    e.class_ = (uint8_t)(b >> 40);
+    e.carried = b >> 56 != 0;
+    return e;
+}
+
+/* Binary input i, below POMARISCO_BINARIES. */
+static inline struct pomarisco_binary pomarisco_binary_at(const struct pomarisco_outstation *o, size_t i) {
+    const uint32_t w = o->binaries[i];
+    struct pomarisco_binary p;
+    p.class_ = (uint8_t)w;
+    p.flags = (uint8_t)(w >> 8);
+    p.reported = (uint8_t)(w >> 16);
+    p.seen = w >> 24 & 1;
+    p.state = w >> 25 & 1;
+    return p;
+}
+
+/* Analog input i, below POMARISCO_ANALOGS. */
+static inline struct pomarisco_analog pomarisco_analog_at(const struct pomarisco_outstation *o, size_t i) {
+    const uint32_t *w = o->analogs + 8 * i;
+    struct pomarisco_analog p;
+    p.class_ = (uint8_t)w[0];
+    p.flags = (uint8_t)(w[0] >> 8);
+    p.reported_flags = (uint8_t)(w[0] >> 16);
+    p.seen = w[0] >> 24 & 1;
+    p.value_kind = (w[0] >> 25 & 3) < 2 ? w[0] >> 25 & 3 : 2;
+    p.kind = (w[0] >> 27 & 3) < 2 ? w[0] >> 27 & 3 : 2;
+    p.gate = w[0] >> 29 & 3;
+    p.value = pomarisco_value_bits(p.value_kind, w[1]);
+    p.limit = w[2];
+    p.reported = w[3];
+    p.previous = w[4];
+    p.sum = w[5];
+    p.gain = w[6];
+    p.offset = w[7];
+    return p;
+}
+
+/* ---- what a host calls. As the exported calls, on one outstation in place; NULL with a length of 0 is taken */
+
+/* Where nothing is lent any address will do. */
+static inline const void *pomarisco_from(const void *p, size_t n, const void *some) { return n != 0 ? p : some; }
+static inline uint8_t *pomarisco_to(uint8_t *p, size_t n, void *some) { return n != 0 ? p : (uint8_t *)some; }
+
+/* Gives the refusal, 0 for none, as do the next two. After 5 *o has no points and no outputs. */
+static inline uint8_t pomarisco_restart(struct pomarisco_outstation *o, struct pomarisco_setup setup, const uint8_t *classes, size_t class_count, const struct pomarisco_analog_setup *analogs, size_t analog_count) {
+    const struct pomarisco_restarted r = pomarisco_lent_restart(setup, (const uint8_t *)pomarisco_from(classes, class_count, o), class_count, (const struct pomarisco_analog_setup *)pomarisco_from(analogs, analog_count, o), analog_count, o->binaries, o->analogs);
+    o->head = r.head;
     return r.refusal;
 }
 
-static inline uint8_t pomarisco_reading_at(struct pomarisco_outstation *s, struct pomarisco_reading reading) {
-    const struct pomarisco_took r = pomarisco_reading(*s, reading);
-    *s = r.image;
+static inline uint8_t pomarisco_reading(struct pomarisco_outstation *o, struct pomarisco_reading reading) {
+    const struct pomarisco_took r = pomarisco_lent_reading(o->head, o->binaries, o->analogs, o->events, reading);
+    o->head = r.head;
     return r.refusal;
 }
 
-static inline uint8_t pomarisco_table_at(struct pomarisco_outstation *s, const struct pomarisco_table *table, size_t *taken) {
-    const struct pomarisco_table_took r = pomarisco_table(*s, *table);
-    *s = r.image;
+static inline uint8_t pomarisco_table(struct pomarisco_outstation *o, const struct pomarisco_reading *readings, size_t count, size_t *taken) {
+    const struct pomarisco_table_took r = pomarisco_lent_table(o->head, o->binaries, o->analogs, o->events, (const struct pomarisco_reading *)pomarisco_from(readings, count, o), count);
+    o->head = r.head;
     *taken = r.taken;
     return r.refusal;
 }
 
-static inline struct pomarisco_fragment_answer pomarisco_fragment_at(struct pomarisco_outstation *s, uint64_t time, const uint8_t *fragment, size_t fragment_length, uint8_t *out, size_t out_length, struct pomarisco_crobs *operated) {
-    uint8_t none[2] = {0, 0};
-    const struct pomarisco_answer r = pomarisco_fragment(*s, time, pomarisco_from(fragment, fragment_length, none), fragment_length, pomarisco_to(out, out_length, none + 1), out_length);
-    *s = r.image;
+static inline struct pomarisco_fragment_answer pomarisco_fragment(struct pomarisco_outstation *o, uint64_t time, const uint8_t *fragment, size_t fragment_length, uint8_t *out, size_t out_length, struct pomarisco_crobs *operated) {
+    const struct pomarisco_answer r = pomarisco_lent_fragment(o->head, o->binaries, o->analogs, o->events, o->request, o->answer, o->latch_objects, time, (const uint8_t *)pomarisco_from(fragment, fragment_length, o), fragment_length, pomarisco_to(out, out_length, o), out_length);
+    o->head = r.head;
     *operated = r.operated;
     return r.answer;
 }
 
-static inline struct pomarisco_taken pomarisco_link_receive_at(struct pomarisco_line *line, uint16_t own, uint16_t master, const uint8_t *bytes, size_t length, uint8_t *out, size_t out_length) {
+/* The calls of the line that may be lent nothing; assembly and sender in place. */
+static inline struct pomarisco_taken pomarisco_link_receive_at(struct pomarisco_line *line, struct pomarisco_station station, const uint8_t *bytes, size_t length, uint8_t *out, size_t out_length) {
     uint8_t none[2] = {0, 0};
-    const struct pomarisco_link r = pomarisco_link_receive(*line, own, master, pomarisco_from(bytes, length, none), length, pomarisco_to(out, out_length, none + 1), out_length);
-    *line = r.line;
-    return r.taken;
+    return pomarisco_link_receive(line, station, (const uint8_t *)pomarisco_from(bytes, length, none), length, pomarisco_to(out, out_length, none + 1), out_length);
 }
 
 static inline struct pomarisco_segment pomarisco_segment_receive_at(struct pomarisco_assembly *assembly, const uint8_t *segment, size_t segment_length, uint8_t *out, size_t out_length) {
     uint8_t none[2] = {0, 0};
-    const struct pomarisco_reception r = pomarisco_segment_receive(*assembly, pomarisco_from(segment, segment_length, none), segment_length, pomarisco_to(out, out_length, none + 1), out_length);
+    const struct pomarisco_reception r = pomarisco_segment_receive(*assembly, (const uint8_t *)pomarisco_from(segment, segment_length, none), segment_length, pomarisco_to(out, out_length, none + 1), out_length);
     *assembly = r.assembly;
     return r.segment;
 }
 
 static inline struct pomarisco_sent pomarisco_segment_send_at(struct pomarisco_sender *sender, const uint8_t *fragment, size_t fragment_length, uint8_t *out, size_t out_length) {
     uint8_t none[2] = {0, 0};
-    const struct pomarisco_sending r = pomarisco_segment_send(*sender, pomarisco_from(fragment, fragment_length, none), fragment_length, pomarisco_to(out, out_length, none + 1), out_length);
+    const struct pomarisco_sending r = pomarisco_segment_send(*sender, (const uint8_t *)pomarisco_from(fragment, fragment_length, none), fragment_length, pomarisco_to(out, out_length, none + 1), out_length);
     *sender = r.sender;
     return r.sent;
 }

@@ -1,13 +1,15 @@
 //! The work of the program `bench` in ordinary Rust: the same lines, the same input, the same checksums.
 #![allow(dead_code)]
+mod control;
 mod events;
 mod frame;
 mod outstation;
 mod points;
 mod read;
 
+use control::Operated;
 use events::{Buffer, Event, Shown};
-use outstation::{Answer, FragmentError, Outstation};
+use outstation::{Answer, FragmentError, Measured, Outstation, Reading};
 use points::{
     AnalogPoint, BinaryPoint, FloatTrack, Gate, Measure, Points, ReadingError, Scale, Value,
     WholeTrack,
@@ -162,16 +164,21 @@ fn binary_of(state: bool, flags: u8) -> BinaryPoint {
     b
 }
 
-/// So many points of each kind.
-fn class_0(count: u64, n: usize) -> u64 {
-    let mut out = [0u8; 2048];
-    let request = [60u8, 1, 6];
-    let mut p = Points {
+/// So many points of each kind, all read once.
+fn read_points(n: usize) -> Points {
+    Points {
         binaries: [binary_of(true, 1); 64],
         binary_count: n,
         analogs: std::array::from_fn(analog_of),
         analog_count: n,
-    };
+    }
+}
+
+/// The objects of a response alone.
+fn class_0(count: u64, n: usize) -> u64 {
+    let mut out = [0u8; 2048];
+    let request = [60u8, 1, 6];
+    let mut p = read_points(n);
     let mut b = Buffer::new();
     let mut sum = 1u64;
     for left in (1..=count).rev() {
@@ -307,6 +314,7 @@ fn fold_answer(sum: u64, r: Result<Answer, FragmentError>, out: &[u8]) -> u64 {
     let x = match r {
         Ok(Answer::Response(n)) => n as u64 + out[(sum % 2048) as usize] as u64,
         Ok(Answer::Confirmed) => 1,
+        Ok(Answer::Silent) => 2,
         Err(FragmentError::Time) => 3,
         Err(FragmentError::Malformed) => 4,
         Err(FragmentError::NotConfirmed) => 5,
@@ -315,12 +323,28 @@ fn fold_answer(sum: u64, r: Result<Answer, FragmentError>, out: &[u8]) -> u64 {
     fold(sum, x)
 }
 
+/// A READ of class 0 as a fragment.
+fn class_0_fragment(count: u64, n: usize) -> u64 {
+    let (mut ask, mut out) = ([192u8, 1, 60, 1, 6], [0u8; 2048]);
+    let mut operated = Operated::default();
+    let mut o = Outstation::new(read_points(n));
+    let mut sum = 1u64;
+    for left in (1..=count).rev() {
+        o.points.binaries[(left % 64) as usize] = binary_of(left % 3 == 0, 1);
+        ask[0] = 192 + (left % 16) as u8;
+        let r = o.fragment(count - left, &ask, &mut out, &mut operated);
+        sum = fold_answer(sum, r, &out);
+    }
+    digest(fold_all(sum, &out), &o.buffer)
+}
+
 const ASK: [u8; 11] = [192, 1, 60, 2, 6, 60, 3, 6, 60, 4, 6];
 const CONFIRM: [u8; 2] = [192, 0];
 
 /// Before each READ the clock and the held events are set back; the request before it plays no part in a READ.
 fn event_read(count: u64, n: usize) -> u64 {
     let (mut ask, mut confirm, mut out) = (ASK, CONFIRM, [0u8; 2048]);
+    let mut operated = Operated::default();
     let full = holding(n);
     let mut o = full;
     let mut sum = 1u64;
@@ -328,34 +352,119 @@ fn event_read(count: u64, n: usize) -> u64 {
         let time = 1000 + left % 1000;
         ask[0] = 192 + (left % 16) as u8;
         confirm[0] = ask[0];
-        let r = o.fragment(time, &ask, &mut out);
+        let r = o.fragment(time, &ask, &mut out, &mut operated);
         sum = fold_answer(sum, r, &out);
-        let r = o.fragment(time, &confirm, &mut out);
+        let r = o.fragment(time, &confirm, &mut out, &mut operated);
         sum = fold(fold_answer(sum, r, &out), o.buffer.count as u64);
         o.clock = full.clock;
         o.buffer.refill(&full.buffer);
     }
-    let _ = o.fragment(1000, &ask, &mut out);
-    let _ = o.fragment(1000, &confirm, &mut out);
+    let _ = o.fragment(1000, &ask, &mut out, &mut operated);
+    let _ = o.fragment(1000, &confirm, &mut out, &mut operated);
     digest(fold_all(sum, &out), &o.buffer)
 }
 
 fn event_read_by_value(count: u64, n: usize) -> u64 {
     let (mut ask, mut confirm, mut out) = (ASK, CONFIRM, [0u8; 2048]);
+    let mut operated = Operated::default();
     let full = holding(n);
     let mut sum = 1u64;
     for left in (1..=count).rev() {
         let time = 1000 + left % 1000;
         ask[0] = 192 + (left % 16) as u8;
         confirm[0] = ask[0];
-        let (o, r) = outstation::fragment(full, time, &ask, &mut out);
+        let (o, r) = outstation::fragment(full, time, &ask, &mut out, &mut operated);
         sum = fold_answer(sum, r, &out);
-        let (o, r) = outstation::fragment(o, time, &confirm, &mut out);
+        let (o, r) = outstation::fragment(o, time, &confirm, &mut out, &mut operated);
         sum = fold(fold_answer(sum, r, &out), o.buffer.count as u64);
     }
-    let (o, _) = outstation::fragment(full, 1000, &ask, &mut out);
-    let (o, _) = outstation::fragment(o, 1000, &confirm, &mut out);
+    let (o, _) = outstation::fragment(full, 1000, &ask, &mut out, &mut operated);
+    let (o, _) = outstation::fragment(o, 1000, &confirm, &mut out, &mut operated);
     digest(fold_all(sum, &out), &o.buffer)
+}
+
+/// n binary events in a response that awaits its confirmation. Before each CONFIRM what the last one changed is set back.
+fn confirm(count: u64, n: usize) -> u64 {
+    let (ask, mut confirm, mut out) = (ASK, CONFIRM, [0u8; 2048]);
+    let mut operated = Operated::default();
+    let mut o = holding(0);
+    for i in 0..n as u64 {
+        o.buffer.push(Event {
+            shown: Shown::State(i % 2 == 0),
+            ..event_at(i)
+        });
+    }
+    let mut sum = 1u64;
+    let r = o.fragment(1000, &ask, &mut out, &mut operated);
+    sum = fold_answer(sum, r, &out);
+    let (wait, clock) = (o.session.wait, o.clock);
+    for left in (1..=count).rev() {
+        confirm[0] = ask[0] + (left % 16 == 0) as u8;
+        o.session.wait = wait;
+        o.clock = clock;
+        o.buffer.count = n;
+        let r = o.fragment(1000 + left % 1000, &confirm, &mut out, &mut operated);
+        sum = fold(fold_answer(sum, r, &out), o.clock + o.buffer.count as u64);
+    }
+    digest(fold_all(sum, &out), &o.buffer)
+}
+
+const SELECT: [u8; 18] = [192, 3, 12, 1, 23, 1, 5, 3, 1, 0, 0, 0, 0, 0, 0, 0, 0, 0];
+
+/// n events are held. Each SELECT has another sequence than the one before it, so it is no repeat.
+fn select(count: u64, n: usize) -> u64 {
+    let (mut ask, mut out) = (SELECT, [0u8; 2048]);
+    let mut operated = Operated::default();
+    let mut o = holding(n);
+    let mut sum = 1u64;
+    for left in (1..=count).rev() {
+        ask[0] = 192 + (left % 16) as u8;
+        ask[6] = (left % 9) as u8;
+        let r = o.fragment(1000 + count - left, &ask, &mut out, &mut operated);
+        let latch = &o.session.latch;
+        sum = fold(fold_answer(sum, r, &out), o.clock + latch.armed as u64);
+    }
+    sum = fold(sum, o.session.latch.time);
+    digest(fold_all(sum, &out), &o.buffer)
+}
+
+/// n events are held. The same SELECT again and again.
+fn repeat(count: u64, n: usize) -> u64 {
+    let (ask, mut out) = (SELECT, [0u8; 2048]);
+    let mut operated = Operated::default();
+    let mut o = holding(n);
+    let _ = o.fragment(1000, &ask, &mut out, &mut operated);
+    let mut sum = 1u64;
+    for left in (1..=count).rev() {
+        let r = o.fragment(1000 + count - left, &ask, &mut out, &mut operated);
+        sum = fold(fold_answer(sum, r, &out), o.clock);
+    }
+    sum = fold(sum, o.session.latch.time);
+    digest(fold_all(sum, &out), &o.buffer)
+}
+
+/// 64 binaries and 64 analogs take turns, and each reading raises an event; the buffer is emptied before each table.
+fn table_128(count: u64) -> u64 {
+    let mut o = fresh_outstation(64);
+    let tables = [false, true].map(|on| -> [Reading; 128] {
+        std::array::from_fn(|i| Reading {
+            time: 1000,
+            point: i as u16 / 2,
+            measured: if i % 2 == 0 {
+                Measured::State(on)
+            } else {
+                Measured::Whole(if on { 1000 + i as i32 } else { i as i32 - 1000 })
+            },
+            flags: 1,
+        })
+    });
+    let mut sum = 1u64;
+    for left in (1..=count).rev() {
+        o.buffer.count = 0;
+        let (taken, r) = o.table(&tables[(left % 2) as usize]);
+        sum = fold(sum, accepted(r) + taken as u64 + o.buffer.count as u64);
+    }
+    digest(sum, &o.buffer)
 }
 
 /// The largest number of points or held events of a work, 0 where it has no size.
@@ -363,9 +472,12 @@ fn most(name: &str) -> Option<usize> {
     Some(match name {
         "nothing" | "frame-write" | "frame-read" | "frame-write-table" | "frame-read-table" => 0,
         "reading" | "reading-by-value" => 0,
-        "class-0" | "outstation-reading" | "outstation-reading-by-value" => 64,
+        "class-0" | "class-0-fragment" | "outstation-reading" | "outstation-reading-by-value" => 64,
         "held-reading" | "held-reading-by-value" => 255,
         "event-read" | "event-read-by-value" => 256,
+        "confirm" => 226,
+        "select" | "repeat" => 256,
+        "table-128" => 0,
         _ => return None,
     })
 }
@@ -380,12 +492,17 @@ fn run(name: &str, count: u64, size: usize) -> Option<u64> {
         "reading" => reading(count),
         "reading-by-value" => reading_by_value(count),
         "class-0" => class_0(count, size),
+        "class-0-fragment" => class_0_fragment(count, size),
         "outstation-reading" => outstation_reading(count, size),
         "outstation-reading-by-value" => outstation_reading_by_value(count, size),
         "held-reading" => held_reading(count, size),
         "held-reading-by-value" => held_reading_by_value(count, size),
         "event-read" => event_read(count, size),
         "event-read-by-value" => event_read_by_value(count, size),
+        "confirm" => confirm(count, size),
+        "select" => select(count, size),
+        "repeat" => repeat(count, size),
+        "table-128" => table_128(count),
         _ => return None,
     })
 }
