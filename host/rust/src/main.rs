@@ -1,4 +1,4 @@
-//! Links `libstation_c.a` and compares every call with the second program.
+//! Links `libc_api.a` and compares every call with the second program.
 //!
 //!     pair                every case; ends with `N passed, M failed`
 //!     pair --short        few seeds and short scripts: for tools that make it slow
@@ -13,18 +13,21 @@
 mod garbage;
 mod header;
 mod meaning;
+mod memory;
 mod pair;
 mod state;
+mod words;
 
 use std::panic::{catch_unwind, AssertUnwindSafe};
 use std::path::PathBuf;
 use std::process::ExitCode;
-use std::sync::atomic::{AtomicUsize, Ordering};
+use std::sync::atomic::{AtomicBool, AtomicUsize, Ordering};
 use std::sync::Mutex;
 use std::thread;
 
 use reference::faults::{turn_on, FAULTS};
 use reference::generate::{script, Kind, Random};
+use reference::points::{Reading, Taken};
 use reference::script::{parse, Call, LINE};
 use reference::transport::Unfinished;
 
@@ -42,6 +45,9 @@ const SCRIPTS: [(Kind, u64, usize); 5] = [
 ];
 
 const GARBAGE: u64 = 20;
+
+/// Whether the outstation's arrays are in heap blocks of their exact size.
+static EXACT: AtomicBool = AtomicBool::new(false);
 
 /// Every refusal that a call can give.
 const REFUSALS: [u8; 18] = [1, 2, 3, 4, 5, 11, 12, 13, 14, 15, 16, 17, 21, 22, 23, 31, 32, 33];
@@ -66,7 +72,7 @@ impl Case {
     }
 
     fn run(&self) -> (Seen, Result<(), String>) {
-        let mut pair = Pair::new(7, false);
+        let mut pair = Pair::new(7, EXACT.load(Ordering::Relaxed));
         let result = match self {
             Case::Layout => layout(),
             Case::Script { text, other, .. } => {
@@ -246,41 +252,45 @@ fn lengths(pair: &mut Pair, call: &str) -> Result<(), String> {
 
 // ---- counts
 
-/// Counts that a script cannot give: each is refused, or means all there are.
+/// Numbers that a script cannot give: a setup of more points than there may be is refused, a table
+/// may be of any length.
 fn past(pair: &mut Pair) -> Result<(), String> {
     live(pair)?;
-    let second = pair.second.as_ref().ok_or("no outstation")?;
+    let mut second = pair.second.take().ok_or("no outstation")?;
     let setup = pair::setup_image(&second.setup).ok_or("no setup")?;
-    for past in [65, 256, 257, 1 << 32, usize::MAX] {
-        for setup in [
-            header::Setup { binary_count: past, ..setup },
-            header::Setup { analog_count: past, ..setup },
-        ] {
-            let restarted = header::restart(&setup);
-            state::equal("refusal", restarted.refusal, 5)?;
-            let points = &restarted.image.points;
-            state::equal("points", (points.binary_count, points.analog_count), (0, 0))?;
+    let image = pair.image;
+    for past in [65, 256, 257, 1000, 65_535] {
+        let mut binaries = setup.clone();
+        binaries.classes.resize(past, 1);
+        let mut analogs = setup.clone();
+        analogs.analogs.resize(past, setup.analogs[0]);
+        let mut outputs = setup.clone();
+        outputs.setup.outputs = past as u16;
+        for given in [binaries, analogs, outputs] {
+            let mut left = image;
+            let refusal =
+                pair.memory.restart(&mut left, given.setup, &given.classes, &given.analogs)?;
+            state::equal("refusal", refusal, 5)?;
+            let left = (left.head.binary_count, left.head.analog_count, left.head.outputs);
+            state::equal("points and outputs", left, (0, 0, 0))?;
         }
-        let outputs = past.min(65_535) as u16;
-        let restarted = header::restart(&header::Setup { outputs, ..setup });
-        state::equal("refusal", restarted.refusal, 5)?;
-        state::equal("outputs", restarted.image.outputs, 0)?;
     }
-    // A table of 128 with a count above is that of 128.
-    let mut table = header::Table::zero();
-    for (place, reading) in table.readings.iter_mut().enumerate() {
-        (reading.time, reading.point) = (10, place as u16 % 64);
-        (reading.flags, reading.state) = (1, (place / 64) as u8);
-    }
-    table.count = 128;
-    let expected = header::table(&pair.image, &table);
-    state::equal("taken, refusal", (expected.taken, expected.refusal), (128, 0))?;
-    for past in [129, 256, 1 << 32, usize::MAX] {
-        table.count = past;
-        let took = header::table(&pair.image, &table);
-        state::equal("taken, refusal", (took.taken, took.refusal), (128, 0))?;
-        if let Some(found) = header::Same::differs(&took.image, &expected.image) {
-            return Err(format!("table of {past}{found}"));
+    for count in [0, 128, 129, 1000, 70_000_usize] {
+        pair.other = count % 2 == 1;
+        for refused in [count, count / 2, count.saturating_sub(1)] {
+            let mut readings: Vec<Reading> = (0..count)
+                .map(|place| Reading {
+                    time: 10,
+                    index: (place % 64) as u8,
+                    value: Taken::Binary(place / 64 % 2 == 0),
+                    flags: 1,
+                })
+                .collect();
+            if let Some(reading) = readings.get_mut(refused) {
+                reading.flags = 32;
+            }
+            pair.table(&mut second, &readings)?;
+            state::compare(&pair.image, &second)?;
         }
     }
     Ok(())
@@ -296,8 +306,9 @@ fn garbage(pair: &mut Pair, seed: u64) -> Result<(), String> {
             pair.call(&call)?;
         }
         let at = |found| format!("after line {}: {found}", number + 1);
-        garbage::outstation(&pair.image, &mut random, &mut pair.seen).map_err(at)?;
-        garbage::setup(&mut random).map_err(at)?;
+        garbage::outstation(&pair.image, &mut pair.memory, &mut random, &mut pair.seen)
+            .map_err(at)?;
+        garbage::setup(&pair.image, &mut pair.memory, &mut random).map_err(at)?;
         for _ in 0..10 {
             garbage::line(&mut random).map_err(at)?;
         }

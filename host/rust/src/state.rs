@@ -1,10 +1,10 @@
-//! The library's image of the outstation against the second program's state, field by field.
+//! The library's state, head and lent words, against the second program's, field by field.
 
-use reference::events::Event;
 use reference::outstation::Outstation;
 use reference::points::{Form, Gate, Past, Value};
 
-use crate::header;
+use crate::header::{self, Head, EVENTS, FRAGMENT, KEPT_ANSWER, OBJECTS};
+use crate::words::{Analog, Binary, Event, Shown, RECORD};
 
 /// An error that names both sides.
 pub fn equal<T: PartialEq + std::fmt::Debug>(
@@ -19,87 +19,91 @@ pub fn equal<T: PartialEq + std::fmt::Debug>(
 }
 
 pub fn compare(image: &header::Outstation, second: &Outstation) -> Result<(), String> {
-    let setup = &second.setup;
-    equal("arm time", image.arm_time, u64::from(setup.arm_time))?;
-    equal("confirm time", image.confirm_time, u64::from(setup.confirm_time))?;
-    equal("outputs", image.outputs, u16::from(setup.outputs))?;
-    equal("clock", image.clock, second.clock)?;
-    points(&image.points, second)?;
-    buffer(&image.buffer, second)?;
-    session(&image.session, second)
+    let (head, setup) = (&image.head, &second.setup);
+    equal("arm time", head.arm_time, u64::from(setup.arm_time))?;
+    equal("confirm time", head.confirm_time, u64::from(setup.confirm_time))?;
+    equal("outputs", head.outputs, u16::from(setup.outputs))?;
+    equal("clock", head.clock, second.clock)?;
+    points(image, second)?;
+    events(image, second)?;
+    equal("restarted", head.restarted != 0, second.restarted)?;
+    wait(head, second)?;
+    latch(image, second)?;
+    last_request(image, second)
 }
 
-fn points(image: &header::Points, second: &Outstation) -> Result<(), String> {
-    equal("binaries", image.binary_count, second.binaries.len())?;
-    for (place, (one, two)) in image.binaries.iter().zip(&second.binaries).enumerate() {
+fn points(image: &header::Outstation, second: &Outstation) -> Result<(), String> {
+    equal("binaries", image.head.binary_count, second.binaries.len())?;
+    for (place, (&word, two)) in image.binaries.iter().zip(&second.binaries).enumerate() {
+        let one = Binary::of(word);
         let (state, flags) = two.shown();
-        let library = (one.class_, truth(one.seen)?, truth(one.state)?, one.flags);
-        equal(
-            &format!("binary {place}"),
-            library,
-            (two.class, two.latest.is_some(), state, flags),
-        )?;
         // Flags last reported: every change of them is reported.
-        if two.latest.is_some() {
-            equal(&format!("flags reported of binary {place}"), one.reported, flags)?;
+        let reported = if two.latest.is_some() { flags } else { one.reported };
+        let expected =
+            Binary { class: two.class, flags, reported, seen: two.latest.is_some(), state };
+        if one != expected {
+            equal(&format!("binary {place}"), one, expected)?;
         }
     }
-    equal("analogs", image.analog_count, second.analogs.len())?;
-    for (place, (one, two)) in image.analogs.iter().zip(&second.analogs).enumerate() {
-        analog(one, two).map_err(|found| format!("analog {place}: {found}"))?;
+    equal("analogs", image.head.analog_count, second.analogs.len())?;
+    let words = image.analogs.chunks_exact(RECORD);
+    for (place, (words, two)) in words.zip(&second.analogs).enumerate() {
+        analog(words, two).map_err(|found| format!("analog {place}: {found}"))?;
     }
     Ok(())
 }
 
-fn analog(one: &header::Analog, two: &reference::points::Analog) -> Result<(), String> {
+fn analog(words: &[u32], two: &reference::points::Analog) -> Result<(), String> {
+    let one = Analog::of(words);
     let (value, flags) = two.shown();
-    equal("class", one.class_, two.class)?;
-    equal("seen", truth(one.seen)?, two.latest.is_some())?;
-    equal("value", shown_value(&one.value)?, bits(value))?;
-    equal("flags", one.flags, flags)?;
-    let kind = match two.form {
-        Form::Whole32(_) => 0,
-        Form::Whole16(_) => 1,
-        Form::Float { .. } => 2,
-    };
-    equal("kind", one.measure.kind, kind)?;
-    match two.form {
+    // What a fresh point has for the flags last reported is not said.
+    let (kind, gate, limit, [reported, previous, sum], reported_flags, [gain, offset]) = match two
+        .form
+    {
         Form::Whole32(gate) | Form::Whole16(gate) => {
-            let track = &one.measure.whole;
-            let (kind, limit) = gate_parts(gate);
-            equal("gate", track.gate.kind, kind)?;
-            if let Some(limit) = limit {
-                equal("limit", i64::from(track.gate.limit), limit)?;
-            }
-            let fresh = Past { reported: 0, reported_flags: one.reported, previous: 0, sum: 0 };
+            let (number, limit) = gate_parts(gate);
+            let fresh =
+                Past { reported: 0, reported_flags: one.reported_flags, previous: 0, sum: 0 };
             let past = two.whole.unwrap_or(fresh);
-            equal("value reported", i64::from(track.reported), past.reported)?;
-            equal("previous value", i64::from(track.previous), past.previous)?;
-            equal("sum", i64::from(track.sum), past.sum)?;
-            equal("flags reported", one.reported, past.reported_flags)
+            // As the library keeps them: 32 bits, the sum up to its limit.
+            let whole = |number: i64| match u32::try_from(number) {
+                Ok(bits) => bits,
+                Err(_) => number as i32 as u32,
+            };
+            let bits = [past.reported, past.previous, past.sum].map(whole);
+            let kind = u8::from(matches!(two.form, Form::Whole16(_)));
+            (kind, number, limit.map(whole), bits, past.reported_flags, [0, 0])
         }
         Form::Float { gain, offset, gate } => {
-            let track = &one.measure.real;
-            let (kind, limit) = gate_parts(gate);
-            equal("gate", track.gate.kind, kind)?;
-            if let Some(limit) = limit {
-                equal("limit", track.gate.limit.to_bits(), limit.to_bits())?;
-            }
-            equal("gain", track.gain.to_bits(), gain.to_bits())?;
-            equal("offset", track.offset.to_bits(), offset.to_bits())?;
+            let (number, limit) = gate_parts(gate);
             let fresh =
-                Past { reported: 0.0, reported_flags: one.reported, previous: 0.0, sum: 0.0 };
+                Past { reported: 0.0, reported_flags: one.reported_flags, previous: 0.0, sum: 0.0 };
             let past = two.float.unwrap_or(fresh);
-            equal("value reported", track.reported.to_bits(), past.reported.to_bits())?;
-            equal("previous value", track.previous.to_bits(), past.previous.to_bits())?;
-            equal("sum", track.sum.to_bits(), past.sum.to_bits())?;
-            equal("flags reported", one.reported, past.reported_flags)
+            let bits = [past.reported, past.previous, past.sum].map(f32::to_bits);
+            let scale = [gain, offset].map(f32::to_bits);
+            (2, number, limit.map(f32::to_bits), bits, past.reported_flags, scale)
         }
-    }
+    };
+    let expected = Analog {
+        class: two.class,
+        flags,
+        reported_flags,
+        seen: two.latest.is_some(),
+        value: shown(value),
+        kind,
+        gate,
+        limit: limit.unwrap_or(0),
+        reported,
+        previous,
+        sum,
+        gain,
+        offset,
+    };
+    equal("point", one, expected)
 }
 
-/// The header's number of a gate, and its limit if it has one.
-fn gate_parts<L>(gate: Gate<L>) -> (u8, Option<L>) {
+/// The number of a gate, and its limit if it has one.
+pub fn gate_parts<L>(gate: Gate<L>) -> (u8, Option<L>) {
     match gate {
         Gate::Never => (0, None),
         Gate::AnyChange => (1, None),
@@ -108,59 +112,57 @@ fn gate_parts<L>(gate: Gate<L>) -> (u8, Option<L>) {
     }
 }
 
-fn buffer(image: &header::Buffer, second: &Outstation) -> Result<(), String> {
+fn events(image: &header::Outstation, second: &Outstation) -> Result<(), String> {
     let held = &second.events.held;
-    equal("events held", image.count, held.len())?;
-    equal("overflow", truth(image.overflow)?, second.events.warning)?;
+    equal("events held", image.head.event_count, held.len())?;
+    equal("no more than the array", held.len() <= EVENTS, true)?;
+    equal("overflow", image.head.overflow != 0, second.events.warning)?;
     let carried = second.wait.as_ref().map_or(&[][..], |wait| &wait.carried);
     let mut carried = carried.iter().peekable();
-    for (place, (one, two)) in image.held.iter().zip(held).enumerate() {
-        let is_carried = carried.next_if_eq(&&two.number).is_some();
-        event(one, two, is_carried).map_err(|found| format!("event {place}: {found}"))?;
+    for (place, (words, two)) in image.events.chunks_exact(2).zip(held).enumerate() {
+        let expected = Event {
+            time: two.time,
+            point: u16::from(two.index),
+            shown: shown(two.value),
+            flags: two.flags,
+            class: two.class,
+            carried: carried.next_if_eq(&&two.number).is_some(),
+        };
+        let one = Event::of(words[0], words[1]);
+        if one != expected {
+            equal(&format!("event {place}"), one, expected)?;
+        }
     }
     Ok(())
 }
 
-fn event(one: &header::Held, two: &Event, carried: bool) -> Result<(), String> {
-    equal("carried", truth(one.carried)?, carried)?;
-    let event = &one.event;
-    let shown = match event.shown.kind {
-        0 => (0, u32::from(truth(event.shown.state)?)),
-        1 => shown_value(&event.shown.value)?,
-        kind => return Err(format!("kind {kind} of what is shown")),
-    };
-    equal("what is shown", shown, bits(two.value))?;
-    let library = (event.point, event.flags, event.class_, event.time);
-    equal(
-        "point, flags, class, time",
-        library,
-        (u16::from(two.index), two.flags, two.class, two.time),
-    )
-}
-
-fn session(image: &header::Session, second: &Outstation) -> Result<(), String> {
-    equal("restarted", truth(image.restarted)?, second.restarted)?;
-    let wait = &image.wait;
-    let wait = match wait.kind {
-        0 => None,
-        1 => Some((wait.sequence, wait.time, truth(wait.shown)?, truth(wait.since)?)),
-        kind => return Err(format!("kind {kind} of wait")),
-    };
+fn wait(head: &Head, second: &Outstation) -> Result<(), String> {
+    let wait = (head.waiting != 0).then_some((
+        head.wait_sequence,
+        head.wait_time,
+        head.showed_overflow != 0,
+        head.dropped_since != 0,
+    ));
     let expected =
         second.wait.as_ref().map(|w| (w.sequence, w.time, w.showed_warning, w.dropped_since));
-    equal("wait", wait, expected)?;
-    let latch = &image.latch;
-    let latch = truth(latch.armed)?.then(|| {
-        (latch.sequence, latch.time, latch.objects[..latch.len.min(latch.objects.len())].to_vec())
+    equal("wait", wait, expected)
+}
+
+fn latch(image: &header::Outstation, second: &Outstation) -> Result<(), String> {
+    let head = &image.head;
+    let latch = (head.latch_armed != 0).then(|| {
+        let objects = &image.latch_objects[..head.latch_len.min(OBJECTS)];
+        (head.latch_sequence, head.latch_time, objects)
     });
-    let expected = second.latch.as_ref().map(|l| (l.sequence, l.time, l.objects.clone()));
-    equal("latch", latch, expected)?;
-    let last = &image.last;
-    let last = truth(last.held)?.then(|| {
-        (
-            &last.request[..last.request_len.min(last.request.len())],
-            &last.answer[..last.answer_len.min(last.answer.len())],
-        )
+    let expected = second.latch.as_ref().map(|l| (l.sequence, l.time, &l.objects[..]));
+    equal("latch", latch, expected)
+}
+
+fn last_request(image: &header::Outstation, second: &Outstation) -> Result<(), String> {
+    let head = &image.head;
+    let last = (head.request_kept != 0).then(|| {
+        let request = &image.request[..head.request_len.min(FRAGMENT)];
+        (request, &image.answer[..head.answer_len.min(KEPT_ANSWER)])
     });
     // A READ is never a repeat: the library does not keep its answer.
     let expected = second.last_request.as_ref().map(|r| {
@@ -170,30 +172,11 @@ fn session(image: &header::Session, second: &Outstation) -> Result<(), String> {
     equal("last request", last, expected)
 }
 
-/// What the library writes for a truth is 0 or 1.
-fn truth(number: u8) -> Result<bool, String> {
-    match number {
-        0 => Ok(false),
-        1 => Ok(true),
-        other => Err(format!("a truth of {other}")),
-    }
-}
-
-/// A value's kind (0 for a state) and its bits.
-fn shown_value(value: &header::Value) -> Result<(u8, u32), String> {
-    match value.kind {
-        0 => Ok((1, value.wide as u32)),
-        1 => Ok((2, i32::from(value.narrow) as u32)),
-        2 => Ok((5, value.real.to_bits())),
-        kind => Err(format!("kind {kind} of a value")),
-    }
-}
-
-fn bits(value: Value) -> (u8, u32) {
+fn shown(value: Value) -> Shown {
     match value {
-        Value::State(state) => (0, u32::from(state)),
-        Value::Whole32(value) => (1, value as u32),
-        Value::Whole16(value) => (2, i32::from(value) as u32),
-        Value::Float(value) => (5, value.to_bits()),
+        Value::State(state) => Shown::State(state),
+        Value::Whole32(value) => Shown::Long(value),
+        Value::Whole16(value) => Shown::Short(value),
+        Value::Float(value) => Shown::Real(value.to_bits()),
     }
 }
