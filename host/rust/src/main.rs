@@ -1,9 +1,14 @@
 //! Links `libc_api.a` and compares every call with the second program.
 //!
 //!     pair                every case; ends with `N passed, M failed`
-//!     pair --short        few seeds and short scripts: for tools that make it slow
+//!     pair --short        few seeds and short scripts, the outstation's arrays in heap blocks of their
+//!                         exact size: for valgrind
 //!     pair --faults       the second program made wrong, one named fault after the other; prints the
 //!                         first case that fails for each, the fixed scripts left out
+//!     pair --random N [SEED]   N random calls in one run, all compared; ends with `1 passed, 0 failed`
+//!                         or the first difference
+//!     pair --stress SEED N     the same calls on the second program alone: what `host/stress.c` must
+//!                         print over the library
 //!
 //! A case is: the layout; a fixed script of `tests/`; a random script of one seed; the lent lengths
 //! of one call; garbage of one seed; what has to be reached. In every second random script the
@@ -15,7 +20,9 @@ mod header;
 mod meaning;
 mod memory;
 mod pair;
+mod run;
 mod state;
+mod stress;
 mod words;
 
 use std::panic::{catch_unwind, AssertUnwindSafe};
@@ -413,34 +420,82 @@ fn faults(cases: &[Case]) -> ExitCode {
     }
 }
 
+/// A number of calls, or a seed.
+fn number(word: &str) -> Result<u64, ExitCode> {
+    word.parse().map_err(|_| {
+        eprintln!("pair: {word} is no number");
+        ExitCode::from(2)
+    })
+}
+
 fn main() -> ExitCode {
+    chosen().unwrap_or_else(|code| code)
+}
+
+fn chosen() -> Result<ExitCode, ExitCode> {
     let arguments: Vec<String> = std::env::args().skip(1).collect();
-    let mut cases = match arguments.iter().map(String::as_str).collect::<Vec<_>>()[..] {
+    let words: Vec<&str> = arguments.iter().map(String::as_str).collect();
+    let mut cases = match words[..] {
         [] => own_cases(false),
-        ["--short"] => own_cases(true),
-        ["--faults"] => return faults(&own_cases(false)),
+        ["--short"] => {
+            EXACT.store(true, Ordering::Relaxed);
+            own_cases(true)
+        }
+        ["--faults"] => return Ok(faults(&own_cases(false))),
+        ["--random", calls] => return long_run(number(calls)?, 1),
+        ["--random", calls, seed] => return long_run(number(calls)?, number(seed)?),
+        ["--stress", seed, calls] => {
+            turn_on_named()?;
+            run::stress(number(seed)?, number(calls)?);
+            return Ok(ExitCode::SUCCESS);
+        }
         _ => {
-            eprintln!("usage: pair [--short | --faults]");
-            return ExitCode::from(2);
+            eprintln!("usage: pair [--short | --faults | --random N [SEED] | --stress SEED N]");
+            return Err(ExitCode::from(2));
         }
     };
     match fixed() {
         Ok(scripts) => cases.extend(scripts),
         Err(error) => {
             eprintln!("pair: tests/: {error}");
-            return ExitCode::from(2);
+            return Err(ExitCode::from(2));
         }
     }
+    turn_on_named()?;
+    Ok(all(&cases))
+}
+
+/// Turns on the fault that REFERENCE_FAULT names.
+fn turn_on_named() -> Result<(), ExitCode> {
     if let Ok(name) = std::env::var("REFERENCE_FAULT") {
         if !name.is_empty() && !turn_on(&name) {
             eprintln!("pair: no fault is called {name}");
-            return ExitCode::from(2);
+            return Err(ExitCode::from(2));
         }
     }
+    Ok(())
+}
 
+fn long_run(calls: u64, seed: u64) -> Result<ExitCode, ExitCode> {
+    turn_on_named()?;
+    Ok(match run::random(calls, seed) {
+        Ok(()) => {
+            println!("1 passed, 0 failed");
+            ExitCode::SUCCESS
+        }
+        Err(found) => {
+            println!("FAILED {found}");
+            println!("0 passed, 1 failed");
+            ExitCode::FAILURE
+        }
+    })
+}
+
+/// Runs the cases, prints what was reached and what failed.
+fn all(cases: &[Case]) -> ExitCode {
     let mut seen = Seen::default();
     let (mut passed, mut failed) = (0, 0);
-    for (case, result) in cases.iter().zip(run_all(&cases, false)) {
+    for (case, result) in cases.iter().zip(run_all(cases, false)) {
         let (reached, result) = result.unwrap_or_else(|| (Seen::default(), Err("not run".into())));
         seen.add(&reached);
         match result {

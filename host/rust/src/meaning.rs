@@ -17,28 +17,13 @@ fn kind(number: u8, last: u8) -> u8 {
 
 // ---- the plain image
 
-pub fn plain(image: &Outstation) -> Outstation {
-    let mut image = *image;
-    let head = &mut image.head;
+pub fn plain_head(head: &Head) -> Head {
+    let mut head = *head;
     head.binary_count = head.binary_count.min(BINARIES);
     head.analog_count = head.analog_count.min(ANALOGS);
     head.event_count = head.event_count.min(EVENTS);
     head.overflow = truth(head.overflow);
     head.restarted = truth(head.restarted);
-    let (binaries, rest) = image.binaries.split_at_mut(head.binary_count);
-    binaries.iter_mut().for_each(|word| *word = Binary::of(*word).word());
-    rest.fill(0);
-    let (analogs, rest) = image.analogs.split_at_mut(RECORD * head.analog_count);
-    for words in analogs.chunks_exact_mut(RECORD) {
-        words.copy_from_slice(&Analog::of(words).words());
-    }
-    rest.fill(0);
-    let (events, rest) = image.events.split_at_mut(2 * head.event_count);
-    for words in events.chunks_exact_mut(2) {
-        words.copy_from_slice(&Event::of(words[0], words[1]).words());
-    }
-    rest.fill(0);
-
     head.waiting = truth(head.waiting);
     if head.waiting == 0 {
         (head.wait_time, head.wait_sequence) = (0, 0);
@@ -52,13 +37,33 @@ pub fn plain(image: &Outstation) -> Outstation {
     }
     head.request_len = head.request_len.min(FRAGMENT);
     head.answer_len = head.answer_len.min(KEPT_ANSWER);
-    image.request[head.request_len..].fill(0);
-    image.answer[head.answer_len..].fill(0);
     head.latch_armed = truth(head.latch_armed);
     if head.latch_armed == 0 {
         (head.latch_time, head.latch_sequence, head.latch_len) = (0, 0, 0);
     }
     head.latch_len = head.latch_len.min(OBJECTS);
+    head
+}
+
+pub fn plain(image: &Outstation) -> Outstation {
+    let mut image = *image;
+    image.head = plain_head(&image.head);
+    let head = &image.head;
+    let (binaries, rest) = image.binaries.split_at_mut(head.binary_count);
+    binaries.iter_mut().for_each(|word| *word = Binary::of(*word).word());
+    rest.fill(0);
+    let (analogs, rest) = image.analogs.split_at_mut(RECORD * head.analog_count);
+    for words in analogs.chunks_exact_mut(RECORD) {
+        words.copy_from_slice(&Analog::of(words).words());
+    }
+    rest.fill(0);
+    let (events, rest) = image.events.split_at_mut(2 * head.event_count);
+    for words in events.chunks_exact_mut(2) {
+        words.copy_from_slice(&Event::of(words[0], words[1]).words());
+    }
+    rest.fill(0);
+    image.request[head.request_len..].fill(0);
+    image.answer[head.answer_len..].fill(0);
     image.latch_objects[head.latch_len..].fill(0);
     image
 }

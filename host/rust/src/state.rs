@@ -3,7 +3,7 @@
 use reference::outstation::Outstation;
 use reference::points::{Form, Gate, Past, Value};
 
-use crate::header::{self, Head, EVENTS, FRAGMENT, KEPT_ANSWER, OBJECTS};
+use crate::header::{self, Head, FRAGMENT, KEPT_ANSWER, OBJECTS};
 use crate::words::{Analog, Binary, Event, Shown, RECORD};
 
 /// An error that names both sides.
@@ -32,59 +32,42 @@ pub fn compare(image: &header::Outstation, second: &Outstation) -> Result<(), St
     last_request(image, second)
 }
 
-fn points(image: &header::Outstation, second: &Outstation) -> Result<(), String> {
-    equal("binaries", image.head.binary_count, second.binaries.len())?;
-    for (place, (&word, two)) in image.binaries.iter().zip(&second.binaries).enumerate() {
-        let one = Binary::of(word);
-        let (state, flags) = two.shown();
-        // Flags last reported: every change of them is reported.
-        let reported = if two.latest.is_some() { flags } else { one.reported };
-        let expected =
-            Binary { class: two.class, flags, reported, seen: two.latest.is_some(), state };
-        if one != expected {
-            equal(&format!("binary {place}"), one, expected)?;
-        }
-    }
-    equal("analogs", image.head.analog_count, second.analogs.len())?;
-    let words = image.analogs.chunks_exact(RECORD);
-    for (place, (words, two)) in words.zip(&second.analogs).enumerate() {
-        analog(words, two).map_err(|found| format!("analog {place}: {found}"))?;
-    }
-    Ok(())
+/// A point as the library keeps it. `reported`: the flags last reported of a point without a reading,
+/// which are not said.
+fn binary_of(two: &reference::points::Binary, reported: u8) -> Binary {
+    let (state, flags) = two.shown();
+    let seen = two.latest.is_some();
+    // Every change of flags is reported.
+    Binary { class: two.class, flags, reported: if seen { flags } else { reported }, seen, state }
 }
 
-fn analog(words: &[u32], two: &reference::points::Analog) -> Result<(), String> {
-    let one = Analog::of(words);
+fn analog_of(two: &reference::points::Analog, reported: u8) -> Analog {
     let (value, flags) = two.shown();
-    // What a fresh point has for the flags last reported is not said.
-    let (kind, gate, limit, [reported, previous, sum], reported_flags, [gain, offset]) = match two
-        .form
-    {
+    let (kind, (gate, limit), bits, reported_flags, [gain, offset]) = match two.form {
         Form::Whole32(gate) | Form::Whole16(gate) => {
-            let (number, limit) = gate_parts(gate);
-            let fresh =
-                Past { reported: 0, reported_flags: one.reported_flags, previous: 0, sum: 0 };
+            let fresh = Past { reported: 0, reported_flags: reported, previous: 0, sum: 0 };
             let past = two.whole.unwrap_or(fresh);
-            // As the library keeps them: 32 bits, the sum up to its limit.
+            // 32 bits: signed readings, a sum up to its limit.
             let whole = |number: i64| match u32::try_from(number) {
                 Ok(bits) => bits,
                 Err(_) => number as i32 as u32,
             };
+            let (gate, limit) = gate_parts(gate);
             let bits = [past.reported, past.previous, past.sum].map(whole);
             let kind = u8::from(matches!(two.form, Form::Whole16(_)));
-            (kind, number, limit.map(whole), bits, past.reported_flags, [0, 0])
+            (kind, (gate, limit.map(whole)), bits, past.reported_flags, [0, 0])
         }
         Form::Float { gain, offset, gate } => {
-            let (number, limit) = gate_parts(gate);
-            let fresh =
-                Past { reported: 0.0, reported_flags: one.reported_flags, previous: 0.0, sum: 0.0 };
+            let fresh = Past { reported: 0.0, reported_flags: reported, previous: 0.0, sum: 0.0 };
             let past = two.float.unwrap_or(fresh);
+            let (gate, limit) = gate_parts(gate);
             let bits = [past.reported, past.previous, past.sum].map(f32::to_bits);
             let scale = [gain, offset].map(f32::to_bits);
-            (2, number, limit.map(f32::to_bits), bits, past.reported_flags, scale)
+            (2, (gate, limit.map(f32::to_bits)), bits, past.reported_flags, scale)
         }
     };
-    let expected = Analog {
+    let [reported, previous, sum] = bits;
+    Analog {
         class: two.class,
         flags,
         reported_flags,
@@ -98,8 +81,7 @@ fn analog(words: &[u32], two: &reference::points::Analog) -> Result<(), String> 
         sum,
         gain,
         offset,
-    };
-    equal("point", one, expected)
+    }
 }
 
 /// The number of a gate, and its limit if it has one.
@@ -112,25 +94,50 @@ pub fn gate_parts<L>(gate: Gate<L>) -> (u8, Option<L>) {
     }
 }
 
-fn events(image: &header::Outstation, second: &Outstation) -> Result<(), String> {
-    let held = &second.events.held;
-    equal("events held", image.head.event_count, held.len())?;
-    equal("no more than the array", held.len() <= EVENTS, true)?;
-    equal("overflow", image.head.overflow != 0, second.events.warning)?;
+/// The held events, oldest first.
+fn events_of(second: &Outstation) -> impl Iterator<Item = Event> + '_ {
     let carried = second.wait.as_ref().map_or(&[][..], |wait| &wait.carried);
     let mut carried = carried.iter().peekable();
-    for (place, (words, two)) in image.events.chunks_exact(2).zip(held).enumerate() {
-        let expected = Event {
-            time: two.time,
-            point: u16::from(two.index),
-            shown: shown(two.value),
-            flags: two.flags,
-            class: two.class,
-            carried: carried.next_if_eq(&&two.number).is_some(),
-        };
+    second.events.held.iter().map(move |two| Event {
+        time: two.time,
+        point: u16::from(two.index),
+        shown: shown(two.value),
+        flags: two.flags,
+        class: two.class,
+        carried: carried.next_if_eq(&&two.number).is_some(),
+    })
+}
+
+fn points(image: &header::Outstation, second: &Outstation) -> Result<(), String> {
+    equal("binaries", image.head.binary_count, second.binaries.len())?;
+    for (place, (&word, two)) in image.binaries.iter().zip(&second.binaries).enumerate() {
+        let one = Binary::of(word);
+        let expected = binary_of(two, one.reported);
+        if one != expected {
+            return equal(&format!("binary {place}"), one, expected);
+        }
+    }
+    equal("analogs", image.head.analog_count, second.analogs.len())?;
+    let words = image.analogs.chunks_exact(RECORD);
+    for (place, (words, two)) in words.zip(&second.analogs).enumerate() {
+        let one = Analog::of(words);
+        let expected = analog_of(two, one.reported_flags);
+        if one != expected {
+            return equal(&format!("analog {place}"), one, expected);
+        }
+    }
+    Ok(())
+}
+
+fn events(image: &header::Outstation, second: &Outstation) -> Result<(), String> {
+    equal("events held", image.head.event_count, second.events.held.len())?;
+    equal("overflow", image.head.overflow != 0, second.events.warning)?;
+    for (place, (words, expected)) in
+        image.events.chunks_exact(2).zip(events_of(second)).enumerate()
+    {
         let one = Event::of(words[0], words[1]);
         if one != expected {
-            equal(&format!("event {place}"), one, expected)?;
+            return equal(&format!("event {place}"), one, expected);
         }
     }
     Ok(())
@@ -164,12 +171,65 @@ fn last_request(image: &header::Outstation, second: &Outstation) -> Result<(), S
         let request = &image.request[..head.request_len.min(FRAGMENT)];
         (request, &image.answer[..head.answer_len.min(KEPT_ANSWER)])
     });
-    // A READ is never a repeat: the library does not keep its answer.
-    let expected = second.last_request.as_ref().map(|r| {
-        let answer = r.answer.as_deref().filter(|_| r.bytes[1] != 1);
-        (&r.bytes[..], answer.unwrap_or(&[]))
-    });
-    equal("last request", last, expected)
+    equal("last request", last, last_of(second))
+}
+
+/// The last request and its answer. A READ is never a repeat: the library does not keep its answer.
+fn last_of(second: &Outstation) -> Option<(&[u8], &[u8])> {
+    let request = second.last_request.as_ref()?;
+    let answer = request.answer.as_deref().filter(|_| request.bytes[1] != 1);
+    Some((&request.bytes, answer.unwrap_or(&[])))
+}
+
+// ---- the second program's state as a plain image
+
+pub fn head_of(second: &Outstation) -> Head {
+    let mut head = Head::zero();
+    head.arm_time = u64::from(second.setup.arm_time);
+    head.confirm_time = u64::from(second.setup.confirm_time);
+    head.clock = second.clock;
+    head.binary_count = second.binaries.len();
+    head.analog_count = second.analogs.len();
+    head.event_count = second.events.held.len();
+    head.outputs = u16::from(second.setup.outputs);
+    head.overflow = u8::from(second.events.warning);
+    head.restarted = u8::from(second.restarted);
+    if let Some(wait) = &second.wait {
+        (head.waiting, head.wait_sequence, head.wait_time) = (1, wait.sequence, wait.time);
+        head.showed_overflow = u8::from(wait.showed_warning);
+        head.dropped_since = u8::from(wait.dropped_since);
+    }
+    if let Some((request, answer)) = last_of(second) {
+        head.request_kept = 1;
+        (head.request_len, head.answer_len) = (request.len(), answer.len());
+    }
+    if let Some(latch) = &second.latch {
+        (head.latch_armed, head.latch_sequence, head.latch_time) = (1, latch.sequence, latch.time);
+        head.latch_len = latch.objects.len();
+    }
+    head
+}
+
+pub fn image_of(second: &Outstation) -> header::Outstation {
+    let mut image = header::Outstation::zero();
+    image.head = head_of(second);
+    for (word, two) in image.binaries.iter_mut().zip(&second.binaries) {
+        *word = binary_of(two, 0).word();
+    }
+    for (words, two) in image.analogs.chunks_exact_mut(RECORD).zip(&second.analogs) {
+        words.copy_from_slice(&analog_of(two, 0).words());
+    }
+    for (words, event) in image.events.chunks_exact_mut(2).zip(events_of(second)) {
+        words.copy_from_slice(&event.words());
+    }
+    if let Some((request, answer)) = last_of(second) {
+        image.request[..request.len()].copy_from_slice(request);
+        image.answer[..answer.len()].copy_from_slice(answer);
+    }
+    if let Some(latch) = &second.latch {
+        image.latch_objects[..latch.objects.len()].copy_from_slice(&latch.objects);
+    }
+    image
 }
 
 fn shown(value: Value) -> Shown {

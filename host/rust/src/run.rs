@@ -1,0 +1,314 @@
+//! The long run of `stress.rs`: both sides beside each other, or the second program alone.
+
+use reference::application::Outcome;
+use reference::outstation;
+use reference::points::{self, Form, Gate, Taken};
+
+use crate::header::*;
+use crate::meaning;
+use crate::memory::Memory;
+use crate::state::{self, equal};
+use crate::stress::{Answered, Call, Generator, Kind, Sum, COUNTS, FILL, LENGTHS, LINE, WHOLE};
+
+// ---- the second program
+
+struct Second {
+    outstation: Option<outstation::Outstation>,
+    out: [Vec<u8>; LENGTHS.len()],
+}
+
+fn gate<L>(number: u8, limit: L) -> Gate<L> {
+    match number {
+        0 => Gate::Never,
+        1 => Gate::AnyChange,
+        2 => Gate::Beyond(limit),
+        _ => Gate::Summed(limit),
+    }
+}
+
+fn form(analog: &AnalogSetup) -> Form {
+    let whole = gate(analog.gate, i64::from(analog.limit));
+    match analog.kind {
+        0 => Form::Whole32(whole),
+        1 => Form::Whole16(whole),
+        _ => Form::Float {
+            gain: f32::from_bits(analog.gain),
+            offset: f32::from_bits(analog.offset),
+            gate: gate(analog.gate, f32::from_bits(analog.limit)),
+        },
+    }
+}
+
+/// Its numbers of points and outputs are bytes; its lists have at most 64.
+fn setup(call: &Call) -> outstation::Setup {
+    let byte = |count: usize| count.min(255) as u8;
+    let setup = &call.setup;
+    let analogs = call.setups.iter().take(ANALOGS);
+    outstation::Setup {
+        own: setup.own,
+        master: setup.master,
+        arm_time: setup.arm_time,
+        confirm_time: setup.confirm_time,
+        binary_count: byte(call.classes.len()),
+        analog_count: byte(call.setups.len()),
+        outputs: byte(usize::from(setup.outputs)),
+        binaries: call.classes.iter().take(BINARIES).copied().collect(),
+        analogs: analogs.map(|analog| (analog.class_, form(analog))).collect(),
+    }
+}
+
+/// It knows points to 255; there are none from 64 on.
+fn reading(reading: &Reading) -> points::Reading {
+    let value = match reading.kind {
+        0 => Taken::Binary(reading.bits != 0),
+        1 => Taken::Whole(reading.bits as i32),
+        _ => Taken::Float(f32::from_bits(reading.bits)),
+    };
+    let index = reading.point.min(255) as u8;
+    points::Reading { time: reading.time, index, value, flags: reading.flags }
+}
+
+impl Second {
+    fn new() -> Second {
+        Second { outstation: None, out: LENGTHS.map(|length| vec![FILL; length]) }
+    }
+
+    fn call(&mut self, call: &Call) -> Answered {
+        let mut result = Answered::zero();
+        if call.kind == Kind::Restart {
+            match outstation::Outstation::new(setup(call)) {
+                Ok(made) => self.outstation = Some(made),
+                Err(refusal) => {
+                    self.outstation = None;
+                    result.refusal = refusal;
+                }
+            }
+            return result;
+        }
+        let outstation = self.outstation.as_mut().expect("made before any other call");
+        if call.kind != Kind::Fragment {
+            let readings: Vec<points::Reading> = call.readings.iter().map(reading).collect();
+            let (taken, refusal) = outstation.table(&readings);
+            (result.taken, result.refusal) = (taken, refusal.unwrap_or(0));
+            return result;
+        }
+        let outcome = outstation.fragment(call.time, &call.fragment, &mut self.out[call.out]);
+        let operated = match outcome {
+            Ok(Outcome::Answer(length, operated)) => {
+                result.length = length;
+                operated
+            }
+            Ok(Outcome::Mute(operated)) => {
+                result.kind = 1;
+                operated
+            }
+            Ok(Outcome::Confirmed) => {
+                result.kind = 2;
+                return result;
+            }
+            Err(refusal) => {
+                (result.kind, result.refusal) = (3, refusal);
+                return result;
+            }
+        };
+        result.operated.count = operated.len();
+        for (crob, control) in result.operated.items.iter_mut().zip(&operated) {
+            let [code, count, times @ .., status] = control.object;
+            let [on @ .., _, _, _, _] = times;
+            let [_, _, _, _, off @ ..] = times;
+            *crob = Crob {
+                on_time: u32::from_le_bytes(on),
+                off_time: u32::from_le_bytes(off),
+                index: control.index,
+                code,
+                count,
+                status,
+            };
+        }
+        result
+    }
+
+    /// All 0 where there is no outstation.
+    fn head(&self) -> Head {
+        self.outstation.as_ref().map_or(Head::zero(), state::head_of)
+    }
+
+    fn image(&self) -> Outstation {
+        self.outstation.as_ref().map_or(Outstation::zero(), state::image_of)
+    }
+}
+
+// ---- the library
+
+struct Library {
+    image: Outstation,
+    memory: Memory,
+    out: [Vec<u8>; LENGTHS.len()],
+}
+
+const BORDER: usize = 32;
+
+impl Library {
+    fn new() -> Library {
+        Library {
+            image: Outstation::zero(),
+            memory: Memory::new(false),
+            out: LENGTHS.map(|length| vec![FILL; length + 2 * BORDER]),
+        }
+    }
+
+    fn call(&mut self, call: &Call) -> Result<Answered, String> {
+        let (image, memory) = (&mut self.image, &mut self.memory);
+        let mut result = Answered::zero();
+        match call.kind {
+            Kind::Restart => {
+                result.refusal = memory.restart(image, call.setup, &call.classes, &call.setups)?;
+            }
+            Kind::Reading => {
+                result.refusal = memory.reading(image, call.readings[0])?;
+                result.taken = usize::from(result.refusal == 0);
+            }
+            Kind::Table => {
+                (result.taken, result.refusal) = memory.table(image, &call.readings)?;
+            }
+            Kind::Fragment => {
+                let out = &mut self.out[call.out];
+                let end = out.len() - BORDER;
+                let (answer, operated) =
+                    memory.fragment(image, call.time, &call.fragment, &mut out[BORDER..end])?;
+                (result.kind, result.length) = (answer.kind, answer.length);
+                (result.refusal, result.operated) = (answer.refusal, operated);
+                let border = out[..BORDER].iter().chain(&out[end..]);
+                equal("border of the answer", border.clone().all(|&byte| byte == FILL), true)?;
+            }
+        }
+        Ok(result)
+    }
+}
+
+// ---- runs
+
+fn no_call() -> Call {
+    Call {
+        kind: Kind::Restart,
+        setup: Setup::zero(),
+        classes: Vec::new(),
+        setups: Vec::new(),
+        readings: Vec::new(),
+        time: 0,
+        fragment: Vec::new(),
+        out: 0,
+    }
+}
+
+fn print_counts(generator: &Generator) {
+    for (what, count) in COUNTS.iter().zip(generator.counts) {
+        println!("{count:10}  {what}");
+    }
+}
+
+/// The second program alone.
+pub fn stress(seed: u64, calls: u64) {
+    let (mut generator, mut second) = (Generator::new(seed), Second::new());
+    let (mut call, mut sum) = (no_call(), Sum(0));
+    for number in 1..=calls {
+        generator.step(&mut call);
+        let result = second.call(&call);
+        let head = second.head();
+        sum.result(&call, &result, &second.out[call.out]);
+        sum.head(&head);
+        if number % WHOLE == 0 || number == calls {
+            sum.arrays(&second.image());
+        }
+        generator.came_to(&call, &result, &second.out[call.out], &head);
+        if number % LINE == 0 || number == calls {
+            println!("{number} {:016X}", sum.0);
+        }
+    }
+    print_counts(&generator);
+}
+
+fn same_result(library: &Answered, second: &Answered) -> Result<(), String> {
+    equal("refusal", library.refusal, second.refusal)?;
+    equal("taken", library.taken, second.taken)?;
+    equal("kind, length", (library.kind, library.length), (second.kind, second.length))?;
+    let (one, two) = (&library.operated, &second.operated);
+    equal("number of objects", one.count, two.count)?;
+    for (one, two) in one.items.iter().zip(&two.items).take(one.count) {
+        if let Some(found) = one.differs(two) {
+            return Err(format!("object{found}"));
+        }
+    }
+    Ok(())
+}
+
+/// One call on both sides: answer, lent bytes, state.
+fn both(library: &mut Library, second: &mut Second, call: &Call) -> Result<Answered, String> {
+    let expected = second.call(call);
+    let result = library.call(call)?;
+    same_result(&result, &expected)?;
+    if call.kind == Kind::Fragment {
+        let out = &library.out[call.out];
+        let same = out[BORDER..out.len() - BORDER] == second.out[call.out];
+        equal("lent bytes as the second program left them", same, true)?;
+    }
+    match &second.outstation {
+        Some(second) => state::compare(&library.image, second)?,
+        None => {
+            let head = &library.image.head;
+            let left = (head.binary_count, head.analog_count, head.outputs);
+            equal("what a refused setup leaves", left, (0, 0, 0))?;
+        }
+    }
+    Ok(result)
+}
+
+/// Both sides. An error says the first difference.
+pub fn random(calls: u64, seed: u64) -> Result<(), String> {
+    let (mut generator, mut second) = (Generator::new(seed), Second::new());
+    let (mut call, mut sum, mut library) = (no_call(), Sum(0), Library::new());
+    for number in 1..=calls {
+        generator.step(&mut call);
+        let result = both(&mut library, &mut second, &call)
+            .map_err(|found| format!("call {number}: {}: {found}", told(&call)))?;
+        let refused = call.kind == Kind::Restart && result.refusal != 0;
+        if refused {
+            library.image.head = Head::zero();
+        }
+        let head = meaning::plain_head(&library.image.head);
+        let out = &library.out[call.out];
+        let out = &out[BORDER..out.len() - BORDER];
+        sum.result(&call, &result, out);
+        sum.head(&head);
+        if number % WHOLE == 0 || number == calls {
+            sum.arrays(&meaning::plain(&library.image));
+        }
+        generator.came_to(&call, &result, out, &head);
+    }
+    print_counts(&generator);
+    println!("{calls} calls, seed {seed}, sum {:016X}", sum.0);
+    Ok(())
+}
+
+/// A call in short.
+fn told(call: &Call) -> String {
+    let mut text = match call.kind {
+        Kind::Restart => {
+            format!("restart of {} and {} points", call.classes.len(), call.setups.len())
+        }
+        Kind::Reading | Kind::Table => {
+            let readings: Vec<String> = call
+                .readings
+                .iter()
+                .map(|r| format!("{},{},{},{:X},{}", r.time, r.kind, r.point, r.bits, r.flags))
+                .collect();
+            format!("readings {}", readings.join(" "))
+        }
+        Kind::Fragment => {
+            let bytes: Vec<String> = call.fragment.iter().map(|b| format!("{b:02X}")).collect();
+            format!("fragment at {} for {} bytes {}", call.time, LENGTHS[call.out], bytes.concat())
+        }
+    };
+    text.truncate(200);
+    text
+}
