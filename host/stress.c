@@ -362,6 +362,9 @@ static uint64_t counts[COUNTS];
 static struct {
     uint64_t now; /* time of the last accepted call, or where times are to begin */
     int none;     /* a refused setup left no outstation */
+    struct pomarisco_setup setup;
+    uint8_t classes[POMARISCO_BINARIES];
+    struct pomarisco_analog_setup setups[POMARISCO_ANALOGS];
     uint32_t binaries, analogs, outputs;
     uint64_t arm_time, confirm_time;
     uint8_t states[64], kinds[64];
@@ -468,6 +471,16 @@ static void some_restart(int broken) {
     }
 }
 
+/* With the setup that was taken last. */
+static void same_restart(void) {
+    call.kind = RESTART;
+    call.setup = host.setup;
+    call.class_count = host.binaries;
+    call.setup_count = host.analogs;
+    memcpy(call.classes, host.classes, sizeof host.classes);
+    memcpy(call.setups, host.setups, sizeof host.setups);
+}
+
 static void restarted(void) {
     host.none = result.refusal != 0;
     if (host.none) {
@@ -475,6 +488,9 @@ static void restarted(void) {
         return;
     }
     counts[RESTART_TAKEN]++;
+    host.setup = call.setup;
+    memcpy(host.classes, call.classes, sizeof host.classes);
+    memcpy(host.setups, call.setups, sizeof host.setups);
     host.binaries = (uint32_t)call.class_count;
     host.analogs = (uint32_t)call.setup_count;
     host.outputs = call.setup.outputs;
@@ -710,6 +726,17 @@ static void some_control(void) {
     }
 }
 
+/* The selected objects as with qualifier 28: they are not those selected. */
+static void widened(void) {
+    for (size_t i = 0; i < host.objects_length; i++) {
+        put(i == 2 ? 0x28 : host.objects[i]);
+        /* After the count and after each index. */
+        if (i >= 3 && (i == 3 || (i - 4) % 12 == 0)) {
+            put(0);
+        }
+    }
+}
+
 /* A time next to the end of what is awaited, where that is still to come. */
 static void at_end(uint64_t since, uint64_t limit) {
     const uint32_t which = below(10);
@@ -765,7 +792,12 @@ static void some_fragment(void) {
             host.sequence = (host.select_sequence + 1) % 16;
             put(0xC0u | host.sequence);
             put(4);
-            put_bytes(host.objects, host.objects_length);
+            const int narrow = host.objects_length > 2 && host.objects[2] == 0x17;
+            if (narrow && chance(4)) {
+                widened();
+            } else {
+                put_bytes(host.objects, host.objects_length);
+            }
             at_end(host.select_time, host.arm_time);
         } else {
             begin(4);
@@ -880,7 +912,11 @@ static void some_call(void) {
     }
     const uint32_t which = below(1000);
     if (which == 0) {
-        some_restart(chance(30));
+        if (chance(20)) {
+            same_restart();
+        } else {
+            some_restart(chance(30));
+        }
         return;
     }
     if (host.filling == 0 && below(2000) == 0) {

@@ -75,6 +75,10 @@ impl Second {
 
     fn call(&mut self, call: &Call) -> Answered {
         let mut result = Answered::zero();
+        if call.again {
+            self.outstation.as_mut().expect("made before").restart();
+            return result;
+        }
         if call.kind == Kind::Restart {
             match outstation::Outstation::new(setup(call)) {
                 Ok(made) => self.outstation = Some(made),
@@ -194,6 +198,7 @@ fn no_call() -> Call {
         setup: Setup::zero(),
         classes: Vec::new(),
         setups: Vec::new(),
+        again: false,
         readings: Vec::new(),
         time: 0,
         fragment: Vec::new(),

@@ -172,6 +172,8 @@ pub struct Call {
     pub setup: Setup,
     pub classes: Vec<u8>,
     pub setups: Vec<AnalogSetup>,
+    /// A restart with the setup that was taken last.
+    pub again: bool,
     pub readings: Vec<Reading>,
     pub time: u64,
     pub fragment: Vec<u8>,
@@ -280,6 +282,9 @@ pub struct Generator {
     clock: u64,
     /// A refused setup left no outstation.
     none: bool,
+    setup: Setup,
+    classes: Vec<u8>,
+    setups: Vec<AnalogSetup>,
     binaries: u32,
     analogs: u32,
     outputs: u32,
@@ -335,6 +340,9 @@ impl Generator {
             source: Source::new(seed),
             clock: 0,
             none: true,
+            setup: Setup::zero(),
+            classes: Vec::new(),
+            setups: Vec::new(),
             binaries: 0,
             analogs: 0,
             outputs: 0,
@@ -370,11 +378,15 @@ impl Generator {
         call.readings.clear();
         call.fragment.clear();
         call.out = 0;
+        call.again = false;
         if self.none {
             return self.restart(call, false);
         }
         let which = self.source.below(1000);
         if which == 0 {
+            if self.source.chance(20) {
+                return self.restart_again(call);
+            }
             let broken = self.source.chance(30);
             return self.restart(call, broken);
         }
@@ -466,6 +478,14 @@ impl Generator {
         }
     }
 
+    fn restart_again(&mut self, call: &mut Call) {
+        call.kind = Kind::Restart;
+        call.again = true;
+        call.setup = self.setup;
+        call.classes.extend_from_slice(&self.classes);
+        call.setups.extend_from_slice(&self.setups);
+    }
+
     fn analog_setup(&mut self) -> AnalogSetup {
         let class_ = self.class();
         let mut kind = self.source.below(3);
@@ -491,6 +511,9 @@ impl Generator {
             return self.count(Count::RestartRefused);
         }
         self.count(Count::RestartTaken);
+        self.setup = call.setup;
+        self.classes.clone_from(&call.classes);
+        self.setups.clone_from(&call.setups);
         self.binaries = call.classes.len() as u32;
         self.analogs = call.setups.len() as u32;
         self.outputs = u32::from(call.setup.outputs);
@@ -732,6 +755,17 @@ impl Generator {
         }
     }
 
+    /// The selected objects as with qualifier 28: they are not those selected.
+    fn widened(&mut self, bytes: &mut Vec<u8>) {
+        for (place, &byte) in self.objects.iter().enumerate() {
+            bytes.push(if place == 2 { 0x28 } else { byte });
+            // After the count and after each index.
+            if place >= 3 && (place == 3 || (place - 4) % 12 == 0) {
+                bytes.push(0);
+            }
+        }
+    }
+
     /// A time next to the end of what is awaited, where that is still to come.
     fn at_end(&mut self, call: &mut Call, since: u64, limit: u64) {
         let end = match self.source.below(10) {
@@ -793,7 +827,12 @@ impl Generator {
                     let sequence = (self.select_sequence + 1) % 16;
                     self.sequence = sequence;
                     call.fragment.extend_from_slice(&[0xC0 | sequence, 4]);
-                    call.fragment.extend_from_slice(&self.objects);
+                    let narrow = self.objects.get(2) == Some(&0x17);
+                    if narrow && self.source.chance(4) {
+                        self.widened(&mut call.fragment);
+                    } else {
+                        call.fragment.extend_from_slice(&self.objects);
+                    }
                     self.at_end(call, self.select_time, self.arm_time);
                 } else {
                     self.begin(call, 4);
