@@ -1,6 +1,7 @@
 /* Random calls in one long run over the exported calls, every array that is lent in a heap block of its exact size: for sanitizers and valgrind.
  * `stress SEED N` prints, every 100,000 calls, a number into which the answer, every lent byte and the head after each call are folded, and every
  * 1,000 calls the whole state; then how many calls came to what. `pair --stress SEED N` (host/rust) prints the same from the second program.
+ * Frames to be read are frames that were written, changed or not.
  *
  * host/rust/src/stress.rs makes the same calls in the same order. Who changes one changes the other. */
 #include <inttypes.h>
@@ -15,8 +16,14 @@ enum { CONFIRM = 38, OPERATE = 67 }; /* where a fragment's kinds begin, of 100 *
 #define TIME_END ((uint64_t)1 << 48)
 #define LENGTH(a) (sizeof(a) / sizeof((a)[0]))
 
-/* Lent lengths of an answer; the first is the usual one. */
-static const size_t lengths[] = {2048, 0, 1, 2047, 2049, 4096};
+/* Lent lengths: of an answer, an assembly, a frame to be written, user data or a segment. The first of each six is the usual one. */
+static const size_t lengths[] = {
+    2048, 0, 1, 2047, 2049, 4096, /* answer */
+    2048, 0, 1, 2047, 2049, 4096, /* assembly */
+    292, 0, 1, 291, 293, 400,     /* frame */
+    250, 0, 1, 249, 251, 300,     /* user data */
+};
+enum { ANSWER = 0, ASSEMBLY = 6, FRAME_OUT = 12, USER_OUT = 18 };
 
 static void *block(size_t n) {
     void *p = malloc(n);
@@ -58,14 +65,16 @@ static uint32_t pick(const uint32_t *of, size_t n) { return of[below((uint32_t)n
 
 static uint64_t sum;
 
-static void fold(uint64_t number) {
-    const uint64_t mixed = (sum ^ number) * 0x9E3779B97F4A7C15u;
-    sum = mixed ^ (mixed >> 29);
+static uint64_t folded(uint64_t from, uint64_t number) {
+    const uint64_t mixed = (from ^ number) * 0x9E3779B97F4A7C15u;
+    return mixed ^ (mixed >> 29);
 }
 
+static void fold(uint64_t number) { sum = folded(sum, number); }
+
 /* The length, then eight bytes at a time, the last ones filled up with 0. */
-static void fold_bytes(const uint8_t *p, size_t n) {
-    fold(n);
+static uint64_t folded_bytes(uint64_t from, const uint8_t *p, size_t n) {
+    from = folded(from, n);
     for (size_t i = 0; i < n; i += 8) {
         uint8_t eight[8] = {0};
         memcpy(eight, p + i, n - i < 8 ? n - i : 8);
@@ -73,9 +82,12 @@ static void fold_bytes(const uint8_t *p, size_t n) {
         for (int k = 7; k >= 0; k--) {
             number = number << 8 | eight[k];
         }
-        fold(number);
+        from = folded(from, number);
     }
+    return from;
 }
+
+static void fold_bytes(const uint8_t *p, size_t n) { sum = folded_bytes(sum, p, n); }
 
 static uint8_t truth(uint8_t n) { return n != 0; }
 
@@ -200,7 +212,7 @@ static void fold_arrays(const struct pomarisco_head *h) {
 
 /* ---- a call and what it comes to */
 
-enum kind { RESTART, READING, TABLE, FRAGMENT };
+enum kind { RESTART, READING, TABLE, FRAGMENT, FRAME_WRITE, LINK_DATA, LINK_REPLY, FRAME_READ, LINK_RECEIVE, SEGMENT, SEND };
 
 static struct {
     enum kind kind;
@@ -211,14 +223,73 @@ static struct {
     uint8_t bytes[MOST_BYTES];
     size_t class_count, setup_count, reading_count, length;
     uint64_t time;
+    uint8_t control;
+    uint16_t destination, source;
     size_t out; /* place in lengths */
 } call;
 
 static struct {
     uint8_t refusal, kind;
     size_t taken, length;
+    uint64_t more; /* the sum of the other numbers: of a frame read, a line record, an assembly, segments sent */
     struct pomarisco_crobs operated;
 } result;
+
+/* The line's state. */
+static struct pomarisco_station station;
+static struct pomarisco_line line;
+static struct pomarisco_assembly assembly;
+static struct pomarisco_sender sender;
+
+/* The calls of frames, link and segments. */
+static void line_call(void) {
+    const size_t n = call.length, lent = lengths[call.out];
+    uint8_t *bytes = copy(call.bytes, n), *to = out[call.out];
+    if (call.kind == FRAME_READ) {
+        const struct pomarisco_frame r = pomarisco_frame_read(bytes, n, to, lent);
+        result.length = r.length;
+        result.refusal = r.refusal;
+        result.more = r.control | (uint64_t)r.destination << 16 | (uint64_t)r.source << 32;
+    } else if (call.kind == LINK_RECEIVE) {
+        const struct pomarisco_taken r = pomarisco_link_receive(&line, station, bytes, n, to, lent);
+        result.kind = r.kind;
+        result.length = r.length;
+        result.refusal = r.refusal;
+        const uint16_t counted[] = {line.accepted, line.short_frame, line.start, line.header_check, line.length, line.block_check, line.not_taken};
+        result.more = folded(0, r.control);
+        for (size_t i = 0; i < LENGTH(counted); i++) {
+            result.more = folded(result.more, counted[i]);
+        }
+    } else if (call.kind == SEGMENT) {
+        const struct pomarisco_reception r = pomarisco_segment_receive(assembly, bytes, n, to, lent);
+        assembly = r.assembly;
+        result.kind = r.segment.kind;
+        result.length = r.segment.length;
+        result.refusal = r.segment.refusal;
+        result.more = assembly.begun != 0 ? 1 | (uint64_t)assembly.last << 8 | (uint64_t)assembly.length << 16 : 0;
+    } else if (call.kind == SEND) {
+        for (;;) {
+            const struct pomarisco_sending r = pomarisco_segment_send(sender, bytes, n, to, lent);
+            sender = r.sender;
+            result.refusal = r.sent.refusal;
+            if (result.refusal != 0) {
+                break;
+            }
+            result.more = folded_bytes(folded(result.more, r.sent.size), to, lent);
+            if (r.sent.last != 0) {
+                break;
+            }
+        }
+        result.more = folded(result.more, sender.next);
+    } else {
+        const struct pomarisco_wrote r = call.kind == LINK_DATA ? pomarisco_link_data(to, lent, station, bytes, n)
+            : call.kind == LINK_REPLY                           ? pomarisco_link_reply(to, lent, station, call.control)
+                                                                : pomarisco_frame_write(to, lent, call.control, call.destination, call.source, bytes, n);
+        result.length = r.size;
+        result.refusal = r.refusal;
+    }
+    free(bytes);
+}
 
 static void make_call(void) {
     memset(&result, 0, sizeof result);
@@ -228,6 +299,9 @@ static void make_call(void) {
         const struct pomarisco_restarted r = pomarisco_lent_restart(call.setup, classes, call.class_count, setups, call.setup_count, binaries, analogs);
         head = r.head;
         result.refusal = r.refusal;
+        station = (struct pomarisco_station){call.setup.own, call.setup.master};
+        memset(&assembly, 0, sizeof assembly);
+        memset(&sender, 0, sizeof sender);
         free(classes);
         free(setups);
     } else if (call.kind == READING) {
@@ -242,6 +316,8 @@ static void make_call(void) {
         result.refusal = r.refusal;
         result.taken = r.taken;
         free(readings);
+    } else if (call.kind != FRAGMENT) {
+        line_call();
     } else {
         uint8_t *bytes = copy(call.bytes, call.length);
         const struct pomarisco_answer r = pomarisco_lent_fragment(head, binaries, analogs, events, request, answer, latch_objects, call.time, bytes, call.length, out[call.out], lengths[call.out]);
@@ -261,9 +337,10 @@ static void fold_result(void) {
     fold(call.kind);
     fold(result.refusal);
     fold(result.taken);
-    if (call.kind == FRAGMENT) {
+    if (call.kind >= FRAGMENT) {
         fold(result.kind);
         fold(result.length);
+        fold(result.more);
         fold_bytes(out[call.out], lengths[call.out]);
         fold(result.operated.count);
         for (size_t i = 0; i < result.operated.count; i++) {
@@ -315,6 +392,18 @@ enum count {
     CLEARED,
     LONG,
     LONGEST,
+    FRAME_WRITTEN,
+    FRAME_REFUSED,
+    READ_FRAME,
+    READ_REFUSED,
+    LINK_USER,
+    LINK_ASKS,
+    LINK_REFUSED,
+    SEGMENT_MORE,
+    SEGMENT_WHOLE,
+    SEGMENT_REFUSED,
+    SENT,
+    SEND_REFUSED,
     COUNTS
 };
 
@@ -353,6 +442,18 @@ static const char *const names[COUNTS] = {
     "IIN2.3 cleared by the call",
     "answer of over 2,000 bytes",
     "answer of 2,048 bytes",
+    "frame written",
+    "frame refused 16 or 33",
+    "frame read",
+    "frame read refused",
+    "link_receive: user data",
+    "link_receive: reply",
+    "link_receive refused",
+    "segment_receive: goes on",
+    "segment_receive: whole",
+    "segment_receive refused",
+    "fragment sent in segments",
+    "segment_send refused",
 };
 
 static uint64_t counts[COUNTS];
@@ -380,6 +481,10 @@ static struct {
     size_t objects_length, request_length;
     uint32_t filling; /* calls left in which the buffer is to fill */
     uint8_t overflow;
+    uint8_t frame[POMARISCO_FRAME]; /* the frame written last */
+    size_t frame_length;
+    int begun; /* a fragment is, and this sequence is next */
+    uint8_t next_segment;
 } host = {.none = 1};
 
 #define FLOATS 0, 0x80000000, 0x3F800000, 0x3FC00000, 0x40000000, 0xBF800000, 0x42C80000, 0x7F7FFFFF, 0xFF7FFFFF, 0x00000001, 0x00800000, 0x3DCCCCCD
@@ -505,6 +610,7 @@ static void restarted(void) {
     host.waiting = 0;
     host.selected = 0;
     host.request_length = 0;
+    host.begun = 0;
     host.filling = 0;
     host.overflow = 0;
     /* Mostly from 0; sometimes to the end of time. */
@@ -746,6 +852,14 @@ static void at_end(uint64_t since, uint64_t limit) {
     }
 }
 
+/* One call in so many is lent another length. */
+static void lend(size_t first, uint32_t one_in) {
+    call.out = first;
+    if (below(one_in) == 0) {
+        call.out += 1 + below(5);
+    }
+}
+
 static void some_fragment(void) {
     call.kind = FRAGMENT;
     call.time = some_time();
@@ -840,9 +954,7 @@ static void some_fragment(void) {
             }
         }
     }
-    if (below(60) == 0) {
-        call.out = 1 + below((uint32_t)LENGTH(lengths) - 1);
-    }
+    lend(ANSWER, 60);
 }
 
 static void answered(void) {
@@ -902,6 +1014,127 @@ static void answered(void) {
     }
 }
 
+/* ---- the line */
+
+static void put_some(uint32_t count) {
+    for (uint32_t i = 0; i < count; i++) {
+        put(below(256));
+    }
+}
+
+static void some_frame(void) {
+    const uint32_t which = below(10);
+    call.kind = which == 0 ? LINK_DATA : which == 1 ? LINK_REPLY : FRAME_WRITE;
+    const uint32_t other = below(256);
+    const uint32_t some = 1 + below(250);
+    uint32_t control = 0xC4, count = some;
+    /* User data, a request that has none, or any. */
+    switch (below(4)) {
+    case 0:
+    case 1: break;
+    case 2:
+        control = PICK(0xC0, 0xC9, 0xC2);
+        count = 0;
+        break;
+    default:
+        control = PICK(0xC4, 0xC0, 0xD4, 0x84, 0x44, 0x0B, 0x00, other);
+        count = PICK(0, 1, 15, 16, 17, 249, 250, 251, 300);
+        break;
+    }
+    call.control = (uint8_t)control;
+    /* As a master writes it. */
+    call.destination = host.setup.own;
+    call.source = host.setup.master;
+    if (chance(4)) {
+        call.destination = (uint16_t)below(65536);
+    }
+    if (chance(4)) {
+        call.source = (uint16_t)below(65536);
+    }
+    put_some(count);
+    lend(FRAME_OUT, 20);
+}
+
+static void same_frame(void) {
+    call.kind = chance(30) ? FRAME_READ : LINK_RECEIVE;
+    put_bytes(host.frame, host.frame_length);
+    const uint32_t length = (uint32_t)call.length;
+    if (length > 0 && chance(25)) {
+        const uint32_t place = below(length);
+        call.bytes[place] ^= (uint8_t)(1u << below(8));
+    }
+    if (chance(8)) {
+        call.length = below(length + 1);
+    }
+    if (chance(10)) {
+        put_some(3);
+    }
+    lend(USER_OUT, 20);
+}
+
+static void some_segment(void) {
+    call.kind = SEGMENT;
+    uint32_t sequence = host.next_segment;
+    if (chance(2)) {
+        sequence = below(64);
+    }
+    const int first = host.begun ? chance(1) : chance(95);
+    const int last = chance(12);
+    put(sequence | (first ? 0x40 : 0) | (last ? 0x80 : 0));
+    const uint32_t some = 1 + below(249);
+    put_some(PICK(249, 249, 249, 249, 249, some, some, some));
+    if (chance(3)) {
+        call.length = PICK(0, 1);
+    } else if (chance(2)) {
+        put_some(249);
+    }
+    lend(ASSEMBLY, 30);
+}
+
+static void some_line(void) {
+    const uint32_t which = below(10);
+    if (which < 3) {
+        some_frame();
+    } else if (which < 6) {
+        same_frame();
+    } else if (which < 9) {
+        some_segment();
+    } else {
+        call.kind = SEND;
+        const uint32_t some = below(2049);
+        put_some(PICK(0, 1, 249, 250, 498, some, some, 2048, 2049, 3000));
+        lend(USER_OUT, 20);
+    }
+}
+
+static void heard(void) {
+    const int refused = result.refusal != 0;
+    switch (call.kind) {
+    case FRAME_READ: counts[refused ? READ_REFUSED : READ_FRAME]++; break;
+    case LINK_RECEIVE: counts[result.kind == 0 ? LINK_USER : result.kind == 1 ? LINK_ASKS : LINK_REFUSED]++; break;
+    case SEGMENT:
+        counts[result.kind == 0 ? SEGMENT_MORE : result.kind == 1 ? SEGMENT_WHOLE : SEGMENT_REFUSED]++;
+        /* 21 and 33 leave what is begun. */
+        if (result.refusal != 21 && result.refusal != 33) {
+            host.begun = result.kind == 0;
+        }
+        if (!refused) {
+            host.next_segment = (call.bytes[0] % 64 + 1) % 64;
+        }
+        break;
+    case SEND: counts[refused ? SEND_REFUSED : SENT]++; break;
+    default:
+        if (refused) {
+            counts[FRAME_REFUSED]++;
+            break;
+        }
+        host.frame_length = result.length;
+        memcpy(host.frame, out[call.out], result.length);
+        counts[FRAME_WRITTEN]++;
+        break;
+    }
+}
+
 /* ---- the run */
 
 static void some_call(void) {
@@ -931,6 +1164,8 @@ static void some_call(void) {
         some_table(0);
     } else if (which < 510) {
         some_table(1);
+    } else if (which < 570) {
+        some_line();
     } else {
         some_fragment();
     }
@@ -942,6 +1177,7 @@ static void came_to(const struct pomarisco_head *h) {
     case READING:
     case TABLE: took(); break;
     case FRAGMENT: answered(); break;
+    default: heard(); break;
     }
     if (h->event_count == POMARISCO_EVENTS) {
         counts[FULL]++;

@@ -1,8 +1,11 @@
 //! The long run of `stress.rs`: both sides beside each other, or the second program alone.
 
 use reference::application::Outcome;
+use reference::frame;
+use reference::link::{self, Heard, LineRecord};
 use reference::outstation;
 use reference::points::{self, Form, Gate, Taken};
+use reference::transport::{Assembled, Transport, Unfinished};
 
 use crate::header::*;
 use crate::meaning;
@@ -14,6 +17,7 @@ use crate::stress::{Answered, Call, Generator, Kind, Sum, COUNTS, FILL, LENGTHS,
 
 struct Second {
     outstation: Option<outstation::Outstation>,
+    record: LineRecord,
     out: [Vec<u8>; LENGTHS.len()],
 }
 
@@ -68,9 +72,101 @@ fn reading(reading: &Reading) -> points::Reading {
     points::Reading { time: reading.time, index, value, flags: reading.flags }
 }
 
+fn fragment(
+    outstation: &mut outstation::Outstation,
+    call: &Call,
+    out: &mut [u8],
+    result: &mut Answered,
+) {
+    let operated = match outstation.fragment(call.time, &call.fragment, out) {
+        Ok(Outcome::Answer(length, operated)) => {
+            result.length = length;
+            operated
+        }
+        Ok(Outcome::Mute(operated)) => {
+            result.kind = 1;
+            operated
+        }
+        Ok(Outcome::Confirmed) => {
+            result.kind = 2;
+            return;
+        }
+        Err(refusal) => {
+            (result.kind, result.refusal) = (3, refusal);
+            return;
+        }
+    };
+    result.operated.count = operated.len();
+    for (crob, control) in result.operated.items.iter_mut().zip(&operated) {
+        let [code, count, times @ .., status] = control.object;
+        let [on @ .., _, _, _, _] = times;
+        let [_, _, _, _, off @ ..] = times;
+        *crob = Crob {
+            on_time: u32::from_le_bytes(on),
+            off_time: u32::from_le_bytes(off),
+            index: control.index,
+            code,
+            count,
+            status,
+        };
+    }
+}
+
+/// A whole fragment in segments.
+fn send(transport: &mut Transport, call: &Call, out: &mut [u8], result: &mut Answered) {
+    let mut sum = Sum(0);
+    let sent = transport.send(&call.fragment, out, &mut |out, size| {
+        sum.fold(size as u64);
+        sum.bytes(out);
+    });
+    result.refusal = sent.err().unwrap_or(0);
+    sum.fold(u64::from(transport.next_sent));
+    result.more = sum.0;
+}
+
+/// Frames, read and written.
+fn line(call: &Call, setup: &outstation::Setup, out: &mut [u8], result: &mut Answered) {
+    // A reply's control byte is one of three; what the station sends goes to its master.
+    let reply = if matches!(call.control, 0x00 | 0x0B) { call.control } else { 0x0F };
+    let wrote = match call.kind {
+        Kind::FrameRead => {
+            let read = frame::read(&call.fragment, out);
+            result.refusal = read.as_ref().err().copied().unwrap_or(0);
+            if let Ok(frame) = read {
+                result.length = frame.user.len();
+                result.more = frame_sum(frame.control, frame.destination, frame.source);
+            }
+            return;
+        }
+        Kind::LinkData => frame::write(0x44, setup.master, setup.own, &call.fragment, out),
+        Kind::LinkReply => frame::write(reply, setup.master, setup.own, &[], out),
+        _ => frame::write(call.control, call.destination, call.source, &call.fragment, out),
+    };
+    (result.length, result.refusal) = (wrote.unwrap_or(0), wrote.err().unwrap_or(0));
+}
+
+// ---- the other numbers of an answer
+
+fn frame_sum(control: u8, destination: u16, source: u16) -> u64 {
+    u64::from(control) | u64::from(destination) << 16 | u64::from(source) << 32
+}
+
+fn link_sum(control: u8, counts: [u16; 7]) -> u64 {
+    let mut sum = Sum(0);
+    sum.fold(u64::from(control));
+    counts.iter().for_each(|&count| sum.fold(u64::from(count)));
+    sum.0
+}
+
+/// Sequence and length of an unfinished fragment.
+fn assembly_sum(kept: Option<(u8, usize)>) -> u64 {
+    kept.map_or(0, |(last, length)| 1 | u64::from(last) << 8 | (length as u64) << 16)
+}
+
 impl Second {
     fn new() -> Second {
-        Second { outstation: None, out: LENGTHS.map(|length| vec![FILL; length]) }
+        let out = LENGTHS.map(|length| vec![FILL; length]);
+        Second { outstation: None, record: LineRecord::default(), out }
     }
 
     fn call(&mut self, call: &Call) -> Answered {
@@ -90,44 +186,36 @@ impl Second {
             return result;
         }
         let outstation = self.outstation.as_mut().expect("made before any other call");
-        if call.kind != Kind::Fragment {
-            let readings: Vec<points::Reading> = call.readings.iter().map(reading).collect();
-            let (taken, refusal) = outstation.table(&readings);
-            (result.taken, result.refusal) = (taken, refusal.unwrap_or(0));
-            return result;
-        }
-        let outcome = outstation.fragment(call.time, &call.fragment, &mut self.out[call.out]);
-        let operated = match outcome {
-            Ok(Outcome::Answer(length, operated)) => {
-                result.length = length;
-                operated
+        let out = &mut self.out[call.out];
+        match call.kind {
+            Kind::Reading | Kind::Table => {
+                let readings: Vec<points::Reading> = call.readings.iter().map(reading).collect();
+                let (taken, refusal) = outstation.table(&readings);
+                (result.taken, result.refusal) = (taken, refusal.unwrap_or(0));
             }
-            Ok(Outcome::Mute(operated)) => {
-                result.kind = 1;
-                operated
+            Kind::Fragment => fragment(outstation, call, out, &mut result),
+            Kind::LinkReceive => {
+                let (own, master) = (outstation.setup.own, outstation.setup.master);
+                let heard = link::station(own, master, &mut self.record, &call.fragment, out);
+                let mut control = 0;
+                match heard {
+                    Ok(Heard::UserData(length)) => result.length = length,
+                    Ok(Heard::Reply(reply)) => (result.kind, control) = (1, reply),
+                    Err(refusal) => (result.kind, result.refusal) = (2, refusal),
+                }
+                result.more = link_sum(control, self.record.counts);
             }
-            Ok(Outcome::Confirmed) => {
-                result.kind = 2;
-                return result;
+            Kind::Segment => {
+                match outstation.transport.hear(&call.fragment, out) {
+                    Ok(Assembled::More(_)) => {}
+                    Ok(Assembled::Whole(length)) => (result.kind, result.length) = (1, length),
+                    Err(refusal) => (result.kind, result.refusal) = (2, refusal),
+                }
+                let kept = outstation.transport.unfinished;
+                result.more = assembly_sum(kept.map(|Unfinished { last, count }| (last, count)));
             }
-            Err(refusal) => {
-                (result.kind, result.refusal) = (3, refusal);
-                return result;
-            }
-        };
-        result.operated.count = operated.len();
-        for (crob, control) in result.operated.items.iter_mut().zip(&operated) {
-            let [code, count, times @ .., status] = control.object;
-            let [on @ .., _, _, _, _] = times;
-            let [_, _, _, _, off @ ..] = times;
-            *crob = Crob {
-                on_time: u32::from_le_bytes(on),
-                off_time: u32::from_le_bytes(off),
-                index: control.index,
-                code,
-                count,
-                status,
-            };
+            Kind::Send => send(&mut outstation.transport, call, out, &mut result),
+            _ => line(call, &outstation.setup, out, &mut result),
         }
         result
     }
@@ -147,6 +235,10 @@ impl Second {
 struct Library {
     image: Outstation,
     memory: Memory,
+    station: Station,
+    line: Line,
+    assembly: Assembly,
+    sender: Sender,
     out: [Vec<u8>; LENGTHS.len()],
 }
 
@@ -157,6 +249,10 @@ impl Library {
         Library {
             image: Outstation::zero(),
             memory: Memory::new(false),
+            station: Station::zero(),
+            line: Line::zero(),
+            assembly: Assembly::zero(),
+            sender: Sender::zero(),
             out: LENGTHS.map(|length| vec![FILL; length + 2 * BORDER]),
         }
     }
@@ -164,9 +260,15 @@ impl Library {
     fn call(&mut self, call: &Call) -> Result<Answered, String> {
         let (image, memory) = (&mut self.image, &mut self.memory);
         let mut result = Answered::zero();
+        let whole = &mut self.out[call.out];
+        let end = whole.len() - BORDER;
+        let out = &mut whole[BORDER..end];
+        let bytes = &call.fragment;
         match call.kind {
             Kind::Restart => {
                 result.refusal = memory.restart(image, call.setup, &call.classes, &call.setups)?;
+                (self.assembly, self.sender) = (Assembly::zero(), Sender::zero());
+                self.station = Station { own: call.setup.own, master: call.setup.master };
             }
             Kind::Reading => {
                 result.refusal = memory.reading(image, call.readings[0])?;
@@ -176,16 +278,69 @@ impl Library {
                 (result.taken, result.refusal) = memory.table(image, &call.readings)?;
             }
             Kind::Fragment => {
-                let out = &mut self.out[call.out];
-                let end = out.len() - BORDER;
-                let (answer, operated) =
-                    memory.fragment(image, call.time, &call.fragment, &mut out[BORDER..end])?;
+                let (answer, operated) = memory.fragment(image, call.time, bytes, out)?;
                 (result.kind, result.length) = (answer.kind, answer.length);
                 (result.refusal, result.operated) = (answer.refusal, operated);
-                let border = out[..BORDER].iter().chain(&out[end..]);
-                equal("border of the answer", border.clone().all(|&byte| byte == FILL), true)?;
+            }
+            Kind::FrameWrite | Kind::LinkData | Kind::LinkReply => {
+                let wrote = match call.kind {
+                    Kind::LinkData => link_data(out, self.station, bytes),
+                    Kind::LinkReply => link_reply(out, self.station, call.control),
+                    _ => frame_write(out, call.control, call.destination, call.source, bytes),
+                };
+                (result.length, result.refusal) = (wrote.size, wrote.refusal);
+            }
+            Kind::FrameRead => {
+                let read = frame_read(bytes, out);
+                (result.length, result.refusal) = (read.length, read.refusal);
+                result.more = frame_sum(read.control, read.destination, read.source);
+            }
+            Kind::LinkReceive => {
+                let taken = link_receive(&mut self.line, self.station, bytes, out);
+                (result.kind, result.length) = (taken.kind, taken.length);
+                result.refusal = taken.refusal;
+                let line = &self.line;
+                let counts = [
+                    line.accepted,
+                    line.short_frame,
+                    line.start,
+                    line.header_check,
+                    line.length,
+                    line.block_check,
+                    line.not_taken,
+                ];
+                result.more = link_sum(taken.control, counts);
+            }
+            Kind::Segment => {
+                let reception = segment_receive(self.assembly, bytes, out);
+                self.assembly = reception.assembly;
+                let segment = &reception.segment;
+                (result.kind, result.length) = (segment.kind, segment.length);
+                result.refusal = segment.refusal;
+                let Assembly { length, last, begun } = self.assembly;
+                result.more = assembly_sum((begun != 0).then_some((last, length)));
+            }
+            Kind::Send => {
+                let mut sum = Sum(0);
+                loop {
+                    let sending = segment_send(self.sender, bytes, out);
+                    self.sender = sending.sender;
+                    result.refusal = sending.sent.refusal;
+                    if result.refusal != 0 {
+                        break;
+                    }
+                    sum.fold(sending.sent.size as u64);
+                    sum.bytes(out);
+                    if sending.sent.last != 0 {
+                        break;
+                    }
+                }
+                sum.fold(u64::from(self.sender.next));
+                result.more = sum.0;
             }
         }
+        let border = whole[..BORDER].iter().chain(&whole[end..]);
+        equal("border of the lent bytes", border.clone().all(|&byte| byte == FILL), true)?;
         Ok(result)
     }
 }
@@ -201,6 +356,9 @@ fn no_call() -> Call {
         again: false,
         readings: Vec::new(),
         time: 0,
+        control: 0,
+        destination: 0,
+        source: 0,
         fragment: Vec::new(),
         out: 0,
     }
@@ -237,6 +395,7 @@ fn same_result(library: &Answered, second: &Answered) -> Result<(), String> {
     equal("refusal", library.refusal, second.refusal)?;
     equal("taken", library.taken, second.taken)?;
     equal("kind, length", (library.kind, library.length), (second.kind, second.length))?;
+    equal("sum of the other numbers", library.more, second.more)?;
     let (one, two) = (&library.operated, &second.operated);
     equal("number of objects", one.count, two.count)?;
     for (one, two) in one.items.iter().zip(&two.items).take(one.count) {
@@ -252,7 +411,7 @@ fn both(library: &mut Library, second: &mut Second, call: &Call) -> Result<Answe
     let expected = second.call(call);
     let result = library.call(call)?;
     same_result(&result, &expected)?;
-    if call.kind == Kind::Fragment {
+    if call.kind as u8 >= Kind::Fragment as u8 {
         let out = &library.out[call.out];
         let same = out[BORDER..out.len() - BORDER] == second.out[call.out];
         equal("lent bytes as the second program left them", same, true)?;
@@ -309,9 +468,10 @@ fn told(call: &Call) -> String {
                 .collect();
             format!("readings {}", readings.join(" "))
         }
-        Kind::Fragment => {
+        kind => {
             let bytes: Vec<String> = call.fragment.iter().map(|b| format!("{b:02X}")).collect();
-            format!("fragment at {} for {} bytes {}", call.time, LENGTHS[call.out], bytes.concat())
+            let lent = LENGTHS[call.out];
+            format!("{kind:?} at {}, {lent} bytes lent: {}", call.time, bytes.concat())
         }
     };
     text.truncate(200);

@@ -1,14 +1,24 @@
 //! Random calls in one long run, the same for the same seed here and in `host/stress.c`: both make
 //! every call from a small random source and from what the host saw of earlier answers, never from
 //! the state. After each call the answer, every lent byte and the head are folded into one number,
-//! every 1,000 calls the whole state.
+//! every 1,000 calls the whole state. Frames to be read are frames that were written, changed or not.
 //!
 //! The two files say the same thing in the same order. Who changes one changes the other.
 
 use crate::header::*;
 
-/// Lent lengths of an answer; the first is the usual one.
-pub const LENGTHS: [usize; 6] = [2048, 0, 1, 2047, 2049, 4096];
+/// Lent lengths: of an answer, an assembly, a frame to be written, user data or a segment. The first
+/// of each six is the usual one.
+pub const LENGTHS: [usize; 24] = [
+    2048, 0, 1, 2047, 2049, 4096, // answer
+    2048, 0, 1, 2047, 2049, 4096, // assembly
+    292, 0, 1, 291, 293, 400, // frame
+    250, 0, 1, 249, 251, 300, // user data
+];
+const ANSWER: usize = 0;
+const ASSEMBLY: usize = 6;
+const FRAME_OUT: usize = 12;
+const USER_OUT: usize = 18;
 /// What lent bytes hold before the first call.
 pub const FILL: u8 = 0xA5;
 /// Calls between two folds of the whole state, and between two lines of output.
@@ -130,9 +140,10 @@ impl Sum {
         self.fold(call.kind as u64);
         self.fold(u64::from(result.refusal));
         self.fold(result.taken as u64);
-        if call.kind == Kind::Fragment {
+        if call.kind as u8 >= Kind::Fragment as u8 {
             self.fold(u64::from(result.kind));
             self.fold(result.length as u64);
+            self.fold(result.more);
             self.bytes(out);
             self.fold(result.operated.count as u64);
             for crob in &result.operated.items[..result.operated.count] {
@@ -164,6 +175,13 @@ pub enum Kind {
     Reading,
     Table,
     Fragment,
+    FrameWrite,
+    LinkData,
+    LinkReply,
+    FrameRead,
+    LinkReceive,
+    Segment,
+    Send,
 }
 
 /// A reading is a table of one.
@@ -176,6 +194,10 @@ pub struct Call {
     pub again: bool,
     pub readings: Vec<Reading>,
     pub time: u64,
+    pub control: u8,
+    pub destination: u16,
+    pub source: u16,
+    /// What the call is given to read: a fragment, a frame, a segment or user data.
     pub fragment: Vec<u8>,
     /// Place in `LENGTHS`.
     pub out: usize,
@@ -188,12 +210,14 @@ pub struct Answered {
     pub taken: usize,
     pub kind: u8,
     pub length: usize,
+    /// The sum of the other numbers: of a frame read, a line record, an assembly, segments sent.
+    pub more: u64,
     pub operated: Crobs,
 }
 
 impl Answered {
     pub fn zero() -> Answered {
-        Answered { refusal: 0, taken: 0, kind: 0, length: 0, operated: Crobs::zero() }
+        Answered { refusal: 0, taken: 0, kind: 0, length: 0, more: 0, operated: Crobs::zero() }
     }
 }
 
@@ -235,9 +259,21 @@ enum Count {
     Cleared,
     Long,
     Longest,
+    FrameWritten,
+    FrameRefused,
+    ReadFrame,
+    ReadRefused,
+    LinkUser,
+    LinkAsks,
+    LinkRefused,
+    SegmentMore,
+    SegmentWhole,
+    SegmentRefused,
+    Sent,
+    SendRefused,
 }
 
-pub const COUNTS: [&str; 34] = [
+pub const COUNTS: [&str; 46] = [
     "restart taken",
     "restart refused 5",
     "reading taken",
@@ -272,6 +308,18 @@ pub const COUNTS: [&str; 34] = [
     "IIN2.3 cleared by the call",
     "answer of over 2,000 bytes",
     "answer of 2,048 bytes",
+    "frame written",
+    "frame refused 16 or 33",
+    "frame read",
+    "frame read refused",
+    "link_receive: user data",
+    "link_receive: reply",
+    "link_receive refused",
+    "segment_receive: goes on",
+    "segment_receive: whole",
+    "segment_receive refused",
+    "fragment sent in segments",
+    "segment_send refused",
 ];
 
 // ---- the generator
@@ -306,6 +354,10 @@ pub struct Generator {
     /// Calls left in which the buffer is to fill.
     filling: u32,
     overflow: u8,
+    /// The frame written last, and whether a fragment is begun, with the sequence that is next.
+    frame: Vec<u8>,
+    begun: bool,
+    next_segment: u8,
     pub counts: [u64; COUNTS.len()],
 }
 
@@ -363,6 +415,9 @@ impl Generator {
             request: Vec::new(),
             filling: 0,
             overflow: 0,
+            frame: Vec::new(),
+            begun: false,
+            next_segment: 0,
             counts: [0; COUNTS.len()],
         }
     }
@@ -402,6 +457,8 @@ impl Generator {
             self.table(call, false);
         } else if which < 510 {
             self.table(call, true);
+        } else if which < 570 {
+            self.line(call);
         } else {
             self.fragment(call);
         }
@@ -528,6 +585,7 @@ impl Generator {
         self.waiting = false;
         self.selected = false;
         self.request.clear();
+        self.begun = false;
         self.filling = 0;
         self.overflow = 0;
         // Mostly from 0; sometimes to the end of time.
@@ -882,8 +940,14 @@ impl Generator {
                 }
             }
         }
-        if self.source.below(60) == 0 {
-            call.out = 1 + self.source.below(LENGTHS.len() as u32 - 1) as usize;
+        self.lend(call, ANSWER, 60);
+    }
+
+    /// One call in so many is lent another length.
+    fn lend(&mut self, call: &mut Call, first: usize, one_in: u32) {
+        call.out = first;
+        if self.source.below(one_in) == 0 {
+            call.out += 1 + self.source.below(5) as usize;
         }
     }
 
@@ -942,12 +1006,142 @@ impl Generator {
         }
     }
 
+    // ---- the line
+
+    fn bytes(&mut self, call: &mut Call, count: u32) {
+        for _ in 0..count {
+            call.fragment.push(self.source.below(256) as u8);
+        }
+    }
+
+    fn line(&mut self, call: &mut Call) {
+        match self.source.below(10) {
+            0..=2 => self.write_frame(call),
+            3..=5 => self.read_frame(call),
+            6..=8 => self.segment(call),
+            _ => {
+                call.kind = Kind::Send;
+                let some = self.source.below(2049);
+                let count = self.source.pick(&[0, 1, 249, 250, 498, some, some, 2048, 2049, 3000]);
+                self.bytes(call, count);
+                self.lend(call, USER_OUT, 20);
+            }
+        }
+    }
+
+    fn write_frame(&mut self, call: &mut Call) {
+        let which = self.source.below(10);
+        call.kind = match which {
+            0 => Kind::LinkData,
+            1 => Kind::LinkReply,
+            _ => Kind::FrameWrite,
+        };
+        let any = self.source.below(256);
+        let some = 1 + self.source.below(250);
+        // User data, a request that has none, or any.
+        let (control, count) = match self.source.below(4) {
+            0 | 1 => (0xC4, some),
+            2 => (self.source.pick(&[0xC0, 0xC9, 0xC2]), 0),
+            _ => {
+                let control = self.source.pick(&[0xC4, 0xC0, 0xD4, 0x84, 0x44, 0x0B, 0x00, any]);
+                (control, self.source.pick(&[0, 1, 15, 16, 17, 249, 250, 251, 300]))
+            }
+        };
+        call.control = control as u8;
+        // As a master writes it.
+        (call.destination, call.source) = (self.setup.own, self.setup.master);
+        if self.source.chance(4) {
+            call.destination = self.source.below(65_536) as u16;
+        }
+        if self.source.chance(4) {
+            call.source = self.source.below(65_536) as u16;
+        }
+        self.bytes(call, count);
+        self.lend(call, FRAME_OUT, 20);
+    }
+
+    fn read_frame(&mut self, call: &mut Call) {
+        call.kind = if self.source.chance(30) { Kind::FrameRead } else { Kind::LinkReceive };
+        call.fragment.extend_from_slice(&self.frame);
+        let length = call.fragment.len() as u32;
+        if length > 0 && self.source.chance(25) {
+            let place = self.source.below(length) as usize;
+            call.fragment[place] ^= 1 << self.source.below(8);
+        }
+        if self.source.chance(8) {
+            let place = self.source.below(length + 1) as usize;
+            call.fragment.truncate(place);
+        }
+        if self.source.chance(10) {
+            self.bytes(call, 3);
+        }
+        self.lend(call, USER_OUT, 20);
+    }
+
+    fn segment(&mut self, call: &mut Call) {
+        call.kind = Kind::Segment;
+        let mut sequence = u32::from(self.next_segment);
+        if self.source.chance(2) {
+            sequence = self.source.below(64);
+        }
+        let first = if self.begun { self.source.chance(1) } else { self.source.chance(95) };
+        let last = self.source.chance(12);
+        let head = sequence | if first { 0x40 } else { 0 } | if last { 0x80 } else { 0 };
+        call.fragment.push(head as u8);
+        let some = 1 + self.source.below(249);
+        let count = self.source.pick(&[249, 249, 249, 249, 249, some, some, some]);
+        self.bytes(call, count);
+        if self.source.chance(3) {
+            let length = self.source.pick(&[0, 1]) as usize;
+            call.fragment.truncate(length);
+        } else if self.source.chance(2) {
+            self.bytes(call, 249);
+        }
+        self.lend(call, ASSEMBLY, 30);
+    }
+
+    fn heard(&mut self, call: &Call, result: &Answered, out: &[u8]) {
+        let refused = result.refusal != 0;
+        match call.kind {
+            Kind::FrameRead => {
+                self.count(if refused { Count::ReadRefused } else { Count::ReadFrame });
+            }
+            Kind::LinkReceive => self.count(match result.kind {
+                0 => Count::LinkUser,
+                1 => Count::LinkAsks,
+                _ => Count::LinkRefused,
+            }),
+            Kind::Segment => {
+                match result.kind {
+                    0 => self.count(Count::SegmentMore),
+                    1 => self.count(Count::SegmentWhole),
+                    _ => self.count(Count::SegmentRefused),
+                }
+                // 21 and 33 leave what is begun.
+                if result.refusal != 21 && result.refusal != 33 {
+                    self.begun = result.kind == 0;
+                }
+                if !refused {
+                    self.next_segment = (call.fragment[0] % 64 + 1) % 64;
+                }
+            }
+            Kind::Send => self.count(if refused { Count::SendRefused } else { Count::Sent }),
+            _ if refused => self.count(Count::FrameRefused),
+            _ => {
+                self.frame.clear();
+                self.frame.extend_from_slice(&out[..result.length]);
+                self.count(Count::FrameWritten);
+            }
+        }
+    }
+
     /// What the call came to, with the head that it left.
     pub fn came_to(&mut self, call: &Call, result: &Answered, out: &[u8], head: &Head) {
         match call.kind {
             Kind::Restart => self.restarted(call, result.refusal),
             Kind::Reading | Kind::Table => self.took(call, result),
             Kind::Fragment => self.answered(call, result, out, head.latch_armed),
+            _ => self.heard(call, result, out),
         }
         if head.event_count == EVENTS {
             self.count(Count::Full);
