@@ -534,6 +534,9 @@ static struct pomarisco_analog_setup some_analog(void) {
 
 static void some_restart(int broken) {
     call.kind = RESTART;
+    /* Each count of the line record. */
+    const uint16_t n = (uint16_t)PICK(0, 65530);
+    line = (struct pomarisco_line){n, n, n, n, n, n, n};
     struct pomarisco_setup *s = &call.setup;
     s->arm_time = PICK(0, 1, 10, 1000, 64000);
     s->confirm_time = PICK(1, 10, 1000, 5000, 60000);

@@ -171,6 +171,9 @@ impl Second {
 
     fn call(&mut self, call: &Call) -> Answered {
         let mut result = Answered::zero();
+        if let Some(count) = call.record {
+            self.record.counts = [count; 7];
+        }
         if call.again {
             self.outstation.as_mut().expect("made before").restart();
             return result;
@@ -244,6 +247,19 @@ struct Library {
 
 const BORDER: usize = 32;
 
+/// A line record with this for every count.
+fn line_of(count: u16) -> Line {
+    Line {
+        accepted: count,
+        short_frame: count,
+        start: count,
+        header_check: count,
+        length: count,
+        block_check: count,
+        not_taken: count,
+    }
+}
+
 impl Library {
     fn new() -> Library {
         Library {
@@ -258,6 +274,9 @@ impl Library {
     }
 
     fn call(&mut self, call: &Call) -> Result<Answered, String> {
+        if let Some(count) = call.record {
+            self.line = line_of(count);
+        }
         let (image, memory) = (&mut self.image, &mut self.memory);
         let mut result = Answered::zero();
         let whole = &mut self.out[call.out];
@@ -354,6 +373,7 @@ fn no_call() -> Call {
         classes: Vec::new(),
         setups: Vec::new(),
         again: false,
+        record: None,
         readings: Vec::new(),
         time: 0,
         control: 0,

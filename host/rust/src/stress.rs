@@ -192,6 +192,8 @@ pub struct Call {
     pub setups: Vec<AnalogSetup>,
     /// A restart with the setup that was taken last.
     pub again: bool,
+    /// What a restart sets every count of the line record to, if it does.
+    pub record: Option<u16>,
     pub readings: Vec<Reading>,
     pub time: u64,
     pub control: u8,
@@ -434,6 +436,7 @@ impl Generator {
         call.fragment.clear();
         call.out = 0;
         call.again = false;
+        call.record = None;
         if self.none {
             return self.restart(call, false);
         }
@@ -485,6 +488,7 @@ impl Generator {
 
     fn restart(&mut self, call: &mut Call, broken: bool) {
         call.kind = Kind::Restart;
+        call.record = Some(self.source.pick(&[0, 65_530]) as u16);
         let arm_time = self.source.pick(&[0, 1, 10, 1000, 64_000]);
         let confirm_time = self.source.pick(&[1, 10, 1000, 5000, 60_000]);
         let own = self.source.below(65_520);
