@@ -1,19 +1,19 @@
 //! Links `libc_api.a` and compares every call with the second program.
 //!
-//!     pair                every case; ends with `N passed, M failed`
-//!     pair --short        few seeds and short scripts, the outstation's arrays in heap blocks of their
-//!                         exact size: for valgrind
-//!     pair --faults       the second program made wrong, one named fault after the other; prints the
-//!                         first case that fails for each, the fixed scripts left out
+//!     pair                     every case; ends with `N passed, M failed`
+//!     pair --short             few seeds and short scripts, the outstation's arrays in heap blocks of
+//!                              their exact size: for valgrind
+//!     pair --faults            the second program made wrong, one named fault after the other; prints
+//!                              the first case that fails for each, the fixed scripts left out
 //!     pair --random N [SEED]   N random calls in one run, all compared; ends with `1 passed, 0 failed`
-//!                         or the first difference
+//!                              or the first difference
 //!     pair --stress SEED N     the same calls on the second program alone: what `host/stress.c` must
-//!                         print over the library
+//!                              print over the library
 //!
 //! A case is: the layout; a fixed script of `tests/`; a random script of one seed; the lent lengths
-//! of one call; garbage of one seed; what has to be reached. In every second random script the
-//! library is given other numbers of the same meaning (`meaning.rs`). `REFERENCE_FAULT` turns a
-//! fault on, after the scripts are made.
+//! of one call; garbage of one seed; a random run; what has to be reached. In every second random
+//! script the library is given other numbers of the same meaning (`meaning.rs`). `REFERENCE_FAULT`
+//! turns a fault on, after the scripts are made.
 
 mod garbage;
 mod header;
@@ -53,6 +53,9 @@ const SCRIPTS: [(Kind, u64, usize); 5] = [
 
 const GARBAGE: u64 = 20;
 
+/// Calls of the random run; `--random` makes longer ones.
+const RANDOM: u64 = 200_000;
+
 /// Whether the outstation's arrays are in heap blocks of their exact size.
 static EXACT: AtomicBool = AtomicBool::new(false);
 
@@ -65,6 +68,7 @@ enum Case {
     Lengths(&'static str),
     Past,
     Garbage(u64),
+    Random { calls: u64, seed: u64 },
 }
 
 impl Case {
@@ -75,6 +79,7 @@ impl Case {
             Case::Lengths(call) => format!("lent lengths of {call}"),
             Case::Past => "counts past what a script can say".into(),
             Case::Garbage(seed) => format!("garbage {seed}"),
+            Case::Random { calls, seed } => format!("random run of {calls} calls, seed {seed}"),
         }
     }
 
@@ -89,6 +94,9 @@ impl Case {
             Case::Lengths(call) => lengths(&mut pair, call),
             Case::Past => past(&mut pair),
             Case::Garbage(seed) => garbage(&mut pair, *seed),
+            Case::Random { calls, seed } => {
+                run::random(*calls, *seed, EXACT.load(Ordering::Relaxed)).and_then(every)
+            }
         };
         (pair.seen, result)
     }
@@ -323,6 +331,16 @@ fn garbage(pair: &mut Pair, seed: u64) -> Result<(), String> {
     Ok(())
 }
 
+// ---- a random run
+
+/// Calls came to everything that is counted.
+fn every((generator, _): (stress::Generator, u64)) -> Result<(), String> {
+    match stress::COUNTS.iter().zip(generator.counts).find(|&(_, count)| count == 0) {
+        Some((what, _)) => Err(format!("no call came to: {what}")),
+        None => Ok(()),
+    }
+}
+
 // ---- all
 
 /// Fixed scripts, in the order of their names.
@@ -369,6 +387,7 @@ fn own_cases(short: bool) -> Vec<Case> {
     cases.extend(lent.map(Case::Lengths));
     cases.push(Case::Past);
     cases.extend((1..=if short { 1 } else { GARBAGE }).map(Case::Garbage));
+    cases.push(Case::Random { calls: if short { 30_000 } else { RANDOM }, seed: 11 });
     cases
 }
 
@@ -478,8 +497,10 @@ fn turn_on_named() -> Result<(), ExitCode> {
 
 fn long_run(calls: u64, seed: u64) -> Result<ExitCode, ExitCode> {
     turn_on_named()?;
-    Ok(match run::random(calls, seed) {
-        Ok(()) => {
+    Ok(match run::random(calls, seed, false) {
+        Ok((generator, sum)) => {
+            run::print_counts(&generator);
+            println!("{calls} calls, seed {seed}, sum {sum:016X}");
             println!("1 passed, 0 failed");
             ExitCode::SUCCESS
         }

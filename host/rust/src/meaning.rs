@@ -138,7 +138,7 @@ fn random_bits(random: &mut Random) -> u32 {
 fn other_float(bits: u32, random: &mut Random) -> u32 {
     match is_nan(bits) {
         false => bits,
-        true => 0x7F80_0001 + random.below(0x7F_FFFF) as u32 | (random_bits(random) & 0x8000_0000),
+        true => (0x7F80_0001 + random.below(0x7F_FFFF) as u32) | (random_bits(random) & 1 << 31),
     }
 }
 

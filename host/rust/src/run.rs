@@ -261,10 +261,10 @@ fn line_of(count: u16) -> Line {
 }
 
 impl Library {
-    fn new() -> Library {
+    fn new(exact: bool) -> Library {
         Library {
             image: Outstation::zero(),
-            memory: Memory::new(false),
+            memory: Memory::new(exact),
             station: Station::zero(),
             line: Line::zero(),
             assembly: Assembly::zero(),
@@ -384,7 +384,7 @@ fn no_call() -> Call {
     }
 }
 
-fn print_counts(generator: &Generator) {
+pub fn print_counts(generator: &Generator) {
     for (what, count) in COUNTS.iter().zip(generator.counts) {
         println!("{count:10}  {what}");
     }
@@ -447,10 +447,11 @@ fn both(library: &mut Library, second: &mut Second, call: &Call) -> Result<Answe
     Ok(result)
 }
 
-/// Both sides. An error says the first difference.
-pub fn random(calls: u64, seed: u64) -> Result<(), String> {
+/// Both sides, the outstation's arrays in heap blocks of their exact size or with a border. What the
+/// calls came to, and their sum; an error says the first difference.
+pub fn random(calls: u64, seed: u64, exact: bool) -> Result<(Generator, u64), String> {
     let (mut generator, mut second) = (Generator::new(seed), Second::new());
-    let (mut call, mut sum, mut library) = (no_call(), Sum(0), Library::new());
+    let (mut call, mut sum, mut library) = (no_call(), Sum(0), Library::new(exact));
     for number in 1..=calls {
         generator.step(&mut call);
         let result = both(&mut library, &mut second, &call)
@@ -469,9 +470,7 @@ pub fn random(calls: u64, seed: u64) -> Result<(), String> {
         }
         generator.came_to(&call, &result, out, &head);
     }
-    print_counts(&generator);
-    println!("{calls} calls, seed {seed}, sum {:016X}", sum.0);
-    Ok(())
+    Ok((generator, sum.0))
 }
 
 /// A call in short.
