@@ -9,10 +9,10 @@ fn main() {
         Ok(folder) => PathBuf::from(folder),
         Err(_) => here.join("../../target/staticlib"),
     };
-    let library = folder.join("libstation_c.a");
+    let library = folder.join("libc_api.a");
     assert!(library.is_file(), "no {}: build it by host/build", library.display());
     println!("cargo:rerun-if-env-changed=POMARISCO_LIBRARY");
     println!("cargo:rerun-if-changed={}", library.display());
     println!("cargo:rustc-link-search=native={}", folder.display());
-    println!("cargo:rustc-link-lib=static=station_c");
+    println!("cargo:rustc-link-lib=static=c_api");
 }

@@ -1,11 +1,13 @@
-//! Any numbers in any struct: every call returns, and does what it does with the plain image of the
-//! same meaning.
+//! Any numbers in any struct and any lent array: every call returns, and does what it does with the
+//! plain image of the same meaning.
 
 use reference::generate::Random;
 
 use crate::header::*;
 use crate::meaning::*;
+use crate::memory::Memory;
 use crate::pair::{Lent, Seen};
+use crate::words::RECORD;
 
 fn same<T: Same>(what: &str, given: &T, plain: &T) -> Result<(), String> {
     match given.differs(plain) {
@@ -33,42 +35,43 @@ fn image(live: &Outstation, random: &mut Random) -> Outstation {
             unsafe { bytes.add(place).write(random.byte()) };
         }
     }
-    image.points.binary_count = count(BINARIES, random);
-    image.points.analog_count = count(ANALOGS, random);
     // Few flags, so that a reading's may be those last reported and its gate decides.
-    image.points.binaries.iter_mut().for_each(|binary| binary.reported %= 3);
-    image.points.analogs.iter_mut().for_each(|analog| analog.reported %= 3);
-    image.buffer.count = count(EVENTS, random);
-    for held in &mut image.buffer.held {
+    let few = |word: u32| word & 0xFF00_FFFF | ((word >> 16 & 0xFF) % 3) << 16;
+    image.binaries.iter_mut().for_each(|word| *word = few(*word));
+    image.analogs.iter_mut().step_by(RECORD).for_each(|word| *word = few(*word));
+    // Mostly classes that there are, and kinds that events have.
+    for second in image.events.iter_mut().skip(1).step_by(2) {
         if random.chance(80) {
-            held.event.class_ %= 5;
+            let mut bytes = second.to_le_bytes();
+            (bytes[5], bytes[6]) = (bytes[5] % 5, bytes[6] % 5);
+            *second = u64::from_le_bytes(bytes);
         }
     }
-    let session = &mut image.session;
-    session.last.request_len = count(2048, random);
-    session.last.answer_len = count(113, random);
-    session.latch.len = count(109, random);
-    session.wait.sequence %= 17;
-    session.latch.sequence %= 17;
-    for truth in [
-        &mut session.wait.kind,
-        &mut session.last.held,
-        &mut session.latch.armed,
-        &mut image.buffer.overflow,
-    ] {
+    let head = &mut image.head;
+    head.binary_count = count(BINARIES, random);
+    head.analog_count = count(ANALOGS, random);
+    head.event_count = count(EVENTS, random);
+    head.request_len = count(FRAGMENT, random);
+    head.answer_len = count(KEPT_ANSWER, random);
+    head.latch_len = count(OBJECTS, random);
+    head.wait_sequence %= 17;
+    head.latch_sequence %= 17;
+    for truth in
+        [&mut head.waiting, &mut head.request_kept, &mut head.latch_armed, &mut head.overflow]
+    {
         if random.chance(30) {
             *truth = 0;
         }
     }
-    for time in [&mut image.clock, &mut session.wait.time, &mut session.latch.time] {
+    for time in [&mut head.clock, &mut head.wait_time, &mut head.latch_time] {
         if random.chance(80) {
             *time %= 1 << random.pick(&[4, 16, 48]);
         }
     }
     // Often, times that an awaited confirmation keeps.
     if random.chance(50) {
-        session.wait.time = image.clock;
-        session.latch.time = image.clock;
+        head.wait_time = head.clock;
+        head.latch_time = head.clock;
     }
     image
 }
@@ -86,15 +89,15 @@ fn reading(clock: u64, random: &mut Random) -> Reading {
 
 /// A fragment that an image may take up: a READ, a CONFIRM, an OPERATE of its latch, a repeat.
 fn fragment(image: &Outstation, random: &mut Random) -> Vec<u8> {
-    let session = &image.session;
+    let head = &image.head;
     match random.below(8) {
-        0 => vec![0xC0 | (session.wait.sequence % 16), 0],
+        0 => vec![0xC0 | (head.wait_sequence % 16), 0],
         1 => {
-            let mut bytes = vec![0xC0 | (session.latch.sequence.wrapping_add(1) % 16), 4];
-            bytes.extend_from_slice(&session.latch.objects[..session.latch.len.min(109)]);
+            let mut bytes = vec![0xC0 | (head.latch_sequence.wrapping_add(1) % 16), 4];
+            bytes.extend_from_slice(&image.latch_objects[..head.latch_len.min(OBJECTS)]);
             bytes
         }
-        2 => session.last.request[..session.last.request_len.min(2048)].to_vec(),
+        2 => image.request[..head.request_len.min(FRAGMENT)].to_vec(),
         3 => {
             let n = random.pick(&[0, 1, 2, 3, 20, 2048, 2049]);
             random.bytes(n)
@@ -124,88 +127,108 @@ fn fragment(image: &Outstation, random: &mut Random) -> Vec<u8> {
 }
 
 /// The state's calls on one image.
-pub fn outstation(live: &Outstation, random: &mut Random, seen: &mut Seen) -> Result<(), String> {
+pub fn outstation(
+    live: &Outstation,
+    memory: &mut Memory,
+    random: &mut Random,
+    seen: &mut Seen,
+) -> Result<(), String> {
     let given = image(live, random);
     let plain_image = plain(&given);
 
-    let one = reading(given.clock, random);
-    let took = crate::header::reading(&given, &one);
-    let expected = crate::header::reading(&plain_image, &plain_reading(&one));
-    same("reading: refusal", &took.refusal, &expected.refusal)?;
-    same("reading", &plain(&took.image), &plain(&expected.image))?;
+    let one = reading(given.head.clock, random);
+    let (mut left, mut expected) = (given, plain_image);
+    let refusal = memory.reading(&mut left, one)?;
+    let refused = memory.reading(&mut expected, plain_reading(&one))?;
+    same("reading: refusal", &refusal, &refused)?;
+    same("reading", &plain(&left), &plain(&expected))?;
     let kinds = ["garbage: binary reading accepted", "garbage: whole reading accepted"];
     let kind = kinds.get(usize::from(one.kind)).unwrap_or(&"garbage: float reading accepted");
-    seen.note(kind, took.refusal == 0);
+    seen.note(kind, refusal == 0);
 
-    let mut table = Table::zero();
-    for place in &mut table.readings {
-        *place = reading(given.clock, random);
+    let n = random.pick(&[0, 1, 2, 20, 128, 129, 300]);
+    let mut readings: Vec<Reading> = (0..n).map(|_| reading(given.head.clock, random)).collect();
+    readings.sort_by_key(|reading| reading.time);
+    // Often, readings that are taken where there are some binaries.
+    if random.chance(30) {
+        for reading in &mut readings {
+            (reading.kind, reading.point, reading.flags) =
+                (0, reading.point % 8, reading.flags % 3);
+        }
     }
-    table.readings.sort_by_key(|reading| reading.time);
-    table.count = count(TABLE, random);
-    let took = crate::header::table(&given, &table);
-    let expected = crate::header::table(&plain_image, &plain_table(&table));
-    same("table: taken", &took.taken, &expected.taken)?;
-    same("table: refusal", &took.refusal, &expected.refusal)?;
-    same("table", &plain(&took.image), &plain(&expected.image))?;
-    seen.note("garbage: ten readings of a table taken", took.taken >= 10);
+    let plain_readings: Vec<Reading> = readings.iter().map(plain_reading).collect();
+    let (mut left, mut expected) = (given, plain_image);
+    let took = memory.table(&mut left, &readings)?;
+    let plain_took = memory.table(&mut expected, &plain_readings)?;
+    same("table: taken", &took.0, &plain_took.0)?;
+    same("table: refusal", &took.1, &plain_took.1)?;
+    same("table", &plain(&left), &plain(&expected))?;
+    seen.note("garbage: ten readings of a table taken", took.0 >= 10);
 
     let bytes = fragment(&given, random);
     let time = match random.below(4) {
         0 => random.next(),
-        1 => given.session.wait.time,
-        _ => given.clock.wrapping_add(random.below(3) as u64),
+        1 => given.head.wait_time,
+        _ => given.head.clock.wrapping_add(random.below(3) as u64),
     };
     let len = random.pick(&[0, 2047, 2048, 2048, 2048, 2049, 5000]);
     let mut lent = Lent::new(len, random);
-    let answer = crate::header::fragment(&given, time, &bytes, lent.library());
-    let expected = crate::header::fragment(&plain_image, time, &bytes, lent.second());
-    same("fragment: answer", &answer.answer, &expected.answer)?;
-    same("fragment: objects", &answer.operated.count, &expected.operated.count)?;
-    for (one, two) in
-        answer.operated.items.iter().zip(&expected.operated.items).take(answer.operated.count)
-    {
+    let (mut left, mut expected) = (given, plain_image);
+    let (answer, operated) = memory.fragment(&mut left, time, &bytes, lent.library())?;
+    let (plain_answer, plain_operated) =
+        memory.fragment(&mut expected, time, &bytes, lent.second())?;
+    same("fragment: answer", &answer, &plain_answer)?;
+    same("fragment: objects", &operated.count, &plain_operated.count)?;
+    let both = operated.items.iter().zip(&plain_operated.items);
+    for (one, two) in both.take(operated.count) {
         same("fragment: object", one, two)?;
     }
-    same("fragment", &plain(&answer.image), &plain(&expected.image))?;
-    seen.note("garbage: fragment answered", answer.answer.kind == 0);
-    let read = answer.answer.kind == 0 && bytes[1] == 1;
-    seen.note("garbage: READ awaits a CONFIRM", read && answer.image.session.wait.kind == 1);
-    seen.note("garbage: CONFIRM accepted", answer.answer.kind == 2);
-    seen.note("garbage: objects carried out", answer.operated.count > 0);
+    same("fragment", &plain(&left), &plain(&expected))?;
+    seen.note("garbage: fragment answered", answer.kind == 0);
+    let read = answer.kind == 0 && bytes[1] == 1;
+    seen.note("garbage: READ awaits a CONFIRM", read && left.head.waiting == 1);
+    seen.note("garbage: CONFIRM accepted", answer.kind == 2);
+    seen.note("garbage: objects carried out", operated.count > 0);
     lent.compare()
 }
 
 /// A setup of random bytes, then one with the limits kept.
-pub fn setup(random: &mut Random) -> Result<(), String> {
+pub fn setup(live: &Outstation, memory: &mut Memory, random: &mut Random) -> Result<(), String> {
     let mut setup = Setup::random(random);
-    setup.binary_count = count(BINARIES, random);
-    setup.analog_count = count(ANALOGS, random);
+    let n = random.pick(&[0, 1, 2, 63, 64, 65, 200]);
+    let mut classes = random.bytes(n);
+    let n = random.pick(&[0, 1, 2, 63, 64, 65, 200]);
+    let mut setups: Vec<AnalogSetup> = (0..n).map(|_| AnalogSetup::random(random)).collect();
     for kept in [false, true] {
         if kept {
             (setup.own, setup.master) = (1, 2);
             setup.arm_time %= 64_001;
             setup.confirm_time = 1 + setup.confirm_time % 60_000;
             setup.outputs %= 17;
-            setup.binary_count %= BINARIES + 1;
-            setup.analog_count %= ANALOGS + 1;
-            setup.classes.iter_mut().for_each(|class| *class %= 4);
-            for analog in &mut setup.analogs {
+            classes.truncate(BINARIES);
+            setups.truncate(ANALOGS);
+            classes.iter_mut().for_each(|class| *class %= 4);
+            for analog in &mut setups {
                 analog.class_ %= 4;
-                for number in [&mut analog.gain, &mut analog.offset, &mut analog.real.limit] {
-                    if analog.kind >= 2 && !number.is_finite() {
-                        *number = 1.5;
+                if analog.kind >= 2 {
+                    for number in [&mut analog.gain, &mut analog.offset, &mut analog.limit] {
+                        if !f32::from_bits(*number).is_finite() {
+                            *number = 1.5_f32.to_bits();
+                        }
                     }
+                    analog.limit &= 0x7FFF_FFFF;
                 }
-                analog.real.limit = analog.real.limit.abs();
             }
         }
-        let restarted = restart(&setup);
-        let expected = restart(&plain_setup(&setup));
-        same("restart: refusal", &restarted.refusal, &expected.refusal)?;
-        same("restart", &plain(&restarted.image), &plain(&expected.image))?;
+        let plain_setups: Vec<AnalogSetup> = setups.iter().map(plain_analog_setup).collect();
+        // Whatever the arrays hold.
+        let (mut left, mut expected) = (image(live, random), *live);
+        let refusal = memory.restart(&mut left, setup, &classes, &setups)?;
+        let refused = memory.restart(&mut expected, setup, &classes, &plain_setups)?;
+        same("restart: refusal", &refusal, &refused)?;
+        same("restart", &plain(&left), &plain(&expected))?;
         if kept {
-            same("restart: refusal with the limits kept", &restarted.refusal, &0)?;
+            same("restart: refusal with the limits kept", &refusal, &0)?;
         }
     }
     Ok(())
@@ -222,14 +245,9 @@ pub fn line(random: &mut Random) -> Result<(), String> {
 
     // Nothing of these is a kind or a truth: they must return, and write nothing past what is lent.
     let mut lent = Lent::new(random.pick(&lens), random);
-    let link = link_receive(
-        Line::random(random),
-        random.next() as u16,
-        random.next() as u16,
-        &bytes,
-        lent.library(),
-    );
-    if link.taken.kind != 0 {
+    let mut line = Line::random(random);
+    let taken = link_receive(&mut line, Station::random(random), &bytes, lent.library());
+    if taken.kind != 0 {
         lent.compare()?;
     }
     let mut lent = Lent::new(random.pick(&lens), random);

@@ -9,14 +9,20 @@ use reference::generate::Random;
 pub const BINARIES: usize = 64;
 pub const ANALOGS: usize = 64;
 pub const EVENTS: usize = 256;
-pub const TABLE: usize = 128;
 pub const CONTROLS: usize = 8;
 pub const FRAGMENT: usize = 2048;
 pub const FRAME: usize = 292;
 pub const USER: usize = 250;
 
+// Lent words and bytes of an outstation.
+pub const EVENT_WORDS: usize = 2 * EVENTS;
+pub const BINARY_WORDS: usize = BINARIES;
+pub const ANALOG_WORDS: usize = 8 * ANALOGS;
+pub const KEPT_ANSWER: usize = 113;
+pub const OBJECTS: usize = 109;
+
 /// Where two values differ, if they do: field by field, so that the bytes between fields do not
-/// count. Two NaNs do not differ.
+/// count.
 pub trait Same {
     fn differs(&self, other: &Self) -> Option<String>;
 }
@@ -31,15 +37,7 @@ macro_rules! numbers {
     };
 }
 
-numbers!(u8 u16 u32 u64 usize i16 i32);
-
-impl Same for f32 {
-    fn differs(&self, other: &Self) -> Option<String> {
-        let (one, two) = (self.to_bits(), other.to_bits());
-        let same = one == two || (self.is_nan() && other.is_nan());
-        (!same).then(|| format!(": bits {one:08X} and {two:08X}"))
-    }
-}
+numbers!(u8 u16 u32 u64 usize);
 
 impl<T: Same, const N: usize> Same for [T; N] {
     fn differs(&self, other: &Self) -> Option<String> {
@@ -100,121 +98,63 @@ macro_rules! structs {
 }
 
 structs! {
-    Value "value" 12 { wide: i32 = 0, real: f32 = 4, narrow: i16 = 8, kind: u8 = 10 }
-    Shown "shown" 16 { value: Value = 0, state: u8 = 12, kind: u8 = 13 }
-    Event "event" 32 {
-        time: u64 = 0,
-        shown: Shown = 8,
-        point: u16 = 24,
-        flags: u8 = 26,
-        class_: u8 = 27,
-    }
-    Held "held" 40 { event: Event = 0, carried: u8 = 32 }
-    Buffer "buffer" 10256 { held: [Held; EVENTS] = 0, count: usize = 10240, overflow: u8 = 10248 }
-    Binary "binary" 5 {
-        class_: u8 = 0,
-        seen: u8 = 1,
-        state: u8 = 2,
-        flags: u8 = 3,
-        reported: u8 = 4,
-    }
-    WholeGate "whole_gate" 8 { limit: u32 = 0, kind: u8 = 4 }
-    FloatGate "float_gate" 8 { limit: f32 = 0, kind: u8 = 4 }
-    WholeTrack "whole_track" 20 {
-        gate: WholeGate = 0,
-        reported: i32 = 8,
-        previous: i32 = 12,
-        sum: u32 = 16,
-    }
-    FloatTrack "float_track" 28 {
-        gain: f32 = 0,
-        offset: f32 = 4,
-        gate: FloatGate = 8,
-        reported: f32 = 16,
-        previous: f32 = 20,
-        sum: f32 = 24,
-    }
-    Measure "measure" 52 { whole: WholeTrack = 0, real: FloatTrack = 20, kind: u8 = 48 }
-    Analog "analog" 68 {
-        value: Value = 0,
-        measure: Measure = 12,
-        class_: u8 = 64,
-        seen: u8 = 65,
-        flags: u8 = 66,
-        reported: u8 = 67,
-    }
-    Points "points" 4688 {
-        binaries: [Binary; BINARIES] = 0,
-        binary_count: usize = 320,
-        analogs: [Analog; ANALOGS] = 328,
-        analog_count: usize = 4680,
-    }
-    Wait "wait" 16 { time: u64 = 0, sequence: u8 = 8, shown: u8 = 9, since: u8 = 10, kind: u8 = 11 }
-    Last "last" 2192 {
-        request: [u8; 2048] = 0,
-        request_len: usize = 2048,
-        answer: [u8; 113] = 2056,
-        answer_len: usize = 2176,
-        held: u8 = 2184,
-    }
-    Latch "latch" 136 {
-        time: u64 = 0,
-        objects: [u8; 109] = 8,
-        len: usize = 120,
-        armed: u8 = 128,
-        sequence: u8 = 129,
-    }
-    Session "session" 2352 {
-        wait: Wait = 0,
-        last: Last = 16,
-        latch: Latch = 2208,
-        restarted: u8 = 2344,
-    }
-    Outstation "outstation" 17328 {
+    Head "head" 104 {
         arm_time: u64 = 0,
         confirm_time: u64 = 8,
         clock: u64 = 16,
-        points: Points = 24,
-        buffer: Buffer = 4712,
-        session: Session = 14968,
-        outputs: u16 = 17320,
+        wait_time: u64 = 24,
+        latch_time: u64 = 32,
+        binary_count: usize = 40,
+        analog_count: usize = 48,
+        event_count: usize = 56,
+        request_len: usize = 64,
+        answer_len: usize = 72,
+        latch_len: usize = 80,
+        outputs: u16 = 88,
+        overflow: u8 = 90,
+        restarted: u8 = 91,
+        waiting: u8 = 92,
+        wait_sequence: u8 = 93,
+        showed_overflow: u8 = 94,
+        dropped_since: u8 = 95,
+        request_kept: u8 = 96,
+        latch_armed: u8 = 97,
+        latch_sequence: u8 = 98,
     }
-    AnalogSetup "analog_setup" 28 {
-        whole: WholeGate = 0,
-        real: FloatGate = 8,
-        gain: f32 = 16,
-        offset: f32 = 20,
-        class_: u8 = 24,
-        kind: u8 = 25,
+    Outstation "outstation" 8776 {
+        head: Head = 0,
+        events: [u64; EVENT_WORDS] = 104,
+        binaries: [u32; BINARY_WORDS] = 4200,
+        analogs: [u32; ANALOG_WORDS] = 4456,
+        request: [u8; FRAGMENT] = 6504,
+        answer: [u8; KEPT_ANSWER] = 8552,
+        latch_objects: [u8; OBJECTS] = 8665,
     }
-    Setup "setup" 1888 {
-        own: u16 = 0,
-        master: u16 = 2,
-        arm_time: u32 = 4,
-        confirm_time: u32 = 8,
+    Setup "setup" 16 {
+        arm_time: u32 = 0,
+        confirm_time: u32 = 4,
+        own: u16 = 8,
+        master: u16 = 10,
         outputs: u16 = 12,
-        binary_count: usize = 16,
-        analog_count: usize = 24,
-        classes: [u8; BINARIES] = 32,
-        analogs: [AnalogSetup; ANALOGS] = 96,
     }
-    Reading "reading" 24 {
+    AnalogSetup "analog_setup" 16 {
+        limit: u32 = 0,
+        gain: u32 = 4,
+        offset: u32 = 8,
+        class_: u8 = 12,
+        kind: u8 = 13,
+        gate: u8 = 14,
+    }
+    Reading "reading" 16 {
         time: u64 = 0,
-        whole: i32 = 8,
-        real: f32 = 12,
-        point: u16 = 16,
-        flags: u8 = 18,
-        state: u8 = 19,
-        kind: u8 = 20,
+        bits: u32 = 8,
+        point: u16 = 12,
+        kind: u8 = 14,
+        flags: u8 = 15,
     }
-    Table "table" 3080 { readings: [Reading; TABLE] = 0, count: usize = 3072 }
-    Restarted "restarted" 17336 { image: Outstation = 0, refusal: u8 = 17328 }
-    Took "took" 17336 { image: Outstation = 0, refusal: u8 = 17328 }
-    TableTook "table_took" 17344 {
-        image: Outstation = 0,
-        taken: usize = 17328,
-        refusal: u8 = 17336,
-    }
+    Restarted "restarted" 112 { head: Head = 0, refusal: u8 = 104 }
+    Took "took" 112 { head: Head = 0, refusal: u8 = 104 }
+    TableTook "table_took" 120 { taken: usize = 0, head: Head = 8, refusal: u8 = 112 }
     Crob "crob" 16 {
         on_time: u32 = 0,
         off_time: u32 = 4,
@@ -225,11 +165,8 @@ structs! {
     }
     Crobs "crobs" 136 { items: [Crob; CONTROLS] = 0, count: usize = 128 }
     FragmentAnswer "fragment_answer" 16 { length: usize = 0, kind: u8 = 8, refusal: u8 = 9 }
-    Answer "answer" 17480 {
-        image: Outstation = 0,
-        operated: Crobs = 17328,
-        answer: FragmentAnswer = 17464,
-    }
+    Answer "answer" 256 { head: Head = 0, operated: Crobs = 104, answer: FragmentAnswer = 240 }
+    Station "station" 4 { own: u16 = 0, master: u16 = 2 }
     Wrote "wrote" 16 { size: usize = 0, refusal: u8 = 8 }
     Frame "frame" 16 {
         length: usize = 0,
@@ -248,7 +185,6 @@ structs! {
         not_taken: u16 = 12,
     }
     Taken "taken" 16 { length: usize = 0, control: u8 = 8, kind: u8 = 9, refusal: u8 = 10 }
-    Link "link" 32 { taken: Taken = 0, line: Line = 16 }
     Assembly "assembly" 16 { length: usize = 0, last: u8 = 8, begun: u8 = 9 }
     Segment "segment" 16 { length: usize = 0, kind: u8 = 8, refusal: u8 = 9 }
     Reception "reception" 32 { assembly: Assembly = 0, segment: Segment = 16 }
@@ -269,11 +205,38 @@ macro_rules! calls {
 }
 
 calls! {
-    fn pomarisco_restart(setup: Setup) -> Restarted;
-    fn pomarisco_reading(image: Outstation, reading: Reading) -> Took;
-    fn pomarisco_table(image: Outstation, table: Table) -> TableTook;
-    fn pomarisco_fragment(
-        image: Outstation,
+    fn pomarisco_lent_restart(
+        setup: Setup,
+        classes: *const u8,
+        class_count: usize,
+        setups: *const AnalogSetup,
+        setup_count: usize,
+        binaries: *mut u32,
+        analogs: *mut u32,
+    ) -> Restarted;
+    fn pomarisco_lent_reading(
+        head: Head,
+        binaries: *mut u32,
+        analogs: *mut u32,
+        events: *mut u64,
+        reading: Reading,
+    ) -> Took;
+    fn pomarisco_lent_table(
+        head: Head,
+        binaries: *mut u32,
+        analogs: *mut u32,
+        events: *mut u64,
+        readings: *const Reading,
+        count: usize,
+    ) -> TableTook;
+    fn pomarisco_lent_fragment(
+        head: Head,
+        binaries: *const u32,
+        analogs: *const u32,
+        events: *mut u64,
+        request: *mut u8,
+        answer: *mut u8,
+        objects: *mut u8,
         time: u64,
         fragment: *const u8,
         fragment_length: usize,
@@ -296,26 +259,23 @@ calls! {
         out_length: usize,
     ) -> Frame;
     fn pomarisco_link_receive(
-        line: Line,
-        own: u16,
-        master: u16,
+        line: *mut Line,
+        station: Station,
         bytes: *const u8,
         length: usize,
         out: *mut u8,
         out_length: usize,
-    ) -> Link;
+    ) -> Taken;
     fn pomarisco_link_reply(
         out: *mut u8,
         out_length: usize,
-        own: u16,
-        master: u16,
+        station: Station,
         control: u8,
     ) -> Wrote;
     fn pomarisco_link_data(
         out: *mut u8,
         out_length: usize,
-        own: u16,
-        master: u16,
+        station: Station,
         user: *const u8,
         user_length: usize,
     ) -> Wrote;
@@ -335,24 +295,99 @@ calls! {
     ) -> Sending;
 }
 
-// The calls over slices. A slice keeps what the header leaves with the host: it is not null, its
-// bytes may be read or written, and what may be written overlaps nothing else.
+// The calls over slices and arrays. They keep what the header leaves with the host: they are not
+// null, what they hold may be read or written, and what may be written overlaps nothing else.
 
-pub fn restart(setup: &Setup) -> Restarted {
-    unsafe { pomarisco_restart(*setup) }
+pub fn restart(
+    setup: Setup,
+    classes: &[u8],
+    setups: &[AnalogSetup],
+    binaries: &mut [u32; BINARY_WORDS],
+    analogs: &mut [u32; ANALOG_WORDS],
+) -> Restarted {
+    unsafe {
+        pomarisco_lent_restart(
+            setup,
+            classes.as_ptr(),
+            classes.len(),
+            setups.as_ptr(),
+            setups.len(),
+            binaries.as_mut_ptr(),
+            analogs.as_mut_ptr(),
+        )
+    }
 }
 
-pub fn reading(image: &Outstation, reading: &Reading) -> Took {
-    unsafe { pomarisco_reading(*image, *reading) }
+pub fn reading(
+    head: Head,
+    binaries: &mut [u32; BINARY_WORDS],
+    analogs: &mut [u32; ANALOG_WORDS],
+    events: &mut [u64; EVENT_WORDS],
+    reading: Reading,
+) -> Took {
+    unsafe {
+        pomarisco_lent_reading(
+            head,
+            binaries.as_mut_ptr(),
+            analogs.as_mut_ptr(),
+            events.as_mut_ptr(),
+            reading,
+        )
+    }
 }
 
-pub fn table(image: &Outstation, table: &Table) -> TableTook {
-    unsafe { pomarisco_table(*image, *table) }
+pub fn table(
+    head: Head,
+    binaries: &mut [u32; BINARY_WORDS],
+    analogs: &mut [u32; ANALOG_WORDS],
+    events: &mut [u64; EVENT_WORDS],
+    readings: &[Reading],
+) -> TableTook {
+    unsafe {
+        pomarisco_lent_table(
+            head,
+            binaries.as_mut_ptr(),
+            analogs.as_mut_ptr(),
+            events.as_mut_ptr(),
+            readings.as_ptr(),
+            readings.len(),
+        )
+    }
 }
 
-pub fn fragment(image: &Outstation, time: u64, fragment: &[u8], out: &mut [u8]) -> Answer {
-    let (to, room) = (out.as_mut_ptr(), out.len());
-    unsafe { pomarisco_fragment(*image, time, fragment.as_ptr(), fragment.len(), to, room) }
+/// What a fragment is given of the state beside its head.
+pub struct FragmentLent<'a> {
+    pub binaries: &'a [u32; BINARY_WORDS],
+    pub analogs: &'a [u32; ANALOG_WORDS],
+    pub events: &'a mut [u64; EVENT_WORDS],
+    pub request: &'a mut [u8; FRAGMENT],
+    pub answer: &'a mut [u8; KEPT_ANSWER],
+    pub latch_objects: &'a mut [u8; OBJECTS],
+}
+
+pub fn fragment(
+    head: Head,
+    lent: FragmentLent,
+    time: u64,
+    fragment: &[u8],
+    out: &mut [u8],
+) -> Answer {
+    unsafe {
+        pomarisco_lent_fragment(
+            head,
+            lent.binaries.as_ptr(),
+            lent.analogs.as_ptr(),
+            lent.events.as_mut_ptr(),
+            lent.request.as_mut_ptr(),
+            lent.answer.as_mut_ptr(),
+            lent.latch_objects.as_mut_ptr(),
+            time,
+            fragment.as_ptr(),
+            fragment.len(),
+            out.as_mut_ptr(),
+            out.len(),
+        )
+    }
 }
 
 pub fn frame_write(
@@ -372,18 +407,18 @@ pub fn frame_read(bytes: &[u8], out: &mut [u8]) -> Frame {
     unsafe { pomarisco_frame_read(bytes.as_ptr(), bytes.len(), out.as_mut_ptr(), out.len()) }
 }
 
-pub fn link_receive(line: Line, own: u16, master: u16, bytes: &[u8], out: &mut [u8]) -> Link {
+pub fn link_receive(line: &mut Line, station: Station, bytes: &[u8], out: &mut [u8]) -> Taken {
     let (to, room) = (out.as_mut_ptr(), out.len());
-    unsafe { pomarisco_link_receive(line, own, master, bytes.as_ptr(), bytes.len(), to, room) }
+    unsafe { pomarisco_link_receive(line, station, bytes.as_ptr(), bytes.len(), to, room) }
 }
 
-pub fn link_reply(out: &mut [u8], own: u16, master: u16, control: u8) -> Wrote {
-    unsafe { pomarisco_link_reply(out.as_mut_ptr(), out.len(), own, master, control) }
+pub fn link_reply(out: &mut [u8], station: Station, control: u8) -> Wrote {
+    unsafe { pomarisco_link_reply(out.as_mut_ptr(), out.len(), station, control) }
 }
 
-pub fn link_data(out: &mut [u8], own: u16, master: u16, user: &[u8]) -> Wrote {
+pub fn link_data(out: &mut [u8], station: Station, user: &[u8]) -> Wrote {
     let (to, room) = (out.as_mut_ptr(), out.len());
-    unsafe { pomarisco_link_data(to, room, own, master, user.as_ptr(), user.len()) }
+    unsafe { pomarisco_link_data(to, room, station, user.as_ptr(), user.len()) }
 }
 
 pub fn segment_receive(assembly: Assembly, segment: &[u8], out: &mut [u8]) -> Reception {

@@ -1,30 +1,40 @@
-//! Links `libstation_c.a` and compares every call with the second program.
+//! Links `libc_api.a` and compares every call with the second program.
 //!
-//!     pair                every case; ends with `N passed, M failed`
-//!     pair --short        few seeds and short scripts: for tools that make it slow
-//!     pair --faults       the second program made wrong, one named fault after the other; prints the
-//!                         first case that fails for each, the fixed scripts left out
+//!     pair                     every case; ends with `N passed, M failed`
+//!     pair --short             few seeds and short scripts, the outstation's arrays in heap blocks of
+//!                              their exact size: for valgrind
+//!     pair --faults            the second program made wrong, one named fault after the other; prints
+//!                              the first case that fails for each, the fixed scripts left out
+//!     pair --random N [SEED]   N random calls in one run, all compared; ends with `1 passed, 0 failed`
+//!                              or the first difference
+//!     pair --stress SEED N     the same calls on the second program alone: what `host/stress.c` must
+//!                              print over the library
 //!
 //! A case is: the layout; a fixed script of `tests/`; a random script of one seed; the lent lengths
-//! of one call; garbage of one seed; what has to be reached. In every second random script the
-//! library is given other numbers of the same meaning (`meaning.rs`). `REFERENCE_FAULT` turns a
-//! fault on, after the scripts are made.
+//! of one call; garbage of one seed; a random run; what has to be reached. In every second random
+//! script the library is given other numbers of the same meaning (`meaning.rs`). `REFERENCE_FAULT`
+//! turns a fault on, after the scripts are made.
 
 mod garbage;
 mod header;
 mod meaning;
+mod memory;
 mod pair;
+mod run;
 mod state;
+mod stress;
+mod words;
 
 use std::panic::{catch_unwind, AssertUnwindSafe};
 use std::path::PathBuf;
 use std::process::ExitCode;
-use std::sync::atomic::{AtomicUsize, Ordering};
+use std::sync::atomic::{AtomicBool, AtomicUsize, Ordering};
 use std::sync::Mutex;
 use std::thread;
 
 use reference::faults::{turn_on, FAULTS};
 use reference::generate::{script, Kind, Random};
+use reference::points::{Reading, Taken};
 use reference::script::{parse, Call, LINE};
 use reference::transport::Unfinished;
 
@@ -43,6 +53,12 @@ const SCRIPTS: [(Kind, u64, usize); 5] = [
 
 const GARBAGE: u64 = 20;
 
+/// Calls of the random run; `--random` makes longer ones.
+const RANDOM: u64 = 200_000;
+
+/// Whether the outstation's arrays are in heap blocks of their exact size.
+static EXACT: AtomicBool = AtomicBool::new(false);
+
 /// Every refusal that a call can give.
 const REFUSALS: [u8; 18] = [1, 2, 3, 4, 5, 11, 12, 13, 14, 15, 16, 17, 21, 22, 23, 31, 32, 33];
 
@@ -52,6 +68,7 @@ enum Case {
     Lengths(&'static str),
     Past,
     Garbage(u64),
+    Random { calls: u64, seed: u64 },
 }
 
 impl Case {
@@ -62,11 +79,12 @@ impl Case {
             Case::Lengths(call) => format!("lent lengths of {call}"),
             Case::Past => "counts past what a script can say".into(),
             Case::Garbage(seed) => format!("garbage {seed}"),
+            Case::Random { calls, seed } => format!("random run of {calls} calls, seed {seed}"),
         }
     }
 
     fn run(&self) -> (Seen, Result<(), String>) {
-        let mut pair = Pair::new(7, false);
+        let mut pair = Pair::new(7, EXACT.load(Ordering::Relaxed));
         let result = match self {
             Case::Layout => layout(),
             Case::Script { text, other, .. } => {
@@ -76,6 +94,9 @@ impl Case {
             Case::Lengths(call) => lengths(&mut pair, call),
             Case::Past => past(&mut pair),
             Case::Garbage(seed) => garbage(&mut pair, *seed),
+            Case::Random { calls, seed } => {
+                run::random(*calls, *seed, EXACT.load(Ordering::Relaxed)).and_then(every)
+            }
         };
         (pair.seen, result)
     }
@@ -246,41 +267,45 @@ fn lengths(pair: &mut Pair, call: &str) -> Result<(), String> {
 
 // ---- counts
 
-/// Counts that a script cannot give: each is refused, or means all there are.
+/// Numbers that a script cannot give: a setup of more points than there may be is refused, a table
+/// may be of any length.
 fn past(pair: &mut Pair) -> Result<(), String> {
     live(pair)?;
-    let second = pair.second.as_ref().ok_or("no outstation")?;
+    let mut second = pair.second.take().ok_or("no outstation")?;
     let setup = pair::setup_image(&second.setup).ok_or("no setup")?;
-    for past in [65, 256, 257, 1 << 32, usize::MAX] {
-        for setup in [
-            header::Setup { binary_count: past, ..setup },
-            header::Setup { analog_count: past, ..setup },
-        ] {
-            let restarted = header::restart(&setup);
-            state::equal("refusal", restarted.refusal, 5)?;
-            let points = &restarted.image.points;
-            state::equal("points", (points.binary_count, points.analog_count), (0, 0))?;
+    let image = pair.image;
+    for past in [65, 256, 257, 1000, 65_535] {
+        let mut binaries = setup.clone();
+        binaries.classes.resize(past, 1);
+        let mut analogs = setup.clone();
+        analogs.analogs.resize(past, setup.analogs[0]);
+        let mut outputs = setup.clone();
+        outputs.setup.outputs = past as u16;
+        for given in [binaries, analogs, outputs] {
+            let mut left = image;
+            let refusal =
+                pair.memory.restart(&mut left, given.setup, &given.classes, &given.analogs)?;
+            state::equal("refusal", refusal, 5)?;
+            let left = (left.head.binary_count, left.head.analog_count, left.head.outputs);
+            state::equal("points and outputs", left, (0, 0, 0))?;
         }
-        let outputs = past.min(65_535) as u16;
-        let restarted = header::restart(&header::Setup { outputs, ..setup });
-        state::equal("refusal", restarted.refusal, 5)?;
-        state::equal("outputs", restarted.image.outputs, 0)?;
     }
-    // A table of 128 with a count above is that of 128.
-    let mut table = header::Table::zero();
-    for (place, reading) in table.readings.iter_mut().enumerate() {
-        (reading.time, reading.point) = (10, place as u16 % 64);
-        (reading.flags, reading.state) = (1, (place / 64) as u8);
-    }
-    table.count = 128;
-    let expected = header::table(&pair.image, &table);
-    state::equal("taken, refusal", (expected.taken, expected.refusal), (128, 0))?;
-    for past in [129, 256, 1 << 32, usize::MAX] {
-        table.count = past;
-        let took = header::table(&pair.image, &table);
-        state::equal("taken, refusal", (took.taken, took.refusal), (128, 0))?;
-        if let Some(found) = header::Same::differs(&took.image, &expected.image) {
-            return Err(format!("table of {past}{found}"));
+    for count in [0, 128, 129, 1000, 70_000_usize] {
+        pair.other = count % 2 == 1;
+        for refused in [count, count / 2, count.saturating_sub(1)] {
+            let mut readings: Vec<Reading> = (0..count)
+                .map(|place| Reading {
+                    time: 10,
+                    index: (place % 64) as u8,
+                    value: Taken::Binary(place / 64 % 2 == 0),
+                    flags: 1,
+                })
+                .collect();
+            if let Some(reading) = readings.get_mut(refused) {
+                reading.flags = 32;
+            }
+            pair.table(&mut second, &readings)?;
+            state::compare(&pair.image, &second)?;
         }
     }
     Ok(())
@@ -296,13 +321,24 @@ fn garbage(pair: &mut Pair, seed: u64) -> Result<(), String> {
             pair.call(&call)?;
         }
         let at = |found| format!("after line {}: {found}", number + 1);
-        garbage::outstation(&pair.image, &mut random, &mut pair.seen).map_err(at)?;
-        garbage::setup(&mut random).map_err(at)?;
+        garbage::outstation(&pair.image, &mut pair.memory, &mut random, &mut pair.seen)
+            .map_err(at)?;
+        garbage::setup(&pair.image, &mut pair.memory, &mut random).map_err(at)?;
         for _ in 0..10 {
             garbage::line(&mut random).map_err(at)?;
         }
     }
     Ok(())
+}
+
+// ---- a random run
+
+/// Calls came to everything that is counted.
+fn every((generator, _): (stress::Generator, u64)) -> Result<(), String> {
+    match stress::COUNTS.iter().zip(generator.counts).find(|&(_, count)| count == 0) {
+        Some((what, _)) => Err(format!("no call came to: {what}")),
+        None => Ok(()),
+    }
 }
 
 // ---- all
@@ -351,6 +387,7 @@ fn own_cases(short: bool) -> Vec<Case> {
     cases.extend(lent.map(Case::Lengths));
     cases.push(Case::Past);
     cases.extend((1..=if short { 1 } else { GARBAGE }).map(Case::Garbage));
+    cases.push(Case::Random { calls: if short { 30_000 } else { RANDOM }, seed: 11 });
     cases
 }
 
@@ -402,34 +439,84 @@ fn faults(cases: &[Case]) -> ExitCode {
     }
 }
 
+/// A number of calls, or a seed.
+fn number(word: &str) -> Result<u64, ExitCode> {
+    word.parse().map_err(|_| {
+        eprintln!("pair: {word} is no number");
+        ExitCode::from(2)
+    })
+}
+
 fn main() -> ExitCode {
+    chosen().unwrap_or_else(|code| code)
+}
+
+fn chosen() -> Result<ExitCode, ExitCode> {
     let arguments: Vec<String> = std::env::args().skip(1).collect();
-    let mut cases = match arguments.iter().map(String::as_str).collect::<Vec<_>>()[..] {
+    let words: Vec<&str> = arguments.iter().map(String::as_str).collect();
+    let mut cases = match words[..] {
         [] => own_cases(false),
-        ["--short"] => own_cases(true),
-        ["--faults"] => return faults(&own_cases(false)),
+        ["--short"] => {
+            EXACT.store(true, Ordering::Relaxed);
+            own_cases(true)
+        }
+        ["--faults"] => return Ok(faults(&own_cases(false))),
+        ["--random", calls] => return long_run(number(calls)?, 1),
+        ["--random", calls, seed] => return long_run(number(calls)?, number(seed)?),
+        ["--stress", seed, calls] => {
+            turn_on_named()?;
+            run::stress(number(seed)?, number(calls)?);
+            return Ok(ExitCode::SUCCESS);
+        }
         _ => {
-            eprintln!("usage: pair [--short | --faults]");
-            return ExitCode::from(2);
+            eprintln!("usage: pair [--short | --faults | --random N [SEED] | --stress SEED N]");
+            return Err(ExitCode::from(2));
         }
     };
     match fixed() {
         Ok(scripts) => cases.extend(scripts),
         Err(error) => {
             eprintln!("pair: tests/: {error}");
-            return ExitCode::from(2);
+            return Err(ExitCode::from(2));
         }
     }
+    turn_on_named()?;
+    Ok(all(&cases))
+}
+
+/// Turns on the fault that REFERENCE_FAULT names.
+fn turn_on_named() -> Result<(), ExitCode> {
     if let Ok(name) = std::env::var("REFERENCE_FAULT") {
         if !name.is_empty() && !turn_on(&name) {
             eprintln!("pair: no fault is called {name}");
-            return ExitCode::from(2);
+            return Err(ExitCode::from(2));
         }
     }
+    Ok(())
+}
 
+fn long_run(calls: u64, seed: u64) -> Result<ExitCode, ExitCode> {
+    turn_on_named()?;
+    Ok(match run::random(calls, seed, false) {
+        Ok((generator, sum)) => {
+            run::print_counts(&generator);
+            println!("{calls} calls, seed {seed}, sum {sum:016X}");
+            println!("1 passed, 0 failed");
+            ExitCode::SUCCESS
+        }
+        Err(found) => {
+            println!("FAILED {found}");
+            println!("0 passed, 1 failed");
+            ExitCode::FAILURE
+        }
+    })
+}
+
+/// Runs the cases, prints what was reached and what failed.
+fn all(cases: &[Case]) -> ExitCode {
     let mut seen = Seen::default();
     let (mut passed, mut failed) = (0, 0);
-    for (case, result) in cases.iter().zip(run_all(&cases, false)) {
+    for (case, result) in cases.iter().zip(run_all(cases, false)) {
         let (reached, result) = result.unwrap_or_else(|| (Seen::default(), Err("not run".into())));
         seen.add(&reached);
         match result {

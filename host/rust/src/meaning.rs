@@ -4,6 +4,7 @@
 use reference::generate::Random;
 
 use crate::header::*;
+use crate::words::{self, is_nan, Analog, Binary, Event, Shown, RECORD};
 
 fn truth(number: u8) -> u8 {
     u8::from(number != 0)
@@ -16,142 +17,82 @@ fn kind(number: u8, last: u8) -> u8 {
 
 // ---- the plain image
 
-fn plain_value(value: &mut Value) {
-    let given = *value;
-    *value = Value { kind: kind(given.kind, 2), ..Value::zero() };
-    match value.kind {
-        0 => value.wide = given.wide,
-        1 => value.narrow = given.narrow,
-        _ => value.real = given.real,
+pub fn plain_head(head: &Head) -> Head {
+    let mut head = *head;
+    head.binary_count = head.binary_count.min(BINARIES);
+    head.analog_count = head.analog_count.min(ANALOGS);
+    head.event_count = head.event_count.min(EVENTS);
+    head.overflow = truth(head.overflow);
+    head.restarted = truth(head.restarted);
+    head.waiting = truth(head.waiting);
+    if head.waiting == 0 {
+        (head.wait_time, head.wait_sequence) = (0, 0);
+        (head.showed_overflow, head.dropped_since) = (0, 0);
     }
-}
-
-fn plain_shown(shown: &mut Shown) {
-    let given = *shown;
-    *shown = Shown { kind: kind(given.kind, 1), ..Shown::zero() };
-    if shown.kind == 0 {
-        shown.state = truth(given.state);
-    } else {
-        shown.value = given.value;
-        plain_value(&mut shown.value);
+    head.showed_overflow = truth(head.showed_overflow);
+    head.dropped_since = truth(head.dropped_since);
+    head.request_kept = truth(head.request_kept);
+    if head.request_kept == 0 {
+        (head.request_len, head.answer_len) = (0, 0);
     }
-}
-
-fn plain_whole_gate(gate: &mut WholeGate) {
-    gate.kind = kind(gate.kind, 3);
-    if gate.kind < 2 {
-        gate.limit = 0;
+    head.request_len = head.request_len.min(FRAGMENT);
+    head.answer_len = head.answer_len.min(KEPT_ANSWER);
+    head.latch_armed = truth(head.latch_armed);
+    if head.latch_armed == 0 {
+        (head.latch_time, head.latch_sequence, head.latch_len) = (0, 0, 0);
     }
-}
-
-fn plain_float_gate(gate: &mut FloatGate) {
-    gate.kind = kind(gate.kind, 3);
-    if gate.kind < 2 {
-        gate.limit = 0.0;
-    }
-}
-
-fn plain_analog(analog: &mut Analog) {
-    plain_value(&mut analog.value);
-    analog.seen = truth(analog.seen);
-    let measure = &mut analog.measure;
-    measure.kind = kind(measure.kind, 2);
-    if measure.kind < 2 {
-        measure.real = FloatTrack::zero();
-        plain_whole_gate(&mut measure.whole.gate);
-    } else {
-        measure.whole = WholeTrack::zero();
-        plain_float_gate(&mut measure.real.gate);
-    }
+    head.latch_len = head.latch_len.min(OBJECTS);
+    head
 }
 
 pub fn plain(image: &Outstation) -> Outstation {
     let mut image = *image;
-    let points = &mut image.points;
-    points.binary_count = points.binary_count.min(BINARIES);
-    points.analog_count = points.analog_count.min(ANALOGS);
-    points.binaries[points.binary_count..].fill(Binary::zero());
-    points.analogs[points.analog_count..].fill(Analog::zero());
-    for binary in &mut points.binaries {
-        binary.seen = truth(binary.seen);
-        binary.state = truth(binary.state);
+    image.head = plain_head(&image.head);
+    let head = &image.head;
+    let (binaries, rest) = image.binaries.split_at_mut(head.binary_count);
+    binaries.iter_mut().for_each(|word| *word = Binary::of(*word).word());
+    rest.fill(0);
+    let (analogs, rest) = image.analogs.split_at_mut(RECORD * head.analog_count);
+    for words in analogs.chunks_exact_mut(RECORD) {
+        words.copy_from_slice(&Analog::of(words).words());
     }
-    points.analogs.iter_mut().for_each(plain_analog);
-
-    let buffer = &mut image.buffer;
-    buffer.count = buffer.count.min(EVENTS);
-    buffer.overflow = truth(buffer.overflow);
-    buffer.held[buffer.count..].fill(Held::zero());
-    for held in &mut buffer.held {
-        held.carried = truth(held.carried);
-        plain_shown(&mut held.event.shown);
+    rest.fill(0);
+    let (events, rest) = image.events.split_at_mut(2 * head.event_count);
+    for words in events.chunks_exact_mut(2) {
+        words.copy_from_slice(&Event::of(words[0], words[1]).words());
     }
-
-    let session = &mut image.session;
-    session.restarted = truth(session.restarted);
-    let wait = &mut session.wait;
-    if wait.kind == 0 {
-        *wait = Wait::zero();
-    } else {
-        (wait.kind, wait.shown, wait.since) = (1, truth(wait.shown), truth(wait.since));
-    }
-    let last = &mut session.last;
-    if last.held == 0 {
-        *last = Last::zero();
-    } else {
-        last.held = 1;
-        last.request_len = last.request_len.min(last.request.len());
-        last.answer_len = last.answer_len.min(last.answer.len());
-        last.request[last.request_len..].fill(0);
-        last.answer[last.answer_len..].fill(0);
-    }
-    let latch = &mut session.latch;
-    if latch.armed == 0 {
-        *latch = Latch::zero();
-    } else {
-        latch.armed = 1;
-        latch.len = latch.len.min(latch.objects.len());
-        latch.objects[latch.len..].fill(0);
-    }
+    rest.fill(0);
+    image.request[head.request_len..].fill(0);
+    image.answer[head.answer_len..].fill(0);
+    image.latch_objects[head.latch_len..].fill(0);
     image
 }
 
 pub fn plain_reading(reading: &Reading) -> Reading {
-    let given = *reading;
-    let mut reading = Reading { kind: kind(given.kind, 2), ..given };
-    (reading.state, reading.whole, reading.real) = (0, 0, 0.0);
-    match reading.kind {
-        0 => reading.state = truth(given.state),
-        1 => reading.whole = given.whole,
-        _ => reading.real = given.real,
-    }
-    reading
+    let kind = kind(reading.kind, 2);
+    let bits = match kind {
+        0 => u32::from(reading.bits != 0),
+        1 => reading.bits,
+        _ => words::float(reading.bits),
+    };
+    Reading { kind, bits, ..*reading }
 }
 
-pub fn plain_table(table: &Table) -> Table {
-    let mut plain = Table::zero();
-    plain.count = table.count.min(TABLE);
-    for place in 0..plain.count {
-        plain.readings[place] = plain_reading(&table.readings[place]);
-    }
-    plain
-}
-
-pub fn plain_setup(setup: &Setup) -> Setup {
-    let mut setup = *setup;
-    setup.classes[setup.binary_count.min(BINARIES)..].fill(0);
-    setup.analogs[setup.analog_count.min(ANALOGS)..].fill(AnalogSetup::zero());
-    for analog in &mut setup.analogs {
-        analog.kind = kind(analog.kind, 2);
-        if analog.kind < 2 {
-            (analog.gain, analog.offset, analog.real) = (0.0, 0.0, FloatGate::zero());
-            plain_whole_gate(&mut analog.whole);
-        } else {
-            analog.whole = WholeGate::zero();
-            plain_float_gate(&mut analog.real);
+pub fn plain_analog_setup(analog: &AnalogSetup) -> AnalogSetup {
+    let mut plain = *analog;
+    plain.kind = kind(analog.kind, 2);
+    plain.gate = kind(analog.gate, 3);
+    if plain.kind < 2 {
+        (plain.gain, plain.offset) = (0, 0);
+    } else {
+        for bits in [&mut plain.gain, &mut plain.offset, &mut plain.limit] {
+            *bits = words::float(*bits);
         }
     }
-    setup
+    if plain.gate < 2 {
+        plain.limit = 0;
+    }
+    plain
 }
 
 pub fn plain_assembly(assembly: Assembly) -> Assembly {
@@ -183,173 +124,158 @@ fn other_count(count: &mut usize, most: usize, random: &mut Random) {
     }
 }
 
-fn other_value(value: &mut Value, random: &mut Random) {
-    let given = *value;
-    *value = Value { kind: given.kind, ..Value::random(random) };
-    match given.kind {
-        0 => value.wide = given.wide,
-        1 => value.narrow = given.narrow,
-        _ => value.real = given.real,
-    }
-    other_kind(&mut value.kind, 2, random);
+/// Any bits but 0.
+fn true_bits(random: &mut Random) -> u32 {
+    let any = random_bits(random) | 1;
+    random.pick(&[1, 2, 256, 0x8000_0000, u32::MAX, any])
 }
 
-fn other_whole_gate(gate: &mut WholeGate, random: &mut Random) {
-    if gate.kind < 2 {
-        gate.limit = random.next() as u32;
-    }
-    other_kind(&mut gate.kind, 3, random);
+fn random_bits(random: &mut Random) -> u32 {
+    random.next() as u32
 }
 
-fn other_float_gate(gate: &mut FloatGate, random: &mut Random) {
-    if gate.kind < 2 {
-        gate.limit = f32::from_bits(random.next() as u32);
+/// Another NaN for a NaN.
+fn other_float(bits: u32, random: &mut Random) -> u32 {
+    match is_nan(bits) {
+        false => bits,
+        true => (0x7F80_0001 + random.below(0x7F_FFFF) as u32) | (random_bits(random) & 1 << 31),
     }
-    other_kind(&mut gate.kind, 3, random);
+}
+
+/// Other bits of what is shown: a 16-bit number at its end stands for all beyond.
+fn other_shown(shown: Shown, random: &mut Random) -> u32 {
+    match shown {
+        Shown::State(false) => 0,
+        Shown::State(true) => true_bits(random),
+        Shown::Long(value) => value as u32,
+        Shown::Short(i16::MAX) => random.pick(&[32_767, 32_768, i32::MAX]) as u32,
+        Shown::Short(i16::MIN) => random.pick(&[-32_768, -32_769, i32::MIN]) as u32,
+        Shown::Short(value) => i32::from(value) as u32,
+        Shown::Real(bits) => other_float(bits, random),
+    }
+}
+
+fn other_binary(word: u32, random: &mut Random) -> u32 {
+    Binary::of(word).word() | random_bits(random) << 26
+}
+
+fn other_analog(words: &mut [u32], random: &mut Random) {
+    let analog = Analog::of(words);
+    words.copy_from_slice(&analog.words());
+    words[0] |= random_bits(random) & 1 << 31;
+    words[1] = other_shown(analog.value, random);
+    // Kind 3 is one more float.
+    if matches!(analog.value, Shown::Real(_)) {
+        words[0] |= random_bits(random) & 1 << 25;
+    }
+    if analog.kind < 2 {
+        (words[6], words[7]) = (random_bits(random), random_bits(random));
+    } else {
+        words[0] |= random_bits(random) & 1 << 27;
+        for bits in &mut words[2..] {
+            *bits = other_float(*bits, random);
+        }
+    }
+    if analog.gate < 2 {
+        words[2] = random_bits(random);
+    }
+}
+
+fn other_event(words: &mut [u64], random: &mut Random) {
+    let event = Event::of(words[0], words[1]);
+    let [_, second] = event.words();
+    let bits = other_shown(event.shown, random);
+    let mut kind = event.shown.coded().0 as u8;
+    if kind == 2 {
+        kind = random.pick(&[2, 4, 5, 128, 255]);
+    }
+    let mut mark = u8::from(event.carried);
+    other_truth(&mut mark, random);
+    words[1] =
+        second & 0xFFFF << 32 | u64::from(bits) | u64::from(kind) << 48 | u64::from(mark) << 56;
 }
 
 pub fn other(image: &Outstation, random: &mut Random) -> Outstation {
     let mut image = *image;
-    let points = &mut image.points;
-    let (binaries, analogs) = (points.binary_count.min(BINARIES), points.analog_count.min(ANALOGS));
-    for binary in &mut points.binaries[..binaries] {
-        other_truth(&mut binary.seen, random);
-        other_truth(&mut binary.state, random);
-    }
-    for binary in &mut points.binaries[binaries..] {
-        *binary = Binary::random(random);
-    }
-    for analog in &mut points.analogs[..analogs] {
-        other_value(&mut analog.value, random);
-        other_truth(&mut analog.seen, random);
-        let measure = &mut analog.measure;
-        if measure.kind < 2 {
-            measure.real = FloatTrack::random(random);
-            other_whole_gate(&mut measure.whole.gate, random);
-        } else {
-            measure.whole = WholeTrack::random(random);
-            other_float_gate(&mut measure.real.gate, random);
-        }
-        other_kind(&mut measure.kind, 2, random);
-    }
+    let head = &mut image.head;
+    let (binaries, rest) = image.binaries.split_at_mut(head.binary_count.min(BINARIES));
+    binaries.iter_mut().for_each(|word| *word = other_binary(*word, random));
+    rest.iter_mut().for_each(|word| *word = random_bits(random));
+    let (analogs, rest) = image.analogs.split_at_mut(RECORD * head.analog_count.min(ANALOGS));
+    analogs.chunks_exact_mut(RECORD).for_each(|words| other_analog(words, random));
     // Only some: the whole array each time would take long.
-    for analog in points.analogs[analogs..].iter_mut().take(3) {
-        *analog = Analog::random(random);
-    }
-    other_count(&mut points.binary_count, BINARIES, random);
-    other_count(&mut points.analog_count, ANALOGS, random);
+    rest.iter_mut().take(3 * RECORD).for_each(|word| *word = random_bits(random));
+    let (events, rest) = image.events.split_at_mut(2 * head.event_count.min(EVENTS));
+    events.chunks_exact_mut(2).for_each(|words| other_event(words, random));
+    rest.iter_mut().take(6).for_each(|word| *word = random.next());
 
-    let buffer = &mut image.buffer;
-    let count = buffer.count.min(EVENTS);
-    for held in &mut buffer.held[..count] {
-        other_truth(&mut held.carried, random);
-        let shown = &mut held.event.shown;
-        if shown.kind == 0 {
-            shown.value = Value::random(random);
-            other_truth(&mut shown.state, random);
-        } else {
-            shown.state = random.byte();
-            other_value(&mut shown.value, random);
-        }
-        other_kind(&mut shown.kind, 1, random);
+    if head.waiting == 0 {
+        (head.wait_time, head.wait_sequence) = (random.next(), random.byte());
+        (head.showed_overflow, head.dropped_since) = (random.byte(), random.byte());
     }
-    for held in buffer.held[count..].iter_mut().take(3) {
-        *held = Held::random(random);
-    }
-    other_count(&mut buffer.count, EVENTS, random);
-    other_truth(&mut buffer.overflow, random);
-
-    let session = &mut image.session;
-    other_truth(&mut session.restarted, random);
-    let wait = &mut session.wait;
-    if wait.kind == 0 {
-        *wait = Wait { kind: 0, ..Wait::random(random) };
+    if head.request_kept == 0 {
+        (head.request_len, head.answer_len) = (random.next() as usize, random.next() as usize);
+        image.request[random.below(FRAGMENT)] = random.byte();
+        image.answer[random.below(KEPT_ANSWER)] = random.byte();
     } else {
-        other_truth(&mut wait.kind, random);
-        other_truth(&mut wait.shown, random);
-        other_truth(&mut wait.since, random);
+        if let Some(byte) = image.request.get_mut(head.request_len) {
+            *byte = random.byte();
+        }
+        if let Some(byte) = image.answer.get_mut(head.answer_len) {
+            *byte = random.byte();
+        }
+        other_count(&mut head.request_len, FRAGMENT, random);
+        other_count(&mut head.answer_len, KEPT_ANSWER, random);
     }
-    let last = &mut session.last;
-    if last.held == 0 {
-        (last.request_len, last.answer_len) = (random.next() as usize, random.next() as usize);
-        last.request[random.below(2048)] = random.byte();
+    if head.latch_armed == 0 {
+        (head.latch_time, head.latch_sequence) = (random.next(), random.byte());
+        head.latch_len = random.next() as usize;
+        image.latch_objects.iter_mut().for_each(|byte| *byte = random.byte());
     } else {
-        other_truth(&mut last.held, random);
-        if last.request_len < last.request.len() {
-            last.request[last.request_len] = random.byte();
+        if let Some(byte) = image.latch_objects.get_mut(head.latch_len) {
+            *byte = random.byte();
         }
-        if last.answer_len < last.answer.len() {
-            last.answer[last.answer_len] = random.byte();
-        }
-        other_count(&mut last.request_len, 2048, random);
-        other_count(&mut last.answer_len, 113, random);
+        other_count(&mut head.latch_len, OBJECTS, random);
     }
-    let latch = &mut session.latch;
-    if latch.armed == 0 {
-        *latch = Latch { armed: 0, ..Latch::random(random) };
-    } else {
-        other_truth(&mut latch.armed, random);
-        if latch.len < latch.objects.len() {
-            latch.objects[latch.len] = random.byte();
-        }
-        other_count(&mut latch.len, 109, random);
+    other_count(&mut head.binary_count, BINARIES, random);
+    other_count(&mut head.analog_count, ANALOGS, random);
+    other_count(&mut head.event_count, EVENTS, random);
+    for truth in [
+        &mut head.overflow,
+        &mut head.restarted,
+        &mut head.waiting,
+        &mut head.showed_overflow,
+        &mut head.dropped_since,
+        &mut head.request_kept,
+        &mut head.latch_armed,
+    ] {
+        other_truth(truth, random);
     }
     image
 }
 
 pub fn other_reading(reading: &Reading, random: &mut Random) -> Reading {
     let mut reading = *reading;
-    if reading.kind != 0 {
-        reading.state = random.byte();
+    match reading.kind {
+        0 if reading.bits != 0 => reading.bits = true_bits(random),
+        0 | 1 => {}
+        _ => reading.bits = other_float(reading.bits, random),
     }
-    if reading.kind != 1 {
-        reading.whole = random.next() as i32;
-    }
-    if reading.kind < 2 {
-        reading.real = f32::from_bits(random.next() as u32);
-    }
-    other_truth(&mut reading.state, random);
     other_kind(&mut reading.kind, 2, random);
     reading
 }
 
-pub fn other_table(table: &Table, random: &mut Random) -> Table {
-    let mut table = *table;
-    let count = table.count.min(TABLE);
-    for reading in &mut table.readings[..count] {
-        *reading = other_reading(reading, random);
+pub fn other_analog_setup(analog: &AnalogSetup, random: &mut Random) -> AnalogSetup {
+    let mut analog = *analog;
+    if analog.kind < 2 {
+        (analog.gain, analog.offset) = (random_bits(random), random_bits(random));
     }
-    for reading in table.readings[count..].iter_mut().take(3) {
-        *reading = Reading::random(random);
+    if analog.gate < 2 {
+        analog.limit = random_bits(random);
     }
-    other_count(&mut table.count, TABLE, random);
-    table
-}
-
-pub fn other_setup(setup: &Setup, random: &mut Random) -> Setup {
-    let mut setup = *setup;
-    for class in &mut setup.classes[setup.binary_count.min(BINARIES)..] {
-        *class = random.byte();
-    }
-    for (place, analog) in setup.analogs.iter_mut().enumerate() {
-        if place >= setup.analog_count {
-            *analog = AnalogSetup::random(random);
-        } else if analog.kind < 2 {
-            let given = *analog;
-            *analog = AnalogSetup {
-                whole: given.whole,
-                class_: given.class_,
-                kind: given.kind,
-                ..AnalogSetup::random(random)
-            };
-            other_whole_gate(&mut analog.whole, random);
-        } else {
-            analog.whole = WholeGate::random(random);
-            other_float_gate(&mut analog.real, random);
-            other_kind(&mut analog.kind, 2, random);
-        }
-    }
-    setup
+    other_kind(&mut analog.kind, 2, random);
+    other_kind(&mut analog.gate, 3, random);
+    analog
 }
 
 pub fn other_assembly(assembly: Assembly, random: &mut Random) -> Assembly {

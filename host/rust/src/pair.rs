@@ -1,5 +1,6 @@
-//! Both sides of every call: the library over its images, the second program over its own state.
-//! After each call the answers, all lent bytes with a border round them, and the states are compared.
+//! Both sides of every call: the library over a head and lent memory, the second program over its own
+//! state. After each call the answers, all lent bytes with a border round them, and the states are
+//! compared.
 
 use std::collections::BTreeMap;
 
@@ -9,13 +10,14 @@ use reference::frame;
 use reference::generate::Random;
 use reference::link::{self, Heard, LineRecord};
 use reference::outstation::Outstation;
-use reference::points::{Form, Gate, Reading, Taken};
+use reference::points::{Form, Reading, Taken};
 use reference::script::{Call, LENT};
 use reference::transport::{Assembled, Unfinished};
 
 use crate::header;
 use crate::meaning;
-use crate::state::{self, equal};
+use crate::memory::Memory;
+use crate::state::{self, equal, gate_parts};
 
 /// What was reached, and how often.
 #[derive(Default)]
@@ -124,8 +126,10 @@ pub struct Pair {
     pub seen: Seen,
     pub second: Option<Outstation>,
     pub record: LineRecord,
-    setup: header::Setup,
+    setup: SetupImage,
+    /// The state that the library left: its head, and what the lent arrays held.
     pub image: header::Outstation,
+    pub memory: Memory,
     line: header::Line,
     pub assembly: header::Assembly,
     sender: header::Sender,
@@ -145,17 +149,19 @@ fn reply_control(control: u8) -> u8 {
 }
 
 impl Pair {
-    pub fn new(seed: u64, other: bool) -> Pair {
+    /// `exact`: the outstation's arrays in heap blocks of their exact size.
+    pub fn new(seed: u64, exact: bool) -> Pair {
         let mut random = Random(seed);
         let together = Lent::new(LENT, &mut random);
         Pair {
+            image: header::Outstation::random(&mut random),
+            memory: Memory::new(exact),
             random,
-            other,
+            other: false,
             seen: Seen::default(),
             second: None,
             record: LineRecord::default(),
-            setup: header::Setup::zero(),
-            image: header::Outstation::zero(),
+            setup: SetupImage::default(),
             line: header::Line::zero(),
             assembly: header::Assembly::zero(),
             sender: header::Sender::zero(),
@@ -203,18 +209,18 @@ impl Pair {
         state::compare(&self.image, second)
     }
 
-    /// The image to give: the one kept, or another of the same meaning.
-    fn given(&mut self) -> header::Outstation {
+    /// Gives the library another image of the same meaning, where it is to have one.
+    fn give(&mut self) {
         if self.other {
-            meaning::other(&self.image, &mut self.random)
-        } else {
-            self.image
+            self.image = meaning::other(&self.image, &mut self.random);
         }
     }
 
-    /// Keeps the image that a call gave back. Where other numbers were given, others may come back.
-    fn keep(&mut self, image: &header::Outstation) {
-        self.image = if self.other { meaning::plain(image) } else { *image };
+    /// Where other numbers were given, others may be left.
+    fn keep(&mut self) {
+        if self.other {
+            self.image = meaning::plain(&self.image);
+        }
     }
 
     // ---- setup
@@ -235,38 +241,43 @@ impl Pair {
         match &self.second {
             Some(second) => state::compare(&self.image, second),
             None => {
-                let points = &self.image.points;
-                let left = (points.binary_count, points.analog_count, self.image.outputs);
+                let head = &self.image.head;
+                let left = (head.binary_count, head.analog_count, head.outputs);
                 equal("what a refused setup leaves", left, (0, 0, 0))
             }
         }
     }
 
     fn restart(&mut self, expected: u8) -> Result<(), String> {
-        let given = if self.other {
-            meaning::other_setup(&self.setup, &mut self.random)
-        } else {
-            self.setup
-        };
-        let restarted = header::restart(&given);
-        self.keep(&restarted.image);
+        let mut setups = self.setup.analogs.clone();
+        if self.other {
+            for setup in &mut setups {
+                *setup = meaning::other_analog_setup(setup, &mut self.random);
+            }
+        }
+        // Whatever the head and the arrays held.
+        self.image.head = header::Head::random(&mut self.random);
+        let SetupImage { setup, classes, .. } = &self.setup;
+        let refusal = self.memory.restart(&mut self.image, *setup, classes, &setups)?;
+        self.keep();
         self.assembly = header::Assembly::zero();
         self.sender = header::Sender::zero();
-        self.seen.refusal(restarted.refusal);
-        equal("refusal", restarted.refusal, expected)
+        self.seen.refusal(refusal);
+        equal("refusal", refusal, expected)
     }
 
     // ---- readings
 
     fn reading(&mut self, second: &mut Outstation, reading: Reading) -> Result<(), String> {
         let mut given = reading_image(&reading);
-        let image = self.given();
+        self.give();
         // The second program knows points to 255 only; there are none from 64 on.
         let past = header::Reading { point: given.point + 256, ..given };
         let expected = if second.test_time(reading.time).is_err() { 1 } else { 2 };
-        let took = header::reading(&image, &past);
-        self.keep(&took.image);
-        equal("refusal of a point past 255", took.refusal, expected)?;
+        let before = self.image;
+        let refusal = self.memory.reading(&mut self.image, past)?;
+        self.keep();
+        equal("refusal of a point past 255", refusal, expected)?;
         state::compare(&self.image, second)?;
 
         let full = second.events.held.len() == header::EVENTS;
@@ -275,34 +286,34 @@ impl Pair {
         if self.other {
             given = meaning::other_reading(&given, &mut self.random);
         }
-        let took = header::reading(&image, &given);
-        self.keep(&took.image);
-        self.seen.refusal(took.refusal);
+        self.image = before;
+        let refusal = self.memory.reading(&mut self.image, given)?;
+        self.keep();
+        self.seen.refusal(refusal);
         self.seen.note("event dropped", full && second.events.warning && !overflow);
-        equal("refusal", took.refusal, expected)
+        equal("refusal", refusal, expected)
     }
 
-    fn table(&mut self, second: &mut Outstation, readings: &[Reading]) -> Result<(), String> {
-        let mut given = header::Table::zero();
-        given.count = readings.len();
-        for (place, reading) in given.readings.iter_mut().zip(readings) {
-            *place = reading_image(reading);
-        }
-        let image = self.given();
+    pub fn table(&mut self, second: &mut Outstation, readings: &[Reading]) -> Result<(), String> {
+        let mut given: Vec<header::Reading> = readings.iter().map(reading_image).collect();
+        self.give();
         if self.other {
-            given = meaning::other_table(&given, &mut self.random);
+            for reading in &mut given {
+                *reading = meaning::other_reading(reading, &mut self.random);
+            }
         }
         let overflow = second.events.warning;
-        let (taken, refusal) = second.table(readings);
-        let took = header::table(&image, &given);
-        self.keep(&took.image);
-        self.seen.refusal(took.refusal);
-        let middle = took.refusal != 0 && 0 < took.taken && took.taken + 1 < readings.len();
+        let (taken, refused) = second.table(readings);
+        let (count, refusal) = self.memory.table(&mut self.image, &given)?;
+        self.keep();
+        self.seen.refusal(refusal);
+        let middle = refusal != 0 && 0 < count && count + 1 < readings.len();
         self.seen.note("table stopped in the middle", middle);
-        self.seen.note("table of 128 readings taken", took.taken == header::TABLE);
+        self.seen.note("table of 128 readings taken", count == 128);
+        self.seen.note("table of more than 128 readings taken", count > 128);
         self.seen.note("event dropped", !overflow && second.events.warning);
-        self.seen.note("256 events held", self.image.buffer.count == header::EVENTS);
-        equal("taken, refusal", (took.taken, took.refusal), (taken, refusal.unwrap_or(0)))
+        self.seen.note("256 events held", self.image.head.event_count == header::EVENTS);
+        equal("taken, refusal", (count, refusal), (taken, refused.unwrap_or(0)))
     }
 
     // ---- fragments
@@ -314,15 +325,16 @@ impl Pair {
         len: usize,
         bytes: &[u8],
     ) -> Result<(), String> {
-        let image = self.given();
+        self.give();
         let input = Input::new(bytes, &mut self.random);
         let mut lent = Lent::new(len, &mut self.random);
         let (wait, latch) = (second.wait.clone(), second.latch.clone());
         let overflow = second.events.warning;
-        let answer = header::fragment(&image, time, &input, lent.library());
+        let (answer, handed) =
+            self.memory.fragment(&mut self.image, time, &input, lent.library())?;
         let expected = second.fragment(time, bytes, lent.second());
-        self.keep(&answer.image);
-        self.seen.refusal(answer.answer.refusal);
+        self.keep();
+        self.seen.refusal(answer.refusal);
         same_bytes(&input, bytes, 0)?;
         lent.compare()?;
         let (kind, length, refusal, operated) = match &expected {
@@ -331,13 +343,12 @@ impl Pair {
             Ok(Outcome::Confirmed) => (2, 0, 0, &[][..]),
             Err(refusal) => (3, 0, *refusal, &[][..]),
         };
-        let given = &answer.answer;
         equal(
             "kind, length, refusal",
-            (given.kind, given.length, given.refusal),
+            (answer.kind, answer.length, answer.refusal),
             (kind, length, refusal),
         )?;
-        same_operated(&answer.operated, operated)?;
+        same_operated(&handed, operated)?;
 
         let accepted = expected.is_ok();
         let function = bytes.get(1).copied().unwrap_or(255);
@@ -385,10 +396,11 @@ impl Pair {
         let input = Input::new(user, &mut self.random);
         // The same as a frame, as data to a master and, without user data, as a reply.
         type Write<'a> = &'a dyn Fn(&mut [u8]) -> header::Wrote;
+        let station = header::Station { own: source, master: destination };
         let writes: [(Write, u8, &[u8]); 3] = [
             (&|out| header::frame_write(out, control, destination, source, &input), control, user),
-            (&|out| header::link_data(out, source, destination, &input), 0x44, user),
-            (&|out| header::link_reply(out, source, destination, control), reply_control(control), &[]),
+            (&|out| header::link_data(out, station, &input), 0x44, user),
+            (&|out| header::link_reply(out, station, control), reply_control(control), &[]),
         ];
         for (write, control, user) in writes {
             let mut lent = Lent::new(len, &mut self.random);
@@ -437,14 +449,13 @@ impl Pair {
         let (own, master) = (second.setup.own, second.setup.master);
         let input = Input::new(bytes, &mut self.random);
         let mut lent = Lent::new(len, &mut self.random);
-        let link = header::link_receive(self.line, own, master, &input, lent.library());
+        let station = header::Station { own, master };
+        let taken = header::link_receive(&mut self.line, station, &input, lent.library());
         let expected = link::station(own, master, &mut self.record, bytes, lent.second());
-        self.line = link.line;
-        self.seen.refusal(link.taken.refusal);
+        self.seen.refusal(taken.refusal);
         same_bytes(&input, bytes, 0)?;
         lent.compare()?;
         equal("line record", counts(&self.line), self.record.counts)?;
-        let taken = &link.taken;
         let given = (taken.kind, taken.length, taken.control, taken.refusal);
         match expected {
             Ok(Heard::UserData(length)) => {
@@ -454,7 +465,7 @@ impl Pair {
                 self.seen.note("reply", true);
                 equal("kind, length, control, refusal", given, (1, 0, control, 0))?;
                 let mut lent = Lent::new(header::FRAME, &mut self.random);
-                let wrote = header::link_reply(lent.library(), own, master, control);
+                let wrote = header::link_reply(lent.library(), station, control);
                 self.same_wrote(wrote, control, master, own, &[], &mut lent)
             }
             Err(refusal) => equal("kind, length, control, refusal", given, (2, 0, 0, refusal)),
@@ -582,55 +593,60 @@ fn counts(line: &header::Line) -> [u16; 7] {
 }
 
 pub fn reading_image(reading: &Reading) -> header::Reading {
-    let mut image = header::Reading::zero();
-    image.time = reading.time;
-    image.point = u16::from(reading.index);
-    image.flags = reading.flags;
-    match reading.value {
-        Taken::Binary(state) => (image.kind, image.state) = (0, u8::from(state)),
-        Taken::Whole(whole) => (image.kind, image.whole) = (1, whole),
-        Taken::Float(real) => (image.kind, image.real) = (2, real),
-    }
-    image
+    let (kind, bits) = match reading.value {
+        Taken::Binary(state) => (0, u32::from(state)),
+        Taken::Whole(whole) => (1, whole as u32),
+        Taken::Float(real) => (2, real.to_bits()),
+    };
+    let point = u16::from(reading.index);
+    header::Reading { time: reading.time, bits, point, kind, flags: reading.flags }
 }
 
-/// None where a limit is not one that the struct can hold.
-pub fn setup_image(setup: &reference::outstation::Setup) -> Option<header::Setup> {
-    let mut image = header::Setup::zero();
-    image.own = setup.own;
-    image.master = setup.master;
-    image.arm_time = setup.arm_time;
-    image.confirm_time = setup.confirm_time;
-    image.outputs = u16::from(setup.outputs);
-    image.binary_count = usize::from(setup.binary_count);
-    image.analog_count = usize::from(setup.analog_count);
-    image.classes[..setup.binaries.len()].copy_from_slice(&setup.binaries);
-    for (place, &(class, form)) in image.analogs.iter_mut().zip(&setup.analogs) {
-        place.class_ = class;
-        match form {
+/// A setup as the library takes it.
+#[derive(Clone)]
+pub struct SetupImage {
+    pub setup: header::Setup,
+    pub classes: Vec<u8>,
+    pub analogs: Vec<header::AnalogSetup>,
+}
+
+impl Default for SetupImage {
+    fn default() -> Self {
+        SetupImage { setup: header::Setup::zero(), classes: Vec::new(), analogs: Vec::new() }
+    }
+}
+
+/// None where a limit is not one that the struct can hold. Points past the second program's lists
+/// are all 0.
+pub fn setup_image(setup: &reference::outstation::Setup) -> Option<SetupImage> {
+    let mut image = SetupImage {
+        setup: header::Setup {
+            arm_time: setup.arm_time,
+            confirm_time: setup.confirm_time,
+            own: setup.own,
+            master: setup.master,
+            outputs: u16::from(setup.outputs),
+        },
+        classes: setup.binaries.clone(),
+        analogs: Vec::new(),
+    };
+    for &(class_, form) in &setup.analogs {
+        image.analogs.push(match form {
             Form::Whole32(gate) | Form::Whole16(gate) => {
-                place.kind = u8::from(matches!(form, Form::Whole16(_)));
-                place.whole = match gate {
-                    Gate::Never => header::WholeGate { kind: 0, limit: 0 },
-                    Gate::AnyChange => header::WholeGate { kind: 1, limit: 0 },
-                    Gate::Beyond(limit) => {
-                        header::WholeGate { kind: 2, limit: u32::try_from(limit).ok()? }
-                    }
-                    Gate::Summed(limit) => {
-                        header::WholeGate { kind: 3, limit: u32::try_from(limit).ok()? }
-                    }
-                };
+                let (gate, limit) = gate_parts(gate);
+                let limit = u32::try_from(limit.unwrap_or(0)).ok()?;
+                let kind = u8::from(matches!(form, Form::Whole16(_)));
+                header::AnalogSetup { limit, gain: 0, offset: 0, class_, kind, gate }
             }
             Form::Float { gain, offset, gate } => {
-                (place.kind, place.gain, place.offset) = (2, gain, offset);
-                place.real = match gate {
-                    Gate::Never => header::FloatGate { kind: 0, limit: 0.0 },
-                    Gate::AnyChange => header::FloatGate { kind: 1, limit: 0.0 },
-                    Gate::Beyond(limit) => header::FloatGate { kind: 2, limit },
-                    Gate::Summed(limit) => header::FloatGate { kind: 3, limit },
-                };
+                let (gate, limit) = gate_parts(gate);
+                let limit = limit.unwrap_or(0.0).to_bits();
+                let (gain, offset) = (gain.to_bits(), offset.to_bits());
+                header::AnalogSetup { limit, gain, offset, class_, kind: 2, gate }
             }
-        }
+        });
     }
+    image.classes.resize(usize::from(setup.binary_count), 0);
+    image.analogs.resize(usize::from(setup.analog_count), header::AnalogSetup::zero());
     Some(image)
 }

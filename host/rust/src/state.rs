@@ -1,10 +1,10 @@
-//! The library's image of the outstation against the second program's state, field by field.
+//! The library's state, head and lent words, against the second program's, field by field.
 
-use reference::events::Event;
 use reference::outstation::Outstation;
 use reference::points::{Form, Gate, Past, Value};
 
-use crate::header;
+use crate::header::{self, Head, FRAGMENT, KEPT_ANSWER, OBJECTS};
+use crate::words::{Analog, Binary, Event, Shown, RECORD};
 
 /// An error that names both sides.
 pub fn equal<T: PartialEq + std::fmt::Debug>(
@@ -19,87 +19,73 @@ pub fn equal<T: PartialEq + std::fmt::Debug>(
 }
 
 pub fn compare(image: &header::Outstation, second: &Outstation) -> Result<(), String> {
-    let setup = &second.setup;
-    equal("arm time", image.arm_time, u64::from(setup.arm_time))?;
-    equal("confirm time", image.confirm_time, u64::from(setup.confirm_time))?;
-    equal("outputs", image.outputs, u16::from(setup.outputs))?;
-    equal("clock", image.clock, second.clock)?;
-    points(&image.points, second)?;
-    buffer(&image.buffer, second)?;
-    session(&image.session, second)
+    let (head, setup) = (&image.head, &second.setup);
+    equal("arm time", head.arm_time, u64::from(setup.arm_time))?;
+    equal("confirm time", head.confirm_time, u64::from(setup.confirm_time))?;
+    equal("outputs", head.outputs, u16::from(setup.outputs))?;
+    equal("clock", head.clock, second.clock)?;
+    points(image, second)?;
+    events(image, second)?;
+    equal("restarted", head.restarted != 0, second.restarted)?;
+    wait(head, second)?;
+    latch(image, second)?;
+    last_request(image, second)
 }
 
-fn points(image: &header::Points, second: &Outstation) -> Result<(), String> {
-    equal("binaries", image.binary_count, second.binaries.len())?;
-    for (place, (one, two)) in image.binaries.iter().zip(&second.binaries).enumerate() {
-        let (state, flags) = two.shown();
-        let library = (one.class_, truth(one.seen)?, truth(one.state)?, one.flags);
-        equal(
-            &format!("binary {place}"),
-            library,
-            (two.class, two.latest.is_some(), state, flags),
-        )?;
-        // Flags last reported: every change of them is reported.
-        if two.latest.is_some() {
-            equal(&format!("flags reported of binary {place}"), one.reported, flags)?;
-        }
-    }
-    equal("analogs", image.analog_count, second.analogs.len())?;
-    for (place, (one, two)) in image.analogs.iter().zip(&second.analogs).enumerate() {
-        analog(one, two).map_err(|found| format!("analog {place}: {found}"))?;
-    }
-    Ok(())
+/// A point as the library keeps it. `reported`: the flags last reported of a point without a reading,
+/// which are not said.
+fn binary_of(two: &reference::points::Binary, reported: u8) -> Binary {
+    let (state, flags) = two.shown();
+    let seen = two.latest.is_some();
+    // Every change of flags is reported.
+    Binary { class: two.class, flags, reported: if seen { flags } else { reported }, seen, state }
 }
 
-fn analog(one: &header::Analog, two: &reference::points::Analog) -> Result<(), String> {
+fn analog_of(two: &reference::points::Analog, reported: u8) -> Analog {
     let (value, flags) = two.shown();
-    equal("class", one.class_, two.class)?;
-    equal("seen", truth(one.seen)?, two.latest.is_some())?;
-    equal("value", shown_value(&one.value)?, bits(value))?;
-    equal("flags", one.flags, flags)?;
-    let kind = match two.form {
-        Form::Whole32(_) => 0,
-        Form::Whole16(_) => 1,
-        Form::Float { .. } => 2,
-    };
-    equal("kind", one.measure.kind, kind)?;
-    match two.form {
+    let (kind, (gate, limit), bits, reported_flags, [gain, offset]) = match two.form {
         Form::Whole32(gate) | Form::Whole16(gate) => {
-            let track = &one.measure.whole;
-            let (kind, limit) = gate_parts(gate);
-            equal("gate", track.gate.kind, kind)?;
-            if let Some(limit) = limit {
-                equal("limit", i64::from(track.gate.limit), limit)?;
-            }
-            let fresh = Past { reported: 0, reported_flags: one.reported, previous: 0, sum: 0 };
+            let fresh = Past { reported: 0, reported_flags: reported, previous: 0, sum: 0 };
             let past = two.whole.unwrap_or(fresh);
-            equal("value reported", i64::from(track.reported), past.reported)?;
-            equal("previous value", i64::from(track.previous), past.previous)?;
-            equal("sum", i64::from(track.sum), past.sum)?;
-            equal("flags reported", one.reported, past.reported_flags)
+            // 32 bits: signed readings, a sum up to its limit.
+            let whole = |number: i64| match u32::try_from(number) {
+                Ok(bits) => bits,
+                Err(_) => number as i32 as u32,
+            };
+            let (gate, limit) = gate_parts(gate);
+            let bits = [past.reported, past.previous, past.sum].map(whole);
+            let kind = u8::from(matches!(two.form, Form::Whole16(_)));
+            (kind, (gate, limit.map(whole)), bits, past.reported_flags, [0, 0])
         }
         Form::Float { gain, offset, gate } => {
-            let track = &one.measure.real;
-            let (kind, limit) = gate_parts(gate);
-            equal("gate", track.gate.kind, kind)?;
-            if let Some(limit) = limit {
-                equal("limit", track.gate.limit.to_bits(), limit.to_bits())?;
-            }
-            equal("gain", track.gain.to_bits(), gain.to_bits())?;
-            equal("offset", track.offset.to_bits(), offset.to_bits())?;
-            let fresh =
-                Past { reported: 0.0, reported_flags: one.reported, previous: 0.0, sum: 0.0 };
+            let fresh = Past { reported: 0.0, reported_flags: reported, previous: 0.0, sum: 0.0 };
             let past = two.float.unwrap_or(fresh);
-            equal("value reported", track.reported.to_bits(), past.reported.to_bits())?;
-            equal("previous value", track.previous.to_bits(), past.previous.to_bits())?;
-            equal("sum", track.sum.to_bits(), past.sum.to_bits())?;
-            equal("flags reported", one.reported, past.reported_flags)
+            let (gate, limit) = gate_parts(gate);
+            let bits = [past.reported, past.previous, past.sum].map(f32::to_bits);
+            let scale = [gain, offset].map(f32::to_bits);
+            (2, (gate, limit.map(f32::to_bits)), bits, past.reported_flags, scale)
         }
+    };
+    let [reported, previous, sum] = bits;
+    Analog {
+        class: two.class,
+        flags,
+        reported_flags,
+        seen: two.latest.is_some(),
+        value: shown(value),
+        kind,
+        gate,
+        limit: limit.unwrap_or(0),
+        reported,
+        previous,
+        sum,
+        gain,
+        offset,
     }
 }
 
-/// The header's number of a gate, and its limit if it has one.
-fn gate_parts<L>(gate: Gate<L>) -> (u8, Option<L>) {
+/// The number of a gate, and its limit if it has one.
+pub fn gate_parts<L>(gate: Gate<L>) -> (u8, Option<L>) {
     match gate {
         Gate::Never => (0, None),
         Gate::AnyChange => (1, None),
@@ -108,92 +94,149 @@ fn gate_parts<L>(gate: Gate<L>) -> (u8, Option<L>) {
     }
 }
 
-fn buffer(image: &header::Buffer, second: &Outstation) -> Result<(), String> {
-    let held = &second.events.held;
-    equal("events held", image.count, held.len())?;
-    equal("overflow", truth(image.overflow)?, second.events.warning)?;
+/// The held events, oldest first.
+fn events_of(second: &Outstation) -> impl Iterator<Item = Event> + '_ {
     let carried = second.wait.as_ref().map_or(&[][..], |wait| &wait.carried);
     let mut carried = carried.iter().peekable();
-    for (place, (one, two)) in image.held.iter().zip(held).enumerate() {
-        let is_carried = carried.next_if_eq(&&two.number).is_some();
-        event(one, two, is_carried).map_err(|found| format!("event {place}: {found}"))?;
+    second.events.held.iter().map(move |two| Event {
+        time: two.time,
+        point: u16::from(two.index),
+        shown: shown(two.value),
+        flags: two.flags,
+        class: two.class,
+        carried: carried.next_if_eq(&&two.number).is_some(),
+    })
+}
+
+fn points(image: &header::Outstation, second: &Outstation) -> Result<(), String> {
+    equal("binaries", image.head.binary_count, second.binaries.len())?;
+    for (place, (&word, two)) in image.binaries.iter().zip(&second.binaries).enumerate() {
+        let one = Binary::of(word);
+        let expected = binary_of(two, one.reported);
+        if one != expected {
+            return equal(&format!("binary {place}"), one, expected);
+        }
+    }
+    equal("analogs", image.head.analog_count, second.analogs.len())?;
+    let words = image.analogs.chunks_exact(RECORD);
+    for (place, (words, two)) in words.zip(&second.analogs).enumerate() {
+        let one = Analog::of(words);
+        let expected = analog_of(two, one.reported_flags);
+        if one != expected {
+            return equal(&format!("analog {place}"), one, expected);
+        }
     }
     Ok(())
 }
 
-fn event(one: &header::Held, two: &Event, carried: bool) -> Result<(), String> {
-    equal("carried", truth(one.carried)?, carried)?;
-    let event = &one.event;
-    let shown = match event.shown.kind {
-        0 => (0, u32::from(truth(event.shown.state)?)),
-        1 => shown_value(&event.shown.value)?,
-        kind => return Err(format!("kind {kind} of what is shown")),
-    };
-    equal("what is shown", shown, bits(two.value))?;
-    let library = (event.point, event.flags, event.class_, event.time);
-    equal(
-        "point, flags, class, time",
-        library,
-        (u16::from(two.index), two.flags, two.class, two.time),
-    )
+fn events(image: &header::Outstation, second: &Outstation) -> Result<(), String> {
+    equal("events held", image.head.event_count, second.events.held.len())?;
+    equal("overflow", image.head.overflow != 0, second.events.warning)?;
+    for (place, (words, expected)) in
+        image.events.chunks_exact(2).zip(events_of(second)).enumerate()
+    {
+        let one = Event::of(words[0], words[1]);
+        if one != expected {
+            return equal(&format!("event {place}"), one, expected);
+        }
+    }
+    Ok(())
 }
 
-fn session(image: &header::Session, second: &Outstation) -> Result<(), String> {
-    equal("restarted", truth(image.restarted)?, second.restarted)?;
-    let wait = &image.wait;
-    let wait = match wait.kind {
-        0 => None,
-        1 => Some((wait.sequence, wait.time, truth(wait.shown)?, truth(wait.since)?)),
-        kind => return Err(format!("kind {kind} of wait")),
-    };
+fn wait(head: &Head, second: &Outstation) -> Result<(), String> {
+    let wait = (head.waiting != 0).then_some((
+        head.wait_sequence,
+        head.wait_time,
+        head.showed_overflow != 0,
+        head.dropped_since != 0,
+    ));
     let expected =
         second.wait.as_ref().map(|w| (w.sequence, w.time, w.showed_warning, w.dropped_since));
-    equal("wait", wait, expected)?;
-    let latch = &image.latch;
-    let latch = truth(latch.armed)?.then(|| {
-        (latch.sequence, latch.time, latch.objects[..latch.len.min(latch.objects.len())].to_vec())
-    });
-    let expected = second.latch.as_ref().map(|l| (l.sequence, l.time, l.objects.clone()));
-    equal("latch", latch, expected)?;
-    let last = &image.last;
-    let last = truth(last.held)?.then(|| {
-        (
-            &last.request[..last.request_len.min(last.request.len())],
-            &last.answer[..last.answer_len.min(last.answer.len())],
-        )
-    });
-    // A READ is never a repeat: the library does not keep its answer.
-    let expected = second.last_request.as_ref().map(|r| {
-        let answer = r.answer.as_deref().filter(|_| r.bytes[1] != 1);
-        (&r.bytes[..], answer.unwrap_or(&[]))
-    });
-    equal("last request", last, expected)
+    equal("wait", wait, expected)
 }
 
-/// What the library writes for a truth is 0 or 1.
-fn truth(number: u8) -> Result<bool, String> {
-    match number {
-        0 => Ok(false),
-        1 => Ok(true),
-        other => Err(format!("a truth of {other}")),
+fn latch(image: &header::Outstation, second: &Outstation) -> Result<(), String> {
+    let head = &image.head;
+    let latch = (head.latch_armed != 0).then(|| {
+        let objects = &image.latch_objects[..head.latch_len.min(OBJECTS)];
+        (head.latch_sequence, head.latch_time, objects)
+    });
+    let expected = second.latch.as_ref().map(|l| (l.sequence, l.time, &l.objects[..]));
+    equal("latch", latch, expected)
+}
+
+fn last_request(image: &header::Outstation, second: &Outstation) -> Result<(), String> {
+    let head = &image.head;
+    let last = (head.request_kept != 0).then(|| {
+        let request = &image.request[..head.request_len.min(FRAGMENT)];
+        (request, &image.answer[..head.answer_len.min(KEPT_ANSWER)])
+    });
+    equal("last request", last, last_of(second))
+}
+
+/// The last request and its answer. A READ is never a repeat: the library does not keep its answer.
+fn last_of(second: &Outstation) -> Option<(&[u8], &[u8])> {
+    let request = second.last_request.as_ref()?;
+    let answer = request.answer.as_deref().filter(|_| request.bytes[1] != 1);
+    Some((&request.bytes, answer.unwrap_or(&[])))
+}
+
+// ---- the second program's state as a plain image
+
+pub fn head_of(second: &Outstation) -> Head {
+    let mut head = Head::zero();
+    head.arm_time = u64::from(second.setup.arm_time);
+    head.confirm_time = u64::from(second.setup.confirm_time);
+    head.clock = second.clock;
+    head.binary_count = second.binaries.len();
+    head.analog_count = second.analogs.len();
+    head.event_count = second.events.held.len();
+    head.outputs = u16::from(second.setup.outputs);
+    head.overflow = u8::from(second.events.warning);
+    head.restarted = u8::from(second.restarted);
+    if let Some(wait) = &second.wait {
+        (head.waiting, head.wait_sequence, head.wait_time) = (1, wait.sequence, wait.time);
+        head.showed_overflow = u8::from(wait.showed_warning);
+        head.dropped_since = u8::from(wait.dropped_since);
     }
-}
-
-/// A value's kind (0 for a state) and its bits.
-fn shown_value(value: &header::Value) -> Result<(u8, u32), String> {
-    match value.kind {
-        0 => Ok((1, value.wide as u32)),
-        1 => Ok((2, i32::from(value.narrow) as u32)),
-        2 => Ok((5, value.real.to_bits())),
-        kind => Err(format!("kind {kind} of a value")),
+    if let Some((request, answer)) = last_of(second) {
+        head.request_kept = 1;
+        (head.request_len, head.answer_len) = (request.len(), answer.len());
     }
+    if let Some(latch) = &second.latch {
+        (head.latch_armed, head.latch_sequence, head.latch_time) = (1, latch.sequence, latch.time);
+        head.latch_len = latch.objects.len();
+    }
+    head
 }
 
-fn bits(value: Value) -> (u8, u32) {
+pub fn image_of(second: &Outstation) -> header::Outstation {
+    let mut image = header::Outstation::zero();
+    image.head = head_of(second);
+    for (word, two) in image.binaries.iter_mut().zip(&second.binaries) {
+        *word = binary_of(two, 0).word();
+    }
+    for (words, two) in image.analogs.chunks_exact_mut(RECORD).zip(&second.analogs) {
+        words.copy_from_slice(&analog_of(two, 0).words());
+    }
+    for (words, event) in image.events.chunks_exact_mut(2).zip(events_of(second)) {
+        words.copy_from_slice(&event.words());
+    }
+    if let Some((request, answer)) = last_of(second) {
+        image.request[..request.len()].copy_from_slice(request);
+        image.answer[..answer.len()].copy_from_slice(answer);
+    }
+    if let Some(latch) = &second.latch {
+        image.latch_objects[..latch.objects.len()].copy_from_slice(&latch.objects);
+    }
+    image
+}
+
+fn shown(value: Value) -> Shown {
     match value {
-        Value::State(state) => (0, u32::from(state)),
-        Value::Whole32(value) => (1, value as u32),
-        Value::Whole16(value) => (2, i32::from(value) as u32),
-        Value::Float(value) => (5, value.to_bits()),
+        Value::State(state) => Shown::State(state),
+        Value::Whole32(value) => Shown::Long(value),
+        Value::Whole16(value) => Shown::Short(value),
+        Value::Float(value) => Shown::Real(value.to_bits()),
     }
 }
