@@ -3,6 +3,7 @@
 use mathlib.Core.Path.{_≡_, refl, sym, _∙_}
 use mathlib.Core.List.{List}
 use Prim.Native.Nat.{ℕ}
+use native.Mathlib.Omega.{arith}
 use Rattle.request.specs.Parse.{parse}
 use Rattle.request.specs.Plans.{plannedOf}
 use Rattle.static_objects.proofs.AloneLaws.{binaries-count, analogs-count}
@@ -58,7 +59,7 @@ returns c =
     let t = c .before .before in
     let z = t .before .before in
     let f = plan-headers (z .before .headers .result) (t .enum-told .given .1) in (
-      λ b. plan-parameter _ refl ∙ too-long _ _ _ _ (sym f ∙ parsed (z .before) b) (z .static-size .ensures .0 b) (c .before .if1 .taken),
+      λ b. plan-parameter _ refl ∙ too-long _ _ _ _ (sym f ∙ parsed (z .before) b) (z .static-size .ensures .0 b) (omega (arith, c .before .if1 .taken)),
       z .static-size .ensures .0,
       z .before .headers .ensures .1,
     )
@@ -68,7 +69,7 @@ returns-2 c =
     let t = c .before in
     let z = t .before .before in
     let f = plan-headers (z .before .headers .result) (t .enum-told .given .1) in
-    (λ b. f ∙ short _ _ _ _ (sym f ∙ parsed (z .before) b) (z .static-size .ensures .0 b) (c .if1 .left), z .static-size .ensures .0, z .before .headers .ensures .1)
+    (λ b. f ∙ short _ _ _ _ (sym f ∙ parsed (z .before) b) (z .static-size .ensures .0 b) (omega (arith, c .if1 .left)), z .static-size .ensures .0, z .before .headers .ensures .1)
 
 returns-3 : tie.Need-returns-3
 returns-3 c =
