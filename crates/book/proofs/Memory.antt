@@ -12,23 +12,23 @@ use lib.ListN.{length, take, drop, replicate}
 use lib.Seq.{take-append-seam}
 use Rattle.laws.specs.Limits.{fragmentMax, eventsMax, pointsMax}
 use Rattle.points.specs.declared.BinaryPoint.{BinaryPoint}
-use Rattle.points.specs.Inputs.{Inputs, inputs}
+use Rattle.points.specs.Inputs.{inputs}
 use Rattle.events.specs.declared.Held.{Held}
 use Rattle.events.specs.declared.Shown.{Shown}
 use Rattle.events.specs.declared.Shown.the-variants.{State, Analog}
-use Rattle.events.specs.Queue.{Queue, queue}
+use Rattle.events.specs.Queue.{queue}
 use Rattle.control.specs.Objects.{echoMax, answerMax}
-use Rattle.select.specs.Select.{Selection, noSelect, selected, latchOf}
+use Rattle.select.specs.Select.{noSelect, latchOf}
 use Rattle.repeat.specs.Repeat.{Memory, nothing, kept, lastIn}
 use Rattle.words.specs.Numbers.{holds}
 use Rattle.words.specs.Records.{tab, chunk, records}
 use Rattle.words.proofs.RecordLaws.{tab-same}
-use Rattle.point_store.specs.PointWords.{binaryOf, binariesIn, analogsIn}
+use Rattle.point_store.specs.PointWords.{binariesIn}
 use Rattle.event_store.specs.EventWords.{eventOf, heldOf, slotsIn}
 use Rattle.outstation.specs.declared.Head.{Head}
 use Rattle.outstation.specs.declared.Wait.{Wait}
 use Rattle.outstation.specs.declared.Wait.the-variants.{Idle, Awaiting}
-use Rattle.outstation.specs.World.{World, Exchange}
+use Rattle.outstation.specs.World.{World}
 use Rattle.outstation.specs.Lent.{Lent, Outstation, world, waitOf}
 
 -- ---- the memory: lists in use, padded to their arrays

@@ -1,12 +1,12 @@
 -- What both sides say of a request: when it is a repeat, what it does to the queue and the wait, and the bits of its response.
 -- Assumes nothing.
-use Prim.Native.Nat.{ℕ, zero, suc, _+_, _/_, _%_, _<_}
-use mathlib.Core.Path.{_≡_, refl, ap, _∙_}
+use Prim.Native.Nat.{ℕ, _+_, _/_, _%_, _<_}
+use mathlib.Core.Path.{_≡_, refl, _∙_}
 use mathlib.Core.Bool.{Bool, true, false, _||_, and-true}
 use mathlib.Core.List.{List, [], _∷_, _++_}
 use native.Mathlib.Nat.{le-of-eq}
 use native.Mathlib.Omega.{arith}
-use lib.ListN.{length, drop, length-replicate}
+use lib.ListN.{length, drop}
 use lib.Seq.{take-all}
 use lib.Dec.{eqb, ltb}
 use borrow.Author.Tests.{ltb-false, eqb-true}
@@ -28,7 +28,7 @@ use Rattle.control.specs.Objects.{formed, crobs, crobsBy}
 use Rattle.control.specs.Status.{statuses, echoWith}
 use Rattle.select.specs.declared.ControlFunction.{ControlFunction}
 use Rattle.select.specs.declared.ControlFunction.the-variants.{Select, Operate, DirectOperate}
-use Rattle.select.specs.Select.{Selection, isOperate, isUnanswered, statusesBy, operateStatus, byForm, effectOf}
+use Rattle.select.specs.Select.{Selection, isUnanswered, statusesBy, operateStatus, byForm, effectOf}
 use Rattle.repeat.specs.Repeat.{Memory, nothing, kept, isRepeat, answerOf}
 use Rattle.repeat.proofs.ReplyLaws.{length-by}
 use Rattle.events.specs.Queue.{Queue, cleared}

@@ -9,7 +9,7 @@ use native.Mathlib.Omega.{arith}
 use lib.ListN.{length}
 use borrow.Author.Tests.{le-leb}
 use Rattle.laws.specs.Limits.{fragmentMax, eventsMax}
-use Rattle.laws.specs.Lists.{filter, some, same, count}
+use Rattle.laws.specs.Lists.{filter, some, same}
 use Rattle.points.specs.Reading as P
 use Rattle.points.specs.Inputs.{Inputs}
 use Rattle.events.specs.declared.Classes.{Classes}

@@ -17,18 +17,6 @@ pub struct LastLengths {
     pub answer_len: usize,
 }
 
-// After a restart there is no last request, whatever the lent bytes are.
-pub fn none() -> LastLengths
-    ensures { λ r. ⌜
-        ((request answer : List ℕ) → lastIn request answer r ≡ nothing) × (r .«request_len» ≡ 0) × (r .«answer_len» ≡ 0) ⌝ }
-{
-    LastLengths {
-        held: false,
-        request_len: 0,
-        answer_len: 0,
-    }
-}
-
 // Keeps an accepted request and its answer.
 pub fn remember(
     request: &mut [u8; FRAGMENT_MAX],
