@@ -19,6 +19,15 @@ pub fn refused(out: &mut [u8], at: usize, n: u64) -> usize {
     text::put_decimal(out, a, n)
 }
 
+// What a reading or a table came to: `ok` or `no N`, and the end of its line.
+pub fn taken(out: &mut [u8], at: usize, refusal: u8) -> usize {
+    if refusal == 0 {
+        return answer(out, at, b"ok");
+    }
+    let a = refused(out, at, refusal as u64);
+    answer(out, a, b"")
+}
+
 // A mark and a number.
 pub fn number(out: &mut [u8], at: usize, mark: u8, n: u16) -> usize {
     let a = text::put(out, at, mark);

@@ -1,77 +1,106 @@
 // The call `frag`: a fragment, its answer, and the objects carried out.
+ghost use Prim.Native.Nat.{_≤_};
+ghost use lib.ListN.{length};
 use crate::answers;
 use crate::session;
 use crate::session::Unit;
+use application::FRAGMENT_MAX;
+use control::ANSWER_MAX;
 use control::Crob;
 use control::Crobs;
+use control::ECHO_MAX;
+use event_store::EVENT_WORDS;
 use fragments::FragmentAnswer;
-use outstation::Outstation;
+use lent::Head;
+use lent_fragments::Answered;
+use point_store::ANALOG_WORDS;
+use point_store::BINARY_WORDS;
+
+// T, LEN and how many bytes HEX has.
+struct FragmentAt {
+    time: u64,
+    asked: usize,
+    len: usize,
+    next: text::Cursor,
+}
+
+// T LEN HEX
+fn fragment_of(w: &[u8], c: text::Cursor, bytes: &mut [u8]) -> FragmentAt
+    ensures { λ r. ⌜ r .len ≤ length (now (bytes .exit)) ⌝ }
+{
+    let t = text::take_number(w, c, 32, u64::MAX);
+    let size = text::take_number(w, t.next, 32, answers::LENT_MAX);
+    let r = text::take_run(w, size.next, bytes);
+    let next = r.next;
+    FragmentAt {
+        time: t.value,
+        asked: size.value as usize,
+        len: r.len,
+        next,
+    }
+}
 
 // frag T LEN HEX
 pub fn frag(
     u: Unit,
     w: &[u8],
     c: text::Cursor,
+    binaries: &[u32; BINARY_WORDS],
+    analogs: &[u32; ANALOG_WORDS],
+    held: &mut [u64; EVENT_WORDS],
+    request: &mut [u8; FRAGMENT_MAX],
+    answer: &mut [u8; ANSWER_MAX],
+    objects: &mut [u8; ECHO_MAX],
     bytes: &mut [u8],
     lent: &mut [u8],
     out: &mut [u8],
     at: usize,
 ) -> Unit {
-    let t = text::take_number(w, c, 32, u64::MAX);
-    let time = t.value;
-    let size = text::take_number(w, t.next, 32, answers::LENT_MAX);
-    let r = text::take_run(w, size.next, bytes);
-    if !text::finished(r.next) {
+    let f = fragment_of(w, c, bytes);
+    if !text::finished(f.next) {
         return session::told_all(u, out, at, b"fault");
     }
     let s = u.session;
     if !s.have {
         return session::told_all(u, out, at, b"none");
     }
-    let asked = size.value as usize;
-    let n = r.len;
-    lend(u, time, &bytes[0..n], asked, lent, out, at)
-}
-
-// Lends so many bytes for the answer.
-fn lend(
-    u: Unit,
-    time: u64,
-    fragment: &[u8],
-    asked: usize,
-    lent: &mut [u8],
-    out: &mut [u8],
-    at: usize,
-) -> Unit {
-    let room = answers::least(asked, lent.len());
-    take_fragment(u, time, fragment, &mut lent[0..room], out, at)
+    let n = f.len;
+    let room = answers::least(f.asked, lent.len());
+    let r = answered(
+        u.head,
+        binaries,
+        analogs,
+        held,
+        request,
+        answer,
+        objects,
+        f.time,
+        &bytes[0..n],
+        &mut lent[0..room],
+    );
+    let head = r.head;
+    let a = r.answer;
+    let operated = r.operated;
+    session::left(u, head, tell(a, operated, &lent[0..room], out, at))
 }
 
 // What the outstation makes of the fragment, into lent bytes that are filled anew.
-fn answered(o: Outstation, time: u64, fragment: &[u8], lent: &mut [u8]) -> fragments::Answered {
-    answers::fill(lent);
-    fragments::fragment(o, time, fragment, lent)
-}
-
-// A fragment came: the outstation takes it, and the answer is told.
-fn take_fragment(
-    u: Unit,
+fn answered(
+    h: Head,
+    binaries: &[u32; BINARY_WORDS],
+    analogs: &[u32; ANALOG_WORDS],
+    held: &mut [u64; EVENT_WORDS],
+    request: &mut [u8; FRAGMENT_MAX],
+    answer: &mut [u8; ANSWER_MAX],
+    objects: &mut [u8; ECHO_MAX],
     time: u64,
     fragment: &[u8],
     lent: &mut [u8],
-    out: &mut [u8],
-    at: usize,
-) -> Unit {
-    let o = u.outstation;
-    let r = answered(o, time, fragment, lent);
-    let a = r.answer;
-    let operated = r.operated;
-    let state = r.state;
-    let mut next = u;
-    next.outstation = state;
-    let to = tell(a, operated, lent, out, at);
-    next.session = session::moved(u.session, to);
-    next
+) -> Answered {
+    answers::fill(lent);
+    lent_fragments::fragment(
+        h, binaries, analogs, held, request, answer, objects, time, fragment, lent,
+    )
 }
 
 // The whole answer.

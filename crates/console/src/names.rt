@@ -1,13 +1,7 @@
-// The names of calls; Nothing where none is made.
-pub enum Command {
-    Setup,
-    Restart,
-    Bin,
-    Ana,
-    Flt,
-    Table,
-    Frag,
-    Held,
+// The names of calls.
+
+// The calls that need no outstation, or only its addresses and segments; Nothing where none is made.
+pub enum Plain {
     Station,
     Record,
     Seg,
@@ -19,16 +13,51 @@ pub enum Command {
     Nothing,
 }
 
-// The calls of the outstation itself.
-fn inner(w: &[u8]) -> Command {
+// All calls. Reading: a binary (b), whole (a) or float (f) one.
+pub enum Command {
+    Setup,
+    Restart,
+    Reading(u8),
+    Table,
+    Frag,
+    Held,
+    Plain(Plain),
+}
+
+fn plain_of(w: &[u8]) -> Plain {
+    if text::same(w, b"station") {
+        return Plain::Station;
+    }
+    if text::same(w, b"record") {
+        return Plain::Record;
+    }
+    if text::same(w, b"seg") {
+        return Plain::Seg;
+    }
+    if text::same(w, b"send") {
+        return Plain::Send;
+    }
+    if text::same(w, b"frame-write") {
+        return Plain::FrameWrite;
+    }
+    if text::same(w, b"frame-read") {
+        return Plain::FrameRead;
+    }
+    if text::same(w, b"crc") {
+        return Plain::Crc;
+    }
+    Plain::Unknown
+}
+
+pub fn command_of(w: &[u8]) -> Command {
     if text::same(w, b"bin") {
-        return Command::Bin;
+        return Command::Reading(b'b');
     }
     if text::same(w, b"ana") {
-        return Command::Ana;
+        return Command::Reading(b'a');
     }
     if text::same(w, b"flt") {
-        return Command::Flt;
+        return Command::Reading(b'f');
     }
     if text::same(w, b"table") {
         return Command::Table;
@@ -45,45 +74,5 @@ fn inner(w: &[u8]) -> Command {
     if text::same(w, b"restart") {
         return Command::Restart;
     }
-    Command::Unknown
-}
-
-pub fn command_of(w: &[u8]) -> Command {
-    if text::same(w, b"station") {
-        return Command::Station;
-    }
-    if text::same(w, b"record") {
-        return Command::Record;
-    }
-    if text::same(w, b"seg") {
-        return Command::Seg;
-    }
-    if text::same(w, b"send") {
-        return Command::Send;
-    }
-    if text::same(w, b"frame-write") {
-        return Command::FrameWrite;
-    }
-    if text::same(w, b"frame-read") {
-        return Command::FrameRead;
-    }
-    if text::same(w, b"crc") {
-        return Command::Crc;
-    }
-    inner(w)
-}
-
-// The outstation itself answers the call.
-pub fn is_inner(k: Command) -> bool {
-    match k {
-        Command::Setup => true,
-        Command::Restart => true,
-        Command::Bin => true,
-        Command::Ana => true,
-        Command::Flt => true,
-        Command::Table => true,
-        Command::Frag => true,
-        Command::Held => true,
-        _ => false,
-    }
+    Command::Plain(plain_of(w))
 }

@@ -1,45 +1,68 @@
-// The fields of the call `setup`.
-use outstation::Setup;
-use points::AnalogKind;
-use points::AnalogSetup;
-use points::FloatGate;
-use points::Scale;
-use points::WholeGate;
+// The fields of the call `setup`, and the setup kept for a restart: a class for each binary, four words for each analog.
+ghost use Prim.Native.Nat.{_<_};
+use lent_restart::AnalogSetupWords;
+use lent_restart::SetupWords;
+use points::POINTS_MAX;
+
+pub const SETUP_WORDS: usize = 4 * POINTS_MAX;
 
 // A setup line. `fits`: each whole limit is one that its type holds.
 pub struct SetupAt {
-    pub setup: Setup,
+    pub setup: SetupWords,
+    pub binaries: usize,
+    pub analogs: usize,
     pub fits: bool,
     pub next: text::Cursor,
 }
 
-struct Classes {
-    classes: [u8; 64],
-    next: text::Cursor,
-}
-
 struct Points {
-    points: [AnalogSetup; 64],
     fits: bool,
     next: text::Cursor,
 }
 
 struct AnalogAt {
-    analog: AnalogSetup,
+    analog: AnalogSetupWords,
     fits: bool,
     next: text::Cursor,
 }
 
-struct WholeGateAt {
-    gate: WholeGate,
+struct GateAt {
+    gate: u8,
+    limit: u32,
     fits: bool,
     next: text::Cursor,
 }
 
-struct FloatGateAt {
-    gate: FloatGate,
-    next: text::Cursor,
+// ---- the kept words
+
+// An analog's words: limit, gain, offset; class, kind and gate.
+pub fn load(ws: &[u32; SETUP_WORDS], i: usize) -> AnalogSetupWords
+    requires { ⌜ i < 64 ⌝ }
+{
+    let marks = ws[4 * i + 3];
+    AnalogSetupWords {
+        limit: ws[4 * i],
+        gain: ws[4 * i + 1],
+        offset: ws[4 * i + 2],
+        class: (marks % 256) as u8,
+        kind: (marks / 256 % 256) as u8,
+        gate: (marks / 65536 % 256) as u8,
+    }
 }
+
+fn store(ws: &mut [u32; SETUP_WORDS], i: usize, a: AnalogSetupWords)
+    requires { ⌜ i < 64 ⌝ }
+{
+    let class = a.class as u32;
+    let kind = a.kind as u32;
+    let gate = a.gate as u32;
+    ws[4 * i] = a.limit;
+    ws[4 * i + 1] = a.gain;
+    ws[4 * i + 2] = a.offset;
+    ws[4 * i + 3] = class + 256 * kind + 65536 * gate;
+}
+
+// ---- the words of the line
 
 // A limit as its type holds it, and whether it does.
 struct Limit {
@@ -66,21 +89,22 @@ fn limit_of(negative: bool, size: u64) -> Limit {
     }
 }
 
+// GATE and - where it has no limit.
+fn no_limit(f: &[u8], c: text::Cursor, gate: u8) -> GateAt {
+    GateAt {
+        gate,
+        limit: 0,
+        fits: true,
+        next: text::take_none(f, c, 44),
+    }
+}
+
 // GATE,LIMIT of a whole point.
-fn whole_gate(f: &[u8], c: text::Cursor) -> WholeGateAt {
+fn whole_gate(f: &[u8], c: text::Cursor) -> GateAt {
     let g = text::take_number(f, c, 44, 3);
-    let k = g.value;
-    if k < 2 {
-        let next = text::take_none(f, g.next, 44);
-        return WholeGateAt {
-            gate: if k == 0 {
-                WholeGate::Never
-            } else {
-                WholeGate::AnyChange
-            },
-            fits: true,
-            next,
-        };
+    let gate = g.value as u8;
+    if gate < 2 {
+        return no_limit(f, g.next, gate);
     }
     let p = text::word(f, g.next, 44);
     let from = p.from;
@@ -88,40 +112,27 @@ fn whole_gate(f: &[u8], c: text::Cursor) -> WholeGateAt {
     let n = text::signed_of(&f[from..to], 9223372036854775808, 9223372036854775807);
     let next = text::judge(p.next, n.ok);
     let limit = limit_of(n.negative, n.size);
-    WholeGateAt {
-        gate: if k == 2 {
-            WholeGate::Beyond(limit.value)
-        } else {
-            WholeGate::Summed(limit.value)
-        },
+    GateAt {
+        gate,
+        limit: limit.value,
         fits: limit.fits,
         next,
     }
 }
 
 // GATE,LIMIT of a float point.
-fn float_gate(f: &[u8], c: text::Cursor) -> FloatGateAt {
+fn float_gate(f: &[u8], c: text::Cursor) -> GateAt {
     let g = text::take_number(f, c, 44, 3);
-    let k = g.value;
-    if k < 2 {
-        let next = text::take_none(f, g.next, 44);
-        return FloatGateAt {
-            gate: if k == 0 {
-                FloatGate::Never
-            } else {
-                FloatGate::AnyChange
-            },
-            next,
-        };
+    let gate = g.value as u8;
+    if gate < 2 {
+        return no_limit(f, g.next, gate);
     }
     let l = text::take_real(f, g.next, 44);
     let next = l.next;
-    FloatGateAt {
-        gate: if k == 2 {
-            FloatGate::Beyond(l.value)
-        } else {
-            FloatGate::Summed(l.value)
-        },
+    GateAt {
+        gate,
+        limit: words::float_bits(l.value),
+        fits: true,
         next,
     }
 }
@@ -131,15 +142,14 @@ fn float_point(f: &[u8], c: text::Cursor, class: u8) -> AnalogAt {
     let gain = text::take_real(f, c, 44);
     let offset = text::take_real(f, gain.next, 44);
     let g = float_gate(f, offset.next);
-    let gate = g.gate;
     let next = g.next;
-    let scale = Scale {
-        gain: gain.value,
-        offset: offset.value,
-    };
-    let analog = AnalogSetup {
+    let analog = AnalogSetupWords {
+        limit: g.limit,
+        gain: words::float_bits(gain.value),
+        offset: words::float_bits(offset.value),
         class,
-        kind: AnalogKind::Real(gate, scale),
+        kind: 2,
+        gate: g.gate,
     };
     AnalogAt {
         analog,
@@ -149,19 +159,18 @@ fn float_point(f: &[u8], c: text::Cursor, class: u8) -> AnalogAt {
 }
 
 // -,-,GATE,LIMIT of a whole point.
-fn whole_point(f: &[u8], c: text::Cursor, class: u8, long: bool) -> AnalogAt {
+fn whole_point(f: &[u8], c: text::Cursor, class: u8, kind: u8) -> AnalogAt {
     let gain = text::take_none(f, c, 44);
     let offset = text::take_none(f, gain, 44);
     let g = whole_gate(f, offset);
-    let gate = g.gate;
     let next = g.next;
-    let analog = AnalogSetup {
+    let analog = AnalogSetupWords {
+        limit: g.limit,
+        gain: 0,
+        offset: 0,
         class,
-        kind: if long {
-            AnalogKind::Long(gate)
-        } else {
-            AnalogKind::Short(gate)
-        },
+        kind,
+        gate: g.gate,
     };
     AnalogAt {
         analog,
@@ -180,60 +189,44 @@ fn analog_of(f: &[u8]) -> AnalogAt {
         return float_point(f, k.next, class);
     }
     let right = kind == 1 || kind == 2;
-    whole_point(f, text::judge(k.next, right), class, kind == 1)
+    let short: u8 = if kind == 1 { 0 } else { 1 };
+    whole_point(f, text::judge(k.next, right), class, short)
 }
 
-fn binaries(w: &[u8], c: text::Cursor, n: usize) -> Classes {
-    let mut classes = [0u8; 64];
+fn binaries(w: &[u8], c: text::Cursor, n: usize, classes: &mut [u8; POINTS_MAX]) -> text::Cursor {
     let mut at = c;
     let mut i: usize = 0;
     while i < n {
-        if 64 <= i {
-            return Classes { classes, next: at };
+        if POINTS_MAX <= i {
+            return at;
         }
         let k = text::take_number(w, at, 32, 255);
         classes[i] = k.value as u8;
         at = k.next;
         i += 1;
     }
-    Classes { classes, next: at }
+    at
 }
 
-fn blank() -> AnalogSetup {
-    AnalogSetup {
-        class: 0,
-        kind: AnalogKind::Long(WholeGate::Never),
-    }
-}
-
-fn analogs(w: &[u8], c: text::Cursor, n: usize) -> Points {
-    let mut points = [blank(); 64];
+fn analogs(w: &[u8], c: text::Cursor, n: usize, setups: &mut [u32; SETUP_WORDS]) -> Points {
     let mut fits = true;
     let mut at = c;
     let mut i: usize = 0;
     while i < n {
-        if 64 <= i {
-            return Points {
-                points,
-                fits,
-                next: at,
-            };
+        if POINTS_MAX <= i {
+            return Points { fits, next: at };
         }
         let p = text::word(w, at, 32);
         let from = p.from;
         let to = p.to;
         let a = analog_of(&w[from..to]);
         let x = a.analog;
-        points[i] = x;
+        store(setups, i, x);
         fits = fits & a.fits;
         at = text::judge(p.next, text::finished(a.next));
         i += 1;
     }
-    Points {
-        points,
-        fits,
-        next: at,
-    }
+    Points { fits, next: at }
 }
 
 // OWN MASTER ARM CONFIRM
@@ -279,52 +272,36 @@ fn count_of(w: &[u8], c: text::Cursor) -> Count {
 }
 
 // How many words are given for so many points.
-fn words(n: u8) -> usize {
-    if n < 64 { n as usize } else { 64 }
+fn given(n: u8) -> usize {
+    if n < 64 { n as usize } else { POINTS_MAX }
 }
 
 // OWN MASTER ARM CONFIRM NB NA NO BINARY.. ANALOG..
-pub fn setup_of(w: &[u8], c: text::Cursor) -> SetupAt {
+pub fn setup_of(
+    w: &[u8],
+    c: text::Cursor,
+    classes: &mut [u8; POINTS_MAX],
+    setups: &mut [u32; SETUP_WORDS],
+) -> SetupAt {
     let e = ends_of(w, c);
     let nb = count_of(w, e.next);
     let na = count_of(w, nb.next);
     let no = count_of(w, na.next);
-    let b = binaries(w, no.next, words(nb.value));
-    let a = analogs(w, b.next, words(na.value));
-    let classes = b.classes;
-    let points = a.points;
+    let b = binaries(w, no.next, given(nb.value), classes);
+    let a = analogs(w, b, given(na.value), setups);
     let next = a.next;
-    let setup = Setup {
-        own: e.own,
-        master: e.master,
+    let setup = SetupWords {
         arm_time: e.arm,
         confirm_time: e.confirm,
+        own: e.own,
+        master: e.master,
         outputs: no.value as u16,
-        binary_count: nb.value as usize,
-        analog_count: na.value as usize,
-        classes: classes,
-        analogs: points,
     };
     SetupAt {
         setup,
+        binaries: nb.value as usize,
+        analogs: na.value as usize,
         fits: a.fits,
         next,
-    }
-}
-
-// A setup without points and outputs.
-pub fn bare() -> Setup {
-    let classes = [0u8; 64];
-    let points = [blank(); 64];
-    Setup {
-        own: 0,
-        master: 0,
-        arm_time: 0,
-        confirm_time: 0,
-        outputs: 0,
-        binary_count: 0,
-        analog_count: 0,
-        classes: classes,
-        analogs: points,
     }
 }

@@ -142,7 +142,7 @@ fn fresh_binaries(binaries: &mut [u32; BINARY_WORDS], classes: &[u8]) -> bool
 }
 
 // All but the analogs.
-fn begun(s: SetupWords, classes: &[u8], analogs: usize, binaries: &mut [u32; BINARY_WORDS]) -> Going
+pub fn begun(s: SetupWords, classes: &[u8], analogs: usize, binaries: &mut [u32; BINARY_WORDS]) -> Going
     ensures { λ r. ⌜ (r ≡ begunOf (frontOk s (now (classes .entry)) analogs)) × (frontOk s (now (classes .entry)) analogs ≡ true → take (length (now (classes .entry))) (binariesIn (now (binaries .exit))) ≡ map freshBinary (now (classes .entry))) ⌝ }
 {
     if limits_ok(s, classes.len(), analogs) {
@@ -154,7 +154,7 @@ fn begun(s: SetupWords, classes: &[u8], analogs: usize, binaries: &mut [u32; BIN
 }
 
 // Nothing was refused and an analog is left.
-fn more(g: Going, n: usize) -> bool
+pub fn more(g: Going, n: usize) -> bool
     ensures { λ b. ⌜ b ≡ moreOf g n ⌝ }
 {
     let left = g.at < n;
@@ -162,7 +162,7 @@ fn more(g: Going, n: usize) -> bool
 }
 
 // One more analog.
-fn added(g: Going, analogs: &mut [u32; ANALOG_WORDS], w: AnalogSetupWords) -> Going
+pub fn added(g: Going, analogs: &mut [u32; ANALOG_WORDS], w: AnalogSetupWords) -> Going
     requires { ⌜ g .at < pointsMax ⌝ }
     ensures { λ r. ⌜ (r ≡ addedOf g w) × (analogOk (analogSetupOf w) ≡ true → analogsIn (now (analogs .exit)) ≡ set (analogsIn (now (analogs .entry))) (g .at) (freshAnalog (analogSetupOf w))) ⌝ }
 {
@@ -183,7 +183,7 @@ fn added(g: Going, analogs: &mut [u32; ANALOG_WORDS], w: AnalogSetupWords) -> Go
 }
 
 // The head of a restarted outstation; of a refused setup the one with no points and no outputs.
-fn answered(s: SetupWords, binaries: usize, g: Going) -> Restarted
+pub fn answered(s: SetupWords, binaries: usize, g: Going) -> Restarted
     ensures { λ r. ⌜ r ≡ answeredOf s binaries g ⌝ }
 {
     let mut h = Head {
