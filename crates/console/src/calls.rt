@@ -6,56 +6,20 @@ use crate::readings::RECORDS_MAX;
 use crate::session;
 use crate::session::Unit;
 use crate::setup;
-use crate::setup::SETUP_WORDS;
-use crate::setup::SetupAt;
 use event_store::EVENT_WORDS;
 use lent::Head;
 use lent::ReadingWords;
-use lent_restart::Restarted;
-use lent_restart::SetupWords;
 use lent_table::TableTook;
 use point_store::ANALOG_WORDS;
 use point_store::BINARY_WORDS;
-use points::POINTS_MAX;
 
-// The fresh points of a setup with these classes and so many analogs, and the head of its outstation.
-fn restarted(
-    s: SetupWords,
-    classes: &[u8],
-    setups: &[u32; SETUP_WORDS],
-    n: usize,
-    binaries: &mut [u32; BINARY_WORDS],
-    analogs: &mut [u32; ANALOG_WORDS],
-) -> Restarted {
-    let mut g = lent_restart::begun(s, classes, n, binaries);
-    let mut left: usize = POINTS_MAX;
-    while 0 < left {
-        if !lent_restart::more(g, n) {
-            return lent_restart::answered(s, classes.len(), g);
-        }
-        let i = g.at;
-        if i < POINTS_MAX {
-            g = lent_restart::added(g, analogs, setup::load(setups, i));
-        }
-        left -= 1;
+// Keeps the line of a setup for restarts, and answers its length.
+fn kept(setup: &mut [u8], w: &[u8]) -> usize {
+    if setup.len() < w.len() {
+        return 0;
     }
-    lent_restart::answered(s, classes.len(), g)
-}
-
-// The outstation of a setup line that is right: refused too where a limit or a count is more than its type holds.
-fn set_up(
-    t: SetupAt,
-    classes: &[u8; POINTS_MAX],
-    setups: &[u32; SETUP_WORDS],
-    binaries: &mut [u32; BINARY_WORDS],
-    analogs: &mut [u32; ANALOG_WORDS],
-) -> Restarted {
-    let s = t.setup;
-    let n = t.binaries;
-    if t.fits && n <= POINTS_MAX {
-        return restarted(s, &classes[0..n], setups, t.analogs, binaries, analogs);
-    }
-    lent_restart::answered(s, 0, lent_restart::Going { at: 0, refusal: 5 })
+    octets::copy(setup, 0, w);
+    w.len()
 }
 
 // setup OWN MASTER ARM CONFIRM NB NA NO BINARY.. ANALOG..
@@ -63,53 +27,44 @@ pub fn setup(
     u: Unit,
     w: &[u8],
     c: text::Cursor,
-    classes: &mut [u8; POINTS_MAX],
-    setups: &mut [u32; SETUP_WORDS],
     binaries: &mut [u32; BINARY_WORDS],
     analogs: &mut [u32; ANALOG_WORDS],
+    setup: &mut [u8],
     heard: &mut [u8],
     out: &mut [u8],
     at: usize,
 ) -> Unit {
-    let mut new_classes = [0u8; POINTS_MAX];
-    let mut new_setups = [0u32; SETUP_WORDS];
-    let t = setup::setup_of(w, c, &mut new_classes, &mut new_setups);
-    if !text::finished(t.next) {
+    let t = setup::set_up(w, c, binaries, analogs);
+    if !t.right {
         return session::told_all(u, out, at, b"fault");
     }
-    let r = set_up(t, &new_classes, &new_setups, binaries, analogs);
+    let r = t.restarted;
     let head = r.head;
-    let s = u.session;
-    if r.refusal == 0 {
-        *classes = new_classes;
-        *setups = new_setups;
-        answers::fill(heard);
-        let setup = t.setup;
-        let b = session::begun(s, setup.own, setup.master);
-        let session = session::told(b, out, at, b"ok");
+    if r.refusal != 0 {
+        let session = session::told(session::none(u.session), out, at, b"no 5");
         return Unit {
             session,
             head,
-            setup,
+            setup_len: 0,
         };
     }
-    let setup = u.setup;
-    let session = session::told(session::none(s), out, at, b"no 5");
+    answers::fill(heard);
+    let setup_len = kept(setup, w);
+    let session = session::told(session::begun(u.session, t.setup), out, at, b"ok");
     Unit {
         session,
         head,
-        setup,
+        setup_len,
     }
 }
 
-// restart
+// restart: set up again from the kept line
 pub fn restart(
     u: Unit,
     c: text::Cursor,
-    classes: &[u8; POINTS_MAX],
-    setups: &[u32; SETUP_WORDS],
     binaries: &mut [u32; BINARY_WORDS],
     analogs: &mut [u32; ANALOG_WORDS],
+    setup: &[u8],
     out: &mut [u8],
     at: usize,
 ) -> Unit {
@@ -120,24 +75,16 @@ pub fn restart(
     if !s.have {
         return session::told_all(u, out, at, b"none");
     }
-    let setup = u.setup;
-    let h = u.head;
-    let n = answers::least(h.binary_count, POINTS_MAX);
-    let r = restarted(
-        setup,
-        &classes[0..n],
-        setups,
-        h.analog_count,
-        binaries,
-        analogs,
-    );
+    let n = answers::least(u.setup_len, setup.len());
+    let name = text::word(&setup[0..n], text::start(), 32);
+    let t = setup::set_up(&setup[0..n], name.next, binaries, analogs);
+    let r = t.restarted;
     let head = r.head;
-    let b = session::begun(s, setup.own, setup.master);
-    let session = session::told(b, out, at, b"ok");
+    let session = session::told(session::begun(s, t.setup), out, at, b"ok");
     Unit {
         session,
         head,
-        setup,
+        setup_len: u.setup_len,
     }
 }
 
@@ -164,7 +111,7 @@ pub fn reading(
     let x = r.reading;
     let t = lent::reading(u.head, binaries, analogs, held, x);
     let head = t.head;
-    let b = answers::taken(out, at, t.refusal);
+    let b = answers::taken(t.refusal, out, at);
     session::left(u, head, b)
 }
 
@@ -224,7 +171,7 @@ fn took_words(taken: usize, refusal: u8, out: &mut [u8], at: usize) -> usize {
     let b = text::put_bytes(out, at, b"took ");
     let c = text::put_decimal(out, b, taken as u64);
     let d = text::put(out, c, 32);
-    answers::taken(out, d, refusal)
+    answers::taken(refusal, out, d)
 }
 
 // held

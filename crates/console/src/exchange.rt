@@ -1,7 +1,6 @@
 // The call `frag`: a fragment, its answer, and the objects carried out.
-ghost use Prim.Native.Nat.{_≤_};
-ghost use lib.ListN.{length};
 use crate::answers;
+use crate::answers::Outcome;
 use crate::session;
 use crate::session::Unit;
 use application::FRAGMENT_MAX;
@@ -15,30 +14,6 @@ use lent::Head;
 use lent_fragments::Answered;
 use point_store::ANALOG_WORDS;
 use point_store::BINARY_WORDS;
-
-// T, LEN and how many bytes HEX has.
-struct FragmentAt {
-    time: u64,
-    asked: usize,
-    len: usize,
-    next: text::Cursor,
-}
-
-// T LEN HEX
-fn fragment_of(w: &[u8], c: text::Cursor, bytes: &mut [u8]) -> FragmentAt
-    ensures { λ r. ⌜ r .len ≤ length (now (bytes .exit)) ⌝ }
-{
-    let t = text::take_number(w, c, 32, u64::MAX);
-    let size = text::take_number(w, t.next, 32, answers::LENT_MAX);
-    let r = text::take_run(w, size.next, bytes);
-    let next = r.next;
-    FragmentAt {
-        time: t.value,
-        asked: size.value as usize,
-        len: r.len,
-        next,
-    }
-}
 
 // frag T LEN HEX
 pub fn frag(
@@ -56,7 +31,8 @@ pub fn frag(
     out: &mut [u8],
     at: usize,
 ) -> Unit {
-    let f = fragment_of(w, c, bytes);
+    let t = text::take_number(w, c, 32, u64::MAX);
+    let f = answers::asked_of(w, t.next, bytes);
     if !text::finished(f.next) {
         return session::told_all(u, out, at, b"fault");
     }
@@ -65,7 +41,7 @@ pub fn frag(
         return session::told_all(u, out, at, b"none");
     }
     let n = f.len;
-    let room = answers::least(f.asked, lent.len());
+    let room = answers::least(f.size, lent.len());
     let r = answered(
         u.head,
         binaries,
@@ -74,7 +50,7 @@ pub fn frag(
         request,
         answer,
         objects,
-        f.time,
+        t.value,
         &bytes[0..n],
         &mut lent[0..room],
     );
@@ -99,49 +75,57 @@ fn answered(
 ) -> Answered {
     answers::fill(lent);
     lent_fragments::fragment(
-        h, binaries, analogs, held, request, answer, objects, time, fragment, lent,
+        h,
+        binaries,
+        analogs,
+        held,
+        request,
+        answer,
+        objects,
+        time,
+        fragment,
+        lent,
     )
 }
 
 // The whole answer.
 fn tell(a: FragmentAnswer, operated: Crobs, lent: &[u8], out: &mut [u8], at: usize) -> usize {
-    let b = answer_words(a, operated, lent, out, at);
-    let past = answers::least(used_of(a), lent.len());
-    answers::ended(out, b, answers::changed(&lent[past..]))
+    let o = outcome_of(a);
+    let b = put_answer(a, o, operated, lent, out, at);
+    answers::ended_past(o.used, lent, out, b)
 }
 
-// How many lent bytes the answer has.
-fn used_of(a: FragmentAnswer) -> usize {
-    if let FragmentAnswer::Answer(n) = a {
-        n
-    } else {
-        0
+fn outcome_of(a: FragmentAnswer) -> Outcome {
+    match a {
+        FragmentAnswer::Answer(n) => answers::gave(n),
+        FragmentAnswer::Silent => answers::gave(0),
+        FragmentAnswer::Confirmed => answers::gave(0),
+        FragmentAnswer::Time => answers::refused(1),
+        FragmentAnswer::Malformed => answers::refused(31),
+        FragmentAnswer::NotConfirmed => answers::refused(32),
+        FragmentAnswer::AnswerLent => answers::refused(33),
     }
 }
 
-fn answer_words(
+fn put_answer(
     a: FragmentAnswer,
+    o: Outcome,
     operated: Crobs,
     lent: &[u8],
     out: &mut [u8],
     at: usize,
 ) -> usize {
     match a {
-        FragmentAnswer::Answer(n) => {
-            let k = answers::least(n, lent.len());
-            let b = text::put_bytes(out, at, b"ans ");
-            let c = text::put_run(out, b, &lent[0..k]);
-            put_operated(operated, out, c)
+        FragmentAnswer::Answer(_) => {
+            let b = answers::put_outcome(o, b"ans ", lent, out, at);
+            put_operated(operated, out, b)
         }
         FragmentAnswer::Silent => {
             let b = text::put_bytes(out, at, b"mute");
             put_operated(operated, out, b)
         }
         FragmentAnswer::Confirmed => text::put_bytes(out, at, b"conf"),
-        FragmentAnswer::Time => answers::refused(out, at, 1),
-        FragmentAnswer::Malformed => answers::refused(out, at, 31),
-        FragmentAnswer::NotConfirmed => answers::refused(out, at, 32),
-        FragmentAnswer::AnswerLent => answers::refused(out, at, 33),
+        _ => answers::put_outcome(o, b"", lent, out, at),
     }
 }
 
@@ -186,8 +170,7 @@ fn put_times(x: Crob, out: &mut [u8], at: usize) -> usize {
 
 // A time's four bytes, the lowest first.
 fn put_time(t: u32, out: &mut [u8], at: usize) -> usize {
-    let a = text::put_byte(out, at, (t % 256) as u8);
-    let b = text::put_byte(out, a, (t / 256 % 256) as u8);
-    let c = text::put_byte(out, b, (t / 65536 % 256) as u8);
-    text::put_byte(out, c, (t / 16777216) as u8)
+    let mut b = [0u8; 4];
+    octets::put4(&mut b, 0, t);
+    text::put_hex(out, at, &b)
 }

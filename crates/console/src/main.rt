@@ -1,6 +1,8 @@
 // Reads call scripts from standard input and answers each call with one line on standard output.
+ghost use mathlib.Core.Path.{_≡_};
 ghost use Prim.Native.Nat.{_≤_};
 ghost use lib.ListN.{length};
+
 mod answers;
 mod calls;
 mod exchange;
@@ -19,24 +21,26 @@ use control::ECHO_MAX;
 use event_store::EVENT_WORDS;
 use libc::STDOUT_FILENO;
 use names::Command;
-use names::Plain;
+use names::LentCall;
+use names::LineCall;
 use point_store::ANALOG_WORDS;
 use point_store::BINARY_WORDS;
-use points::POINTS_MAX;
 use session::Session;
 use session::Unit;
-use setup::SETUP_WORDS;
 
 // The longest line, and room for it beside what is read next.
 const LINE_MAX: usize = 65536;
+
 const TEXT_MAX: usize = 131072;
 
 // Room for the longest answer, and for all that are not yet written out.
 const TOLD_MAX: usize = 20000;
+
 const OUT_MAX: usize = 65536;
 
 // A call's bytes, and the bytes that it is lent.
 const BYTES_MAX: usize = 32768;
+
 const LENT_MAX: usize = 65536;
 
 // The text: its first `filled` bytes were read, and those before `from` answered.
@@ -54,11 +58,10 @@ struct Looked {
     command: Command,
     next: text::Cursor,
     at: usize,
-    skipping: bool,
 }
 
 // The next line of the text, or none yet.
-struct Step {
+struct Line {
     reader: Reader,
     command: Command,
     next: text::Cursor,
@@ -87,28 +90,26 @@ fn room(at: usize, out: &[u8]) -> usize {
 }
 
 // A line that is no call: it is not answered, or with `fault`.
-fn no_call(p: Plain, at: usize) -> Looked {
-    let command = Command::Plain(p);
+fn no_call(p: LineCall, at: usize) -> Looked {
+    let command = Command::Line(p);
     let next = text::start();
-    Looked {
-        command,
-        next,
-        at,
-        skipping: false,
-    }
+    Looked { command, next, at }
 }
 
 // Looks at a line without its end.
 fn look(w: &[u8], skipping: bool, at: usize, out: &[u8]) -> Looked {
-    if skipping || w.len() == 0 {
-        return no_call(Plain::Nothing, at);
+    if skipping {
+        return no_call(LineCall::Nothing, at);
+    }
+    if w.len() == 0 {
+        return no_call(LineCall::Nothing, at);
     }
     let to = room(at, out);
     if LINE_MAX < w.len() {
-        return no_call(Plain::Unknown, to);
+        return no_call(LineCall::Unknown, to);
     }
     if w[0] == b'#' {
-        return no_call(Plain::Nothing, to);
+        return no_call(LineCall::Nothing, to);
     }
     let name = text::word(w, text::start(), 32);
     let from = name.from;
@@ -119,7 +120,6 @@ fn look(w: &[u8], skipping: bool, at: usize, out: &[u8]) -> Looked {
         command,
         next,
         at: to,
-        skipping: false,
     }
 }
 
@@ -184,46 +184,46 @@ fn fetch(t: &mut [u8], filled: usize) -> usize {
     filled + n
 }
 
-// Writes the answers out and reads once. Where nothing has come, what is left is the last line.
-fn read_on(r: Reader, at: usize, t: &mut [u8], out: &mut [u8]) -> Step
-    ensures { λ p. ⌜ (p .from ≤ p .to) × (p .to ≤ length (now (t .exit))) ⌝ }
+// The line at a place of the text.
+fn line_at(l: Looked, reader: Reader, from: usize, to: usize) -> Line
+    ensures { λ p. ⌜ (p .from ≡ from) × (p .to ≡ to) ⌝ }
 {
-    let rest = rest_of(r, at, t, out);
-    flush(rest.at, out);
-    let end = fetch(t, rest.filled);
-    let done = end <= rest.filled;
-    let to = if done { answers::least(end, t.len()) } else { 0 };
-    let l = last(done, &t[0..to], rest.skipping, out);
     let command = l.command;
     let next = l.next;
-    let reader = Reader {
-        from: 0,
-        filled: end,
-        skipping: l.skipping,
-        done,
-    };
-    Step {
+    Line {
         reader,
         command,
         next,
         at: l.at,
-        from: 0,
+        from,
         to,
     }
 }
 
-// The last line, or none.
-fn last(done: bool, w: &[u8], skipping: bool, out: &[u8]) -> Looked {
-    if done {
-        return look(w, skipping, 0, out);
+// Writes the answers out and reads once. Where nothing has come, what is left is the last line.
+fn read_on(r: Reader, at: usize, t: &mut [u8], out: &mut [u8]) -> Line
+    ensures { λ p. ⌜ (p .from ≤ p .to) × (p .to ≤ length (now (t .exit))) ⌝ }
+{
+    let rest = rest_of(r, at, t, out);
+    flush(rest.at, out);
+    let filled = rest.filled;
+    let end = fetch(t, filled);
+    let reader = Reader {
+        from: 0,
+        filled: end,
+        skipping: rest.skipping,
+        done: end <= filled,
+    };
+    if filled < end {
+        return line_at(no_call(LineCall::Nothing, 0), reader, 0, 0);
     }
-    let mut none = no_call(Plain::Nothing, 0);
-    none.skipping = skipping;
-    none
+    let to = answers::least(end, t.len());
+    let l = look(&t[0..to], rest.skipping, 0, out);
+    line_at(l, reader, 0, to)
 }
 
-// The next line.
-fn step(r: Reader, at: usize, t: &mut [u8], out: &mut [u8]) -> Step
+// The next line of the text. A line that was looked at ends what is skipped.
+fn next_line(r: Reader, at: usize, t: &mut [u8], out: &mut [u8]) -> Line
     ensures { λ p. ⌜ (p .from ≤ p .to) × (p .to ≤ length (now (t .exit))) ⌝ }
 {
     let from = r.from;
@@ -231,48 +231,85 @@ fn step(r: Reader, at: usize, t: &mut [u8], out: &mut [u8]) -> Step
     let to = text::until(&t[0..end], from, 10);
     if to < end {
         let l = look(&t[from..to], r.skipping, at, out);
-        let command = l.command;
-        let next = l.next;
         let reader = Reader {
             from: to + 1,
             filled: end,
-            skipping: l.skipping,
+            skipping: false,
             done: false,
         };
-        return Step {
-            reader,
-            command,
-            next,
-            at: l.at,
-            from,
-            to,
-        };
+        return line_at(l, reader, from, to);
     }
     read_on(r, at, t, out)
 }
 
-// The calls that need no outstation, or only its addresses and segments.
-fn plain_call(
-    k: Plain,
+// The outstation is needed for the call.
+fn needs_station(k: LentCall) -> bool {
+    match k {
+        LentCall::FrameRead => false,
+        _ => true,
+    }
+}
+
+// The calls with LEN HEX, with the bytes given and the bytes lent.
+fn given_call(
+    k: LentCall,
     s: Session,
-    w: &[u8],
-    c: text::Cursor,
-    out: &mut [u8],
-    bytes: &mut [u8],
+    given: &[u8],
     lent: &mut [u8],
     heard: &mut [u8],
+    out: &mut [u8],
     at: usize,
 ) -> Session {
     match k {
-        Plain::Nothing => session::moved(s, at),
-        Plain::Unknown => session::told(s, out, at, b"fault"),
-        Plain::Station => stations::station(s, w, c, bytes, lent, out, at),
-        Plain::Record => stations::record(s, w, c, out, at),
-        Plain::Seg => segments::seg(s, w, c, bytes, lent, heard, out, at),
-        Plain::Send => segments::send(s, w, c, bytes, lent, out, at),
-        Plain::FrameWrite => session::moved(s, frames::frame_write(w, c, bytes, lent, out, at)),
-        Plain::FrameRead => session::moved(s, frames::frame_read(w, c, bytes, lent, out, at)),
-        Plain::Crc => session::moved(s, frames::crc(w, c, bytes, out, at)),
+        LentCall::Station => stations::station(s, given, lent, out, at),
+        LentCall::Seg => segments::seg(s, given, lent, heard, out, at),
+        LentCall::Send => segments::send(s, given, lent, out, at),
+        LentCall::FrameRead => session::moved(s, frames::frame_read(given, lent, out, at)),
+    }
+}
+
+fn lent_call(
+    k: LentCall,
+    s: Session,
+    w: &[u8],
+    c: text::Cursor,
+    bytes: &mut [u8],
+    lent: &mut [u8],
+    heard: &mut [u8],
+    out: &mut [u8],
+    at: usize,
+) -> Session {
+    let a = answers::asked_of(w, c, bytes);
+    if !text::finished(a.next) {
+        return session::told(s, out, at, b"fault");
+    }
+    if needs_station(k) && !s.have {
+        return session::told(s, out, at, b"none");
+    }
+    let n = a.len;
+    let room = answers::least(a.size, lent.len());
+    given_call(k, s, &bytes[0..n], &mut lent[0..room], heard, out, at)
+}
+
+// The calls that need no outstation, or only its addresses and segments.
+fn line_call(
+    k: LineCall,
+    s: Session,
+    w: &[u8],
+    c: text::Cursor,
+    bytes: &mut [u8],
+    lent: &mut [u8],
+    heard: &mut [u8],
+    out: &mut [u8],
+    at: usize,
+) -> Session {
+    match k {
+        LineCall::Lent(l) => lent_call(l, s, w, c, bytes, lent, heard, out, at),
+        LineCall::Record => stations::record(s, w, c, out, at),
+        LineCall::FrameWrite => session::moved(s, frames::frame_write(w, c, bytes, lent, out, at)),
+        LineCall::Crc => session::moved(s, frames::crc(w, c, bytes, out, at)),
+        LineCall::Unknown => session::told(s, out, at, b"fault"),
+        LineCall::Nothing => session::moved(s, at),
     }
 }
 
@@ -288,8 +325,7 @@ fn call(
     request: &mut [u8; FRAGMENT_MAX],
     answer: &mut [u8; ANSWER_MAX],
     objects: &mut [u8; ECHO_MAX],
-    classes: &mut [u8; POINTS_MAX],
-    setups: &mut [u32; SETUP_WORDS],
+    setup: &mut [u8; LINE_MAX],
     bytes: &mut [u8; BYTES_MAX],
     lent: &mut [u8; LENT_MAX],
     heard: &mut [u8; LENT_MAX],
@@ -302,34 +338,41 @@ fn call(
         }
         Command::Table => calls::table(u, w, c, binaries, analogs, held, out, at),
         Command::Frag => exchange::frag(
-            u, w, c, binaries, analogs, held, request, answer, objects, bytes, lent, out, at,
+            u,
+            w,
+            c,
+            binaries,
+            analogs,
+            held,
+            request,
+            answer,
+            objects,
+            bytes,
+            lent,
+            out,
+            at,
         ),
         Command::Held => calls::held(u, c, held, out, at),
-        Command::Setup => {
-            calls::setup(u, w, c, classes, setups, binaries, analogs, heard, out, at)
-        }
-        Command::Restart => {
-            calls::restart(u, c, classes, setups, binaries, analogs, out, at)
-        }
-        Command::Plain(p) => {
-            let s = u.session;
-            let next = plain_call(p, s, w, c, out, bytes, lent, heard, at);
-            session::with_session(u, next)
+        Command::Setup => { calls::setup(u, w, c, binaries, analogs, setup, heard, out, at) }
+        Command::Restart => { calls::restart(u, c, binaries, analogs, setup, out, at) }
+        Command::Line(l) => {
+            let mut next = u;
+            next.session = line_call(l, u.session, w, c, bytes, lent, heard, out, at);
+            next
         }
     }
 }
 
 // A proved loop has to end, and nothing says that the input does: the lines are counted down from a number that no run uses up.
 fn serve(
-    t: &mut [u8; TEXT_MAX],
+    t: &mut [u8],
     binaries: &mut [u32; BINARY_WORDS],
     analogs: &mut [u32; ANALOG_WORDS],
     held: &mut [u64; EVENT_WORDS],
     request: &mut [u8; FRAGMENT_MAX],
     answer: &mut [u8; ANSWER_MAX],
     objects: &mut [u8; ECHO_MAX],
-    classes: &mut [u8; POINTS_MAX],
-    setups: &mut [u32; SETUP_WORDS],
+    setup: &mut [u8; LINE_MAX],
     bytes: &mut [u8; BYTES_MAX],
     lent: &mut [u8; LENT_MAX],
     heard: &mut [u8; LENT_MAX],
@@ -345,7 +388,7 @@ fn serve(
     let mut turns = u64::MAX;
     while turns > 0 {
         let s = u.session;
-        let p = step(r, s.at, t, out);
+        let p = next_line(r, s.at, t, out);
         let reader = p.reader;
         r = reader;
         let from = p.from;
@@ -363,8 +406,7 @@ fn serve(
             request,
             answer,
             objects,
-            classes,
-            setups,
+            setup,
             bytes,
             lent,
             heard,
@@ -379,8 +421,8 @@ fn serve(
     }
 }
 
-// The text read; the state that the outstation is lent, and its setup; a call's bytes, its lent bytes, those that segments are put together
-// in, and the answers.
+// The text read; the state that the outstation is lent, and the line that set it up; a call's bytes, its lent bytes, those that segments are
+// put together in, and the answers.
 fn main() {
     let mut t = [0u8; TEXT_MAX];
     let mut binaries = [0u32; BINARY_WORDS];
@@ -389,8 +431,7 @@ fn main() {
     let mut request = [0u8; FRAGMENT_MAX];
     let mut answer = [0u8; ANSWER_MAX];
     let mut objects = [0u8; ECHO_MAX];
-    let mut classes = [0u8; POINTS_MAX];
-    let mut setups = [0u32; SETUP_WORDS];
+    let mut setup = [0u8; LINE_MAX];
     let mut bytes = [0u8; BYTES_MAX];
     let mut lent = [0u8; LENT_MAX];
     let mut heard = [0u8; LENT_MAX];
@@ -403,8 +444,7 @@ fn main() {
         &mut request,
         &mut answer,
         &mut objects,
-        &mut classes,
-        &mut setups,
+        &mut setup,
         &mut bytes,
         &mut lent,
         &mut heard,

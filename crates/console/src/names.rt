@@ -1,13 +1,18 @@
 // The names of calls.
 
-// The calls that need no outstation, or only its addresses and segments; Nothing where none is made.
-pub enum Plain {
+// The calls with LEN HEX.
+pub enum LentCall {
     Station,
-    Record,
     Seg,
     Send,
-    FrameWrite,
     FrameRead,
+}
+
+// The calls that need no outstation, or only its addresses and segments; Nothing where none is made.
+pub enum LineCall {
+    Lent(LentCall),
+    Record,
+    FrameWrite,
     Crc,
     Unknown,
     Nothing,
@@ -21,32 +26,32 @@ pub enum Command {
     Table,
     Frag,
     Held,
-    Plain(Plain),
+    Line(LineCall),
 }
 
-fn plain_of(w: &[u8]) -> Plain {
+fn line_call_of(w: &[u8]) -> LineCall {
     if text::same(w, b"station") {
-        return Plain::Station;
+        return LineCall::Lent(LentCall::Station);
     }
     if text::same(w, b"record") {
-        return Plain::Record;
+        return LineCall::Record;
     }
     if text::same(w, b"seg") {
-        return Plain::Seg;
+        return LineCall::Lent(LentCall::Seg);
     }
     if text::same(w, b"send") {
-        return Plain::Send;
+        return LineCall::Lent(LentCall::Send);
     }
     if text::same(w, b"frame-write") {
-        return Plain::FrameWrite;
+        return LineCall::FrameWrite;
     }
     if text::same(w, b"frame-read") {
-        return Plain::FrameRead;
+        return LineCall::Lent(LentCall::FrameRead);
     }
     if text::same(w, b"crc") {
-        return Plain::Crc;
+        return LineCall::Crc;
     }
-    Plain::Unknown
+    LineCall::Unknown
 }
 
 pub fn command_of(w: &[u8]) -> Command {
@@ -74,5 +79,5 @@ pub fn command_of(w: &[u8]) -> Command {
     if text::same(w, b"restart") {
         return Command::Restart;
     }
-    Command::Plain(plain_of(w))
+    Command::Line(line_call_of(w))
 }

@@ -14,11 +14,11 @@ pub struct Session {
     pub sender: transport::Sender,
 }
 
-// The session, the outstation's head, and what was set up beside its points.
+// The session, the outstation's head, and how long the line was that set it up.
 pub struct Unit {
     pub session: Session,
     pub head: Head,
-    pub setup: SetupWords,
+    pub setup_len: usize,
 }
 
 // Before the first call: no outstation, and a line record of zeros.
@@ -48,19 +48,22 @@ fn fresh_session() -> Session {
 // Until there is an outstation, the head of one without points and outputs stands in its place.
 pub fn fresh() -> Unit {
     let session = fresh_session();
-    let setup = SetupWords {
-        arm_time: 0,
-        confirm_time: 0,
-        own: 0,
-        master: 0,
-        outputs: 0,
-    };
-    let r = lent_restart::answered(setup, 0, lent_restart::Going { at: 0, refusal: 5 });
+    let r = lent_restart::answered(
+        SetupWords {
+            arm_time: 0,
+            confirm_time: 0,
+            own: 0,
+            master: 0,
+            outputs: 0,
+        },
+        0,
+        lent_restart::Going { at: 0, refusal: 5 },
+    );
     let head = r.head;
     Unit {
         session,
         head,
-        setup,
+        setup_len: 0,
     }
 }
 
@@ -85,24 +88,19 @@ pub fn told_all(u: Unit, out: &mut [u8], at: usize, words: &[u8]) -> Unit {
 // What a call leaves: the outstation's head, and where the next answer goes.
 pub fn left(u: Unit, head: Head, at: usize) -> Unit {
     let session = moved(u.session, at);
-    let setup = u.setup;
     Unit {
         session,
         head,
-        setup,
+        setup_len: u.setup_len,
     }
 }
 
-// The same, with the session.
-pub fn with_session(u: Unit, session: Session) -> Unit {
-    let mut next = u;
-    next.session = session;
-    next
-}
-
 // There is an outstation; nothing is heard, nothing sent.
-pub fn begun(s: Session, own: u16, master: u16) -> Session {
-    let addresses = link::Station { own, master };
+pub fn begun(s: Session, setup: SetupWords) -> Session {
+    let addresses = link::Station {
+        own: setup.own,
+        master: setup.master,
+    };
     let assembly = transport::nothing_begun();
     let sender = transport::nothing_sent();
     let record = s.record;

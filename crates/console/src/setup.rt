@@ -1,18 +1,27 @@
-// The fields of the call `setup`, and the setup kept for a restart: a class for each binary, four words for each analog.
-ghost use Prim.Native.Nat.{_<_};
+// The fields of the call `setup`, and the fresh points that they ask for.
 use lent_restart::AnalogSetupWords;
+use lent_restart::Going;
+use lent_restart::Restarted;
 use lent_restart::SetupWords;
+use point_store::ANALOG_WORDS;
+use point_store::BINARY_WORDS;
 use points::POINTS_MAX;
 
-pub const SETUP_WORDS: usize = 4 * POINTS_MAX;
+// A setup line. `fits`: each whole limit is one that its type holds. `first`: where the analogs begin.
+struct SetupAt {
+    setup: SetupWords,
+    binaries: usize,
+    analogs: usize,
+    fits: bool,
+    first: text::Cursor,
+    next: text::Cursor,
+}
 
-// A setup line. `fits`: each whole limit is one that its type holds.
-pub struct SetupAt {
+// What a setup line came to: whether it is right, what it sets up beside the points, and the refusal or the head.
+pub struct SetUp {
+    pub right: bool,
     pub setup: SetupWords,
-    pub binaries: usize,
-    pub analogs: usize,
-    pub fits: bool,
-    pub next: text::Cursor,
+    pub restarted: Restarted,
 }
 
 struct Points {
@@ -32,37 +41,6 @@ struct GateAt {
     fits: bool,
     next: text::Cursor,
 }
-
-// ---- the kept words
-
-// An analog's words: limit, gain, offset; class, kind and gate.
-pub fn load(ws: &[u32; SETUP_WORDS], i: usize) -> AnalogSetupWords
-    requires { ⌜ i < 64 ⌝ }
-{
-    let marks = ws[4 * i + 3];
-    AnalogSetupWords {
-        limit: ws[4 * i],
-        gain: ws[4 * i + 1],
-        offset: ws[4 * i + 2],
-        class: (marks % 256) as u8,
-        kind: (marks / 256 % 256) as u8,
-        gate: (marks / 65536 % 256) as u8,
-    }
-}
-
-fn store(ws: &mut [u32; SETUP_WORDS], i: usize, a: AnalogSetupWords)
-    requires { ⌜ i < 64 ⌝ }
-{
-    let class = a.class as u32;
-    let kind = a.kind as u32;
-    let gate = a.gate as u32;
-    ws[4 * i] = a.limit;
-    ws[4 * i + 1] = a.gain;
-    ws[4 * i + 2] = a.offset;
-    ws[4 * i + 3] = class + 256 * kind + 65536 * gate;
-}
-
-// ---- the words of the line
 
 // A limit as its type holds it, and whether it does.
 struct Limit {
@@ -208,25 +186,29 @@ fn binaries(w: &[u8], c: text::Cursor, n: usize, classes: &mut [u8; POINTS_MAX])
     at
 }
 
-fn analogs(w: &[u8], c: text::Cursor, n: usize, setups: &mut [u32; SETUP_WORDS]) -> Points {
+// The next analog's word.
+fn analog_at(w: &[u8], c: text::Cursor) -> AnalogAt {
+    let p = text::word(w, c, 32);
+    let from = p.from;
+    let to = p.to;
+    let a = analog_of(&w[from..to]);
+    let mut at = a;
+    at.next = text::judge(p.next, text::finished(a.next));
+    at
+}
+
+// The words of n analogs.
+fn analogs(w: &[u8], c: text::Cursor, n: usize) -> Points {
     let mut fits = true;
-    let mut at = c;
-    let mut i: usize = 0;
-    while i < n {
-        if POINTS_MAX <= i {
-            return Points { fits, next: at };
-        }
-        let p = text::word(w, at, 32);
-        let from = p.from;
-        let to = p.to;
-        let a = analog_of(&w[from..to]);
-        let x = a.analog;
-        store(setups, i, x);
+    let mut next = c;
+    let mut left = n;
+    while 0 < left {
+        let a = analog_at(w, next);
         fits = fits & a.fits;
-        at = text::judge(p.next, text::finished(a.next));
-        i += 1;
+        next = a.next;
+        left -= 1;
     }
-    Points { fits, next: at }
+    Points { fits, next }
 }
 
 // OWN MASTER ARM CONFIRM
@@ -277,18 +259,13 @@ fn given(n: u8) -> usize {
 }
 
 // OWN MASTER ARM CONFIRM NB NA NO BINARY.. ANALOG..
-pub fn setup_of(
-    w: &[u8],
-    c: text::Cursor,
-    classes: &mut [u8; POINTS_MAX],
-    setups: &mut [u32; SETUP_WORDS],
-) -> SetupAt {
+fn setup_of(w: &[u8], c: text::Cursor, classes: &mut [u8; POINTS_MAX]) -> SetupAt {
     let e = ends_of(w, c);
     let nb = count_of(w, e.next);
     let na = count_of(w, nb.next);
     let no = count_of(w, na.next);
-    let b = binaries(w, no.next, given(nb.value), classes);
-    let a = analogs(w, b, given(na.value), setups);
+    let first = binaries(w, no.next, given(nb.value), classes);
+    let a = analogs(w, first, given(na.value));
     let next = a.next;
     let setup = SetupWords {
         arm_time: e.arm,
@@ -302,6 +279,71 @@ pub fn setup_of(
         binaries: nb.value as usize,
         analogs: na.value as usize,
         fits: a.fits,
+        first,
         next,
     }
+}
+
+// The fresh points of a setup with these classes, and the head of its outstation.
+fn restarted(
+    t: SetupAt,
+    w: &[u8],
+    classes: &[u8],
+    binaries: &mut [u32; BINARY_WORDS],
+    analogs: &mut [u32; ANALOG_WORDS],
+) -> Restarted {
+    let s = t.setup;
+    let n = t.analogs;
+    let mut g = lent_restart::begun(s, classes, n, binaries);
+    let mut next = t.first;
+    let mut left: usize = POINTS_MAX;
+    while 0 < left {
+        if !lent_restart::more(g, n) {
+            return lent_restart::answered(s, classes.len(), g);
+        }
+        if POINTS_MAX <= g.at {
+            return lent_restart::answered(s, classes.len(), g);
+        }
+        let a = analog_at(w, next);
+        next = a.next;
+        let x = a.analog;
+        g = lent_restart::added(g, analogs, x);
+        left -= 1;
+    }
+    lent_restart::answered(s, classes.len(), g)
+}
+
+// No outstation: a line that is not right, or a limit or a count that is more than its type holds.
+fn not_set_up(right: bool, setup: SetupWords) -> SetUp {
+    let restarted = lent_restart::answered(setup, 0, Going { at: 0, refusal: 5 });
+    SetUp {
+        right,
+        setup,
+        restarted,
+    }
+}
+
+// Sets up from the line. A line that is not right changes nothing.
+pub fn set_up(
+    w: &[u8],
+    c: text::Cursor,
+    binaries: &mut [u32; BINARY_WORDS],
+    analogs: &mut [u32; ANALOG_WORDS],
+) -> SetUp {
+    let mut classes = [0u8; POINTS_MAX];
+    let t = setup_of(w, c, &mut classes);
+    let setup = t.setup;
+    if !text::finished(t.next) {
+        return not_set_up(false, setup);
+    }
+    let n = t.binaries;
+    if t.fits && n <= POINTS_MAX {
+        let r = restarted(t, w, &classes[0..n], binaries, analogs);
+        return SetUp {
+            right: true,
+            setup,
+            restarted: r,
+        };
+    }
+    not_set_up(true, setup)
 }

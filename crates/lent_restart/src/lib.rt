@@ -142,7 +142,12 @@ fn fresh_binaries(binaries: &mut [u32; BINARY_WORDS], classes: &[u8]) -> bool
 }
 
 // All but the analogs.
-pub fn begun(s: SetupWords, classes: &[u8], analogs: usize, binaries: &mut [u32; BINARY_WORDS]) -> Going
+pub fn begun(
+    s: SetupWords,
+    classes: &[u8],
+    analogs: usize,
+    binaries: &mut [u32; BINARY_WORDS],
+) -> Going
     ensures { λ r. ⌜ (r ≡ begunOf (frontOk s (now (classes .entry)) analogs)) × (frontOk s (now (classes .entry)) analogs ≡ true → take (length (now (classes .entry))) (binariesIn (now (binaries .exit))) ≡ map freshBinary (now (classes .entry))) ⌝ }
 {
     if limits_ok(s, classes.len(), analogs) {
