@@ -52,22 +52,40 @@ fn exchange(
     out: &mut [u8],
 ) -> u64 {
     let r = lent_fragments::fragment(
-        full, binaries, analogs, held, request, answer, objects, time, ask, out,
+        full,
+        binaries,
+        analogs,
+        held,
+        request,
+        answer,
+        objects,
+        time,
+        ask,
+        out,
     );
     let a = r.answer;
     let asked = fold_answer(sum, a, out);
     let h = r.head;
     let d = lent_fragments::fragment(
-        h, binaries, analogs, held, request, answer, objects, time, confirm, out,
+        h,
+        binaries,
+        analogs,
+        held,
+        request,
+        answer,
+        objects,
+        time,
+        confirm,
+        out,
     );
     let e = d.answer;
     fold(fold_answer(asked, e, out), stations::held_in(d.head))
 }
 
-// The first n held events again.
+// The first n words of the held events again.
 fn refill(held: &mut [u64; EVENT_WORDS], full: &[u64; EVENT_WORDS], n: usize) {
     let mut i: usize = 0;
-    while i < 2 * n {
+    while i < n {
         if EVENT_WORDS <= i {
             return;
         }
@@ -76,7 +94,7 @@ fn refill(held: &mut [u64; EVENT_WORDS], full: &[u64; EVENT_WORDS], n: usize) {
     }
 }
 
-// Each exchange begins with the same head and the same n events; only time and sequence differ.
+// Each exchange begins with the same head and the same events, n words; only time and sequence differ.
 fn exchanges(
     count: u64,
     n: usize,
@@ -131,7 +149,7 @@ pub fn event_read(count: u64, n: u64) -> u64 {
     let full = stations::holding(n, &mut binaries, &mut analogs, &mut held);
     let sum = exchanges(
         count,
-        events::filled(n as usize),
+        2 * events::filled(n as usize),
         full,
         &binaries,
         &analogs,

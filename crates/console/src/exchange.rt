@@ -10,8 +10,6 @@ use control::Crobs;
 use control::ECHO_MAX;
 use event_store::EVENT_WORDS;
 use fragments::FragmentAnswer;
-use lent::Head;
-use lent_fragments::Answered;
 use point_store::ANALOG_WORDS;
 use point_store::BINARY_WORDS;
 
@@ -42,8 +40,8 @@ pub fn frag(
     }
     let n = f.len;
     let room = answers::least(f.size, lent.len());
-    let r = answered(
-        u.head,
+    exchange(
+        u,
         binaries,
         analogs,
         held,
@@ -53,16 +51,14 @@ pub fn frag(
         t.value,
         &bytes[0..n],
         &mut lent[0..room],
-    );
-    let head = r.head;
-    let a = r.answer;
-    let operated = r.operated;
-    session::left(u, head, tell(a, operated, &lent[0..room], out, at))
+        out,
+        at,
+    )
 }
 
-// What the outstation makes of the fragment, into lent bytes that are filled anew.
-fn answered(
-    h: Head,
+// The outstation takes the fragment and answers into lent bytes that are filled anew; the answer is told.
+fn exchange(
+    u: Unit,
     binaries: &[u32; BINARY_WORDS],
     analogs: &[u32; ANALOG_WORDS],
     held: &mut [u64; EVENT_WORDS],
@@ -72,10 +68,12 @@ fn answered(
     time: u64,
     fragment: &[u8],
     lent: &mut [u8],
-) -> Answered {
+    out: &mut [u8],
+    at: usize,
+) -> Unit {
     answers::fill(lent);
-    lent_fragments::fragment(
-        h,
+    let r = lent_fragments::fragment(
+        u.head,
         binaries,
         analogs,
         held,
@@ -85,7 +83,11 @@ fn answered(
         time,
         fragment,
         lent,
-    )
+    );
+    let head = r.head;
+    let a = r.answer;
+    let operated = r.operated;
+    session::left(u, head, tell(a, operated, lent, out, at))
 }
 
 // The whole answer.

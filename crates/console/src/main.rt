@@ -200,6 +200,15 @@ fn line_at(l: Looked, reader: Reader, from: usize, to: usize) -> Line
     }
 }
 
+// The last line: what is left of the text.
+fn last_line(r: Reader, t: &[u8], out: &[u8]) -> Line
+    ensures { λ p. ⌜ (p .from ≤ p .to) × (p .to ≤ length (now (t .entry))) ⌝ }
+{
+    let to = answers::least(r.filled, t.len());
+    let l = look(&t[0..to], r.skipping, 0, out);
+    line_at(l, r, 0, to)
+}
+
 // Writes the answers out and reads once. Where nothing has come, what is left is the last line.
 fn read_on(r: Reader, at: usize, t: &mut [u8], out: &mut [u8]) -> Line
     ensures { λ p. ⌜ (p .from ≤ p .to) × (p .to ≤ length (now (t .exit))) ⌝ }
@@ -217,9 +226,7 @@ fn read_on(r: Reader, at: usize, t: &mut [u8], out: &mut [u8]) -> Line
     if filled < end {
         return line_at(no_call(LineCall::Nothing, 0), reader, 0, 0);
     }
-    let to = answers::least(end, t.len());
-    let l = look(&t[0..to], rest.skipping, 0, out);
-    line_at(l, reader, 0, to)
+    last_line(reader, t, out)
 }
 
 // The next line of the text. A line that was looked at ends what is skipped.

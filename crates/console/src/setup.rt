@@ -337,13 +337,16 @@ pub fn set_up(
         return not_set_up(false, setup);
     }
     let n = t.binaries;
-    if t.fits && n <= POINTS_MAX {
-        let r = restarted(t, w, &classes[0..n], binaries, analogs);
-        return SetUp {
-            right: true,
-            setup,
-            restarted: r,
-        };
+    if !t.fits {
+        return not_set_up(true, setup);
     }
-    not_set_up(true, setup)
+    if POINTS_MAX < n {
+        return not_set_up(true, setup);
+    }
+    let r = restarted(t, w, &classes[0..n], binaries, analogs);
+    SetUp {
+        right: true,
+        setup,
+        restarted: r,
+    }
 }
