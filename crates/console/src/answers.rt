@@ -5,6 +5,11 @@ ghost use lib.ListN.{length};
 // The most bytes that a call is lent.
 pub const LENT_MAX: u64 = 65536;
 
+// The arrays of a call's bytes, and of the bytes that it is lent.
+pub const BYTES_MAX: usize = 32768;
+
+pub const ROOM_MAX: usize = 65536;
+
 // What lent bytes are filled with.
 pub const FILL: u8 = 0xA5;
 

@@ -1,6 +1,8 @@
 // The call `frag`: a fragment, its answer, and the objects carried out.
 use crate::answers;
+use crate::answers::BYTES_MAX;
 use crate::answers::Outcome;
+use crate::answers::ROOM_MAX;
 use crate::session;
 use crate::session::Unit;
 use application::FRAGMENT_MAX;
@@ -10,6 +12,8 @@ use control::Crobs;
 use control::ECHO_MAX;
 use event_store::EVENT_WORDS;
 use fragments::FragmentAnswer;
+use lent::Head;
+use lent_fragments::Answered;
 use point_store::ANALOG_WORDS;
 use point_store::BINARY_WORDS;
 
@@ -24,8 +28,8 @@ pub fn frag(
     request: &mut [u8; FRAGMENT_MAX],
     answer: &mut [u8; ANSWER_MAX],
     objects: &mut [u8; ECHO_MAX],
-    bytes: &mut [u8],
-    lent: &mut [u8],
+    bytes: &mut [u8; BYTES_MAX],
+    lent: &mut [u8; ROOM_MAX],
     out: &mut [u8],
     at: usize,
 ) -> Unit {
@@ -38,10 +42,8 @@ pub fn frag(
     if !s.have {
         return session::told_all(u, out, at, b"none");
     }
-    let n = f.len;
-    let room = answers::least(f.size, lent.len());
-    exchange(
-        u,
+    let r = lend(
+        u.head,
         binaries,
         analogs,
         held,
@@ -49,16 +51,51 @@ pub fn frag(
         answer,
         objects,
         t.value,
-        &bytes[0..n],
+        bytes,
+        f.len,
+        lent,
+        f.size,
+    );
+    let head = r.head;
+    let a = r.answer;
+    let operated = r.operated;
+    session::left(u, head, tell(a, operated, lent, f.size, out, at))
+}
+
+// The fragment is the first n bytes, and so many bytes are lent for its answer.
+fn lend(
+    h: Head,
+    binaries: &[u32; BINARY_WORDS],
+    analogs: &[u32; ANALOG_WORDS],
+    held: &mut [u64; EVENT_WORDS],
+    request: &mut [u8; FRAGMENT_MAX],
+    answer: &mut [u8; ANSWER_MAX],
+    objects: &mut [u8; ECHO_MAX],
+    time: u64,
+    bytes: &[u8],
+    n: usize,
+    lent: &mut [u8],
+    size: usize,
+) -> Answered {
+    let len = answers::least(n, bytes.len());
+    let room = answers::least(size, lent.len());
+    answered(
+        h,
+        binaries,
+        analogs,
+        held,
+        request,
+        answer,
+        objects,
+        time,
+        &bytes[0..len],
         &mut lent[0..room],
-        out,
-        at,
     )
 }
 
-// The outstation takes the fragment and answers into lent bytes that are filled anew; the answer is told.
-fn exchange(
-    u: Unit,
+// What the outstation makes of the fragment, into lent bytes that are filled anew.
+fn answered(
+    h: Head,
     binaries: &[u32; BINARY_WORDS],
     analogs: &[u32; ANALOG_WORDS],
     held: &mut [u64; EVENT_WORDS],
@@ -68,12 +105,10 @@ fn exchange(
     time: u64,
     fragment: &[u8],
     lent: &mut [u8],
-    out: &mut [u8],
-    at: usize,
-) -> Unit {
+) -> Answered {
     answers::fill(lent);
-    let r = lent_fragments::fragment(
-        u.head,
+    lent_fragments::fragment(
+        h,
         binaries,
         analogs,
         held,
@@ -83,18 +118,22 @@ fn exchange(
         time,
         fragment,
         lent,
-    );
-    let head = r.head;
-    let a = r.answer;
-    let operated = r.operated;
-    session::left(u, head, tell(a, operated, lent, out, at))
+    )
 }
 
-// The whole answer.
-fn tell(a: FragmentAnswer, operated: Crobs, lent: &[u8], out: &mut [u8], at: usize) -> usize {
+// The whole answer, with so many bytes lent.
+fn tell(
+    a: FragmentAnswer,
+    operated: Crobs,
+    lent: &[u8],
+    size: usize,
+    out: &mut [u8],
+    at: usize,
+) -> usize {
+    let room = answers::least(size, lent.len());
     let o = outcome_of(a);
-    let b = put_answer(a, o, operated, lent, out, at);
-    answers::ended_past(o.used, lent, out, b)
+    let b = put_answer(a, o, operated, &lent[0..room], out, at);
+    answers::ended_past(o.used, &lent[0..room], out, b)
 }
 
 fn outcome_of(a: FragmentAnswer) -> Outcome {

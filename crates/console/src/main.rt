@@ -15,6 +15,8 @@ mod session;
 mod setup;
 mod stations;
 
+use answers::BYTES_MAX;
+use answers::ROOM_MAX;
 use application::FRAGMENT_MAX;
 use control::ANSWER_MAX;
 use control::ECHO_MAX;
@@ -37,11 +39,6 @@ const TEXT_MAX: usize = 131072;
 const TOLD_MAX: usize = 20000;
 
 const OUT_MAX: usize = 65536;
-
-// A call's bytes, and the bytes that it is lent.
-const BYTES_MAX: usize = 32768;
-
-const LENT_MAX: usize = 65536;
 
 // The text: its first `filled` bytes were read, and those before `from` answered.
 struct Reader {
@@ -334,8 +331,8 @@ fn call(
     objects: &mut [u8; ECHO_MAX],
     setup: &mut [u8; LINE_MAX],
     bytes: &mut [u8; BYTES_MAX],
-    lent: &mut [u8; LENT_MAX],
-    heard: &mut [u8; LENT_MAX],
+    lent: &mut [u8; ROOM_MAX],
+    heard: &mut [u8; ROOM_MAX],
     out: &mut [u8; OUT_MAX],
     at: usize,
 ) -> Unit {
@@ -381,8 +378,8 @@ fn serve(
     objects: &mut [u8; ECHO_MAX],
     setup: &mut [u8; LINE_MAX],
     bytes: &mut [u8; BYTES_MAX],
-    lent: &mut [u8; LENT_MAX],
-    heard: &mut [u8; LENT_MAX],
+    lent: &mut [u8; ROOM_MAX],
+    heard: &mut [u8; ROOM_MAX],
     out: &mut [u8; OUT_MAX],
 ) {
     let mut u = session::fresh();
@@ -440,8 +437,8 @@ fn main() {
     let mut objects = [0u8; ECHO_MAX];
     let mut setup = [0u8; LINE_MAX];
     let mut bytes = [0u8; BYTES_MAX];
-    let mut lent = [0u8; LENT_MAX];
-    let mut heard = [0u8; LENT_MAX];
+    let mut lent = [0u8; ROOM_MAX];
+    let mut heard = [0u8; ROOM_MAX];
     let mut out = [0u8; OUT_MAX];
     serve(
         &mut t,
