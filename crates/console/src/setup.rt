@@ -313,6 +313,18 @@ fn restarted(
     lent_restart::answered(s, classes.len(), g)
 }
 
+// The same, of the classes those that the setup has.
+fn restarted_with(
+    t: SetupAt,
+    w: &[u8],
+    classes: &[u8],
+    binaries: &mut [u32; BINARY_WORDS],
+    analogs: &mut [u32; ANALOG_WORDS],
+) -> Restarted {
+    let n = crate::answers::least(t.binaries, classes.len());
+    restarted(t, w, &classes[0..n], binaries, analogs)
+}
+
 // No outstation: a line that is not right, or a limit or a count that is more than its type holds.
 fn not_set_up(right: bool, setup: SetupWords) -> SetUp {
     let restarted = lent_restart::answered(setup, 0, Going { at: 0, refusal: 5 });
@@ -336,14 +348,13 @@ pub fn set_up(
     if !text::finished(t.next) {
         return not_set_up(false, setup);
     }
-    let n = t.binaries;
     if !t.fits {
         return not_set_up(true, setup);
     }
-    if POINTS_MAX < n {
+    if POINTS_MAX < t.binaries {
         return not_set_up(true, setup);
     }
-    let r = restarted(t, w, &classes[0..n], binaries, analogs);
+    let r = restarted_with(t, w, &classes, binaries, analogs);
     SetUp {
         right: true,
         setup,
