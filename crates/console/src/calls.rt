@@ -12,6 +12,7 @@ use lent::ReadingWords;
 use lent_table::TableTook;
 use point_store::ANALOG_WORDS;
 use point_store::BINARY_WORDS;
+use points::POINTS_MAX;
 
 // Keeps the line of a setup for restarts, and answers its length.
 fn kept(setup: &mut [u8], w: &[u8]) -> usize {
@@ -34,7 +35,8 @@ pub fn setup(
     out: &mut [u8],
     at: usize,
 ) -> Unit {
-    let t = setup::set_up(w, c, binaries, analogs);
+    let mut classes = [0u8; POINTS_MAX];
+    let t = setup::set_up(w, c, &mut classes, binaries, analogs);
     if !t.right {
         return session::told_all(u, out, at, b"fault");
     }
@@ -77,7 +79,8 @@ pub fn restart(
     }
     let n = answers::least(u.setup_len, setup.len());
     let name = text::word(&setup[0..n], text::start(), 32);
-    let t = setup::set_up(&setup[0..n], name.next, binaries, analogs);
+    let mut classes = [0u8; POINTS_MAX];
+    let t = setup::set_up(&setup[0..n], name.next, &mut classes, binaries, analogs);
     let r = t.restarted;
     let head = r.head;
     let session = session::told(session::begun(s, t.setup), out, at, b"ok");

@@ -335,15 +335,15 @@ fn not_set_up(right: bool, setup: SetupWords) -> SetUp {
     }
 }
 
-// Sets up from the line. A line that is not right changes nothing.
+// Sets up from the line. A line that is not right changes nothing but the classes, which are lent for the call alone.
 pub fn set_up(
     w: &[u8],
     c: text::Cursor,
+    classes: &mut [u8; POINTS_MAX],
     binaries: &mut [u32; BINARY_WORDS],
     analogs: &mut [u32; ANALOG_WORDS],
 ) -> SetUp {
-    let mut classes = [0u8; POINTS_MAX];
-    let t = setup_of(w, c, &mut classes);
+    let t = setup_of(w, c, classes);
     let setup = t.setup;
     if !text::finished(t.next) {
         return not_set_up(false, setup);
@@ -354,7 +354,7 @@ pub fn set_up(
     if POINTS_MAX < t.binaries {
         return not_set_up(true, setup);
     }
-    let r = restarted_with(t, w, &classes, binaries, analogs);
+    let r = restarted_with(t, w, classes, binaries, analogs);
     SetUp {
         right: true,
         setup,
