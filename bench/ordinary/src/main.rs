@@ -235,24 +235,6 @@ fn outstation_reading(count: u64, n: usize) -> u64 {
     digest(sum, &o.buffer)
 }
 
-fn outstation_reading_by_value(count: u64, n: usize) -> u64 {
-    let mut o = fresh_outstation(n);
-    let mut point = 0;
-    let mut state = true;
-    let mut sum = 1u64;
-    for left in (1..=count).rev() {
-        if left % 256 == 0 {
-            o.buffer.count = 0;
-        }
-        let (next, r) = outstation::binary_reading(o, count - left, point, state, 1);
-        o = next;
-        sum = fold(sum, accepted(r) + o.clock);
-        point = following(point, n);
-        state ^= point == 0;
-    }
-    digest(sum, &o.buffer)
-}
-
 /// The kinds and the classes take turns.
 fn event_at(i: u64) -> Event {
     let shown = match i % 4 {
@@ -296,17 +278,6 @@ fn held_reading(count: u64, n: usize) -> u64 {
         o.buffer.count = n;
     }
     let _ = o.binary_reading(1, 0, true, 1);
-    digest(sum, &o.buffer)
-}
-
-fn held_reading_by_value(count: u64, n: usize) -> u64 {
-    let full = holding(n);
-    let mut sum = 1u64;
-    for left in (1..=count).rev() {
-        let (o, r) = outstation::binary_reading(full, left, (left % 64) as u16, true, 1);
-        sum = fold(sum, accepted(r) + o.clock + o.buffer.count as u64);
-    }
-    let (o, _) = outstation::binary_reading(full, 1, 0, true, 1);
     digest(sum, &o.buffer)
 }
 
@@ -361,25 +332,6 @@ fn event_read(count: u64, n: usize) -> u64 {
     }
     let _ = o.fragment(1000, &ask, &mut out, &mut operated);
     let _ = o.fragment(1000, &confirm, &mut out, &mut operated);
-    digest(fold_all(sum, &out), &o.buffer)
-}
-
-fn event_read_by_value(count: u64, n: usize) -> u64 {
-    let (mut ask, mut confirm, mut out) = (ASK, CONFIRM, [0u8; 2048]);
-    let mut operated = Operated::default();
-    let full = holding(n);
-    let mut sum = 1u64;
-    for left in (1..=count).rev() {
-        let time = 1000 + left % 1000;
-        ask[0] = 192 + (left % 16) as u8;
-        confirm[0] = ask[0];
-        let (o, r) = outstation::fragment(full, time, &ask, &mut out, &mut operated);
-        sum = fold_answer(sum, r, &out);
-        let (o, r) = outstation::fragment(o, time, &confirm, &mut out, &mut operated);
-        sum = fold(fold_answer(sum, r, &out), o.buffer.count as u64);
-    }
-    let (o, _) = outstation::fragment(full, 1000, &ask, &mut out, &mut operated);
-    let (o, _) = outstation::fragment(o, 1000, &confirm, &mut out, &mut operated);
     digest(fold_all(sum, &out), &o.buffer)
 }
 
@@ -472,9 +424,9 @@ fn most(name: &str) -> Option<usize> {
     Some(match name {
         "nothing" | "frame-write" | "frame-read" | "frame-write-table" | "frame-read-table" => 0,
         "reading" | "reading-by-value" => 0,
-        "class-0" | "class-0-fragment" | "outstation-reading" | "outstation-reading-by-value" => 64,
-        "held-reading" | "held-reading-by-value" => 255,
-        "event-read" | "event-read-by-value" => 256,
+        "class-0" | "class-0-fragment" | "outstation-reading" => 64,
+        "held-reading" => 255,
+        "event-read" => 256,
         "confirm" => 226,
         "select" | "repeat" => 256,
         "table-128" => 0,
@@ -494,11 +446,8 @@ fn run(name: &str, count: u64, size: usize) -> Option<u64> {
         "class-0" => class_0(count, size),
         "class-0-fragment" => class_0_fragment(count, size),
         "outstation-reading" => outstation_reading(count, size),
-        "outstation-reading-by-value" => outstation_reading_by_value(count, size),
         "held-reading" => held_reading(count, size),
-        "held-reading-by-value" => held_reading_by_value(count, size),
         "event-read" => event_read(count, size),
-        "event-read-by-value" => event_read_by_value(count, size),
         "confirm" => confirm(count, size),
         "select" => select(count, size),
         "repeat" => repeat(count, size),

@@ -4,6 +4,11 @@ use crate::sums::digest;
 use crate::sums::fold;
 use crate::sums::fold_all;
 use crate::sums::plus;
+use event_store::BufferStatus;
+use event_store::EVENT_WORDS;
+use point_store::ANALOG_WORDS;
+use point_store::BINARY_WORDS;
+use point_store::Installed;
 use points::AnalogKind;
 use points::AnalogPoint;
 use points::AnalogSetup;
@@ -11,7 +16,7 @@ use points::AnalogTaken;
 use points::BinaryPoint;
 use points::BinaryTaken;
 use points::FloatGate;
-use points::Points;
+use points::POINTS_MAX;
 use points::Scale;
 use points::WholeGate;
 
@@ -58,49 +63,66 @@ fn binary_of(state: bool, flags: u8) -> BinaryPoint {
     }
 }
 
-// So many points of each kind.
-fn installed(n: usize) -> Points {
-    let b = binary_of(true, 1);
-    let bs = [b; 64];
-    let a = analog_of(0);
-    let mut ps = [a; 64];
+// Stores points of each kind that were read.
+fn install(binaries: &mut [u32; BINARY_WORDS], analogs: &mut [u32; ANALOG_WORDS]) {
     let mut i: usize = 0;
-    while i < 64 {
-        ps[i] = analog_of(i);
+    while i < POINTS_MAX {
+        point_store::store_binary(binaries, i, binary_of(true, 1));
+        point_store::store_analog(analogs, i, analog_of(i));
         i += 1;
-    }
-    Points {
-        binaries: bs,
-        binary_count: n,
-        analogs: ps,
-        analog_count: n,
     }
 }
 
-// One binary changes at each turn, and the buffer is carried on.
-fn respond(count: u64, n: usize, out: &mut [u8], s: &[u8]) -> u64 {
+// One binary changes at each turn; nothing is held.
+fn respond(
+    count: u64,
+    n: Installed,
+    binaries: &mut [u32; BINARY_WORDS],
+    analogs: &[u32; ANALOG_WORDS],
+    held: &mut [u64; EVENT_WORDS],
+    out: &mut [u8],
+    s: &[u8],
+) -> u64 {
     if out.len() < 2048 {
         return 0;
     }
-    let mut p = installed(n);
-    let mut b = events::empty();
+    let none = BufferStatus {
+        count: 0,
+        overflow: false,
+    };
     let mut sum: u64 = 1;
     let mut left = count;
     while 0 < left {
         let k = (left % 64) as usize;
-        p.binaries[k] = binary_of(left % 3 == 0, 1);
-        let r = read::respond(out, s, p, b);
-        let held = r.buffer;
-        b = held;
+        point_store::store_binary(binaries, k, binary_of(left % 3 == 0, 1));
+        let r = lent_read::respond(out, s, binaries, analogs, n, held, none);
         let i = (sum % 1024) as usize;
         sum = fold(sum, plus(r.size as u64, byte_at(out, i)));
         left -= 1;
     }
-    digest(fold_all(sum, out), b)
+    sum
 }
 
+// So many points of each kind.
 pub fn class_zero(count: u64, n: usize) -> u64 {
+    let mut binaries = [0u32; BINARY_WORDS];
+    let mut analogs = [0u32; ANALOG_WORDS];
+    let mut held = [0u64; EVENT_WORDS];
     let mut out = [0u8; 2048];
     let s = [60u8, 1, 6];
-    respond(count, n, &mut out, &s)
+    install(&mut binaries, &mut analogs);
+    let installed = Installed {
+        binaries: n,
+        analogs: n,
+    };
+    let sum = respond(
+        count,
+        installed,
+        &mut binaries,
+        &analogs,
+        &mut held,
+        &mut out,
+        &s,
+    );
+    digest(fold_all(sum, &out), &held)
 }

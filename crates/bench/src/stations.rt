@@ -1,52 +1,94 @@
-// The whole outstation: one reading, by the points installed and by the events held.
+// The whole outstation in lent memory: one reading, by the points installed and by the events held.
+ghost use mathlib.Core.Path.{_≡_};
 use crate::sums::digest;
 use crate::sums::fold;
 use crate::sums::plus;
-use events::Buffer;
+use event_store::BufferStatus;
+use event_store::EVENT_WORDS;
 use events::Event;
-use events::Held;
 use events::Shown;
-use outstation::Outstation;
-use outstation::ReadingAnswer;
-use outstation::Setup;
-use points::AnalogKind;
-use points::AnalogSetup;
+use outstation::Head;
+use outstation::Measured;
+use outstation::Reading;
+use outstation::Took;
+use point_store::ANALOG_WORDS;
+use point_store::BINARY_WORDS;
+use points::POINTS_MAX;
 use points::Value;
-use points::WholeGate;
+use restart::AnalogSetupWords;
+use restart::Going;
+use restart::SetupWords;
 
-// So many points of each kind.
-fn setup(n: usize) -> Setup {
-    let k = AnalogKind::Long(WholeGate::Beyond(100));
-    let a = AnalogSetup { class: 2, kind: k };
-    let analogs = [a; 64];
-    let classes = [1u8; 64];
-    Setup {
-        own: 10,
-        master: 1,
+// Adds n analogs, all alike.
+fn added(first: Going, n: usize, analogs: &mut [u32; ANALOG_WORDS]) -> Going {
+    let a = AnalogSetupWords {
+        limit: 100,
+        gain: 0,
+        offset: 0,
+        class: 2,
+        kind: 0,
+        gate: 2,
+    };
+    let mut g = first;
+    let mut left: usize = POINTS_MAX;
+    while 0 < left {
+        if !restart::more(g, n) {
+            return g;
+        }
+        if POINTS_MAX <= g.at {
+            return g;
+        }
+        g = restart::added(g, analogs, a);
+        left -= 1;
+    }
+    g
+}
+
+// So many points of each kind, none read yet.
+fn fresh(n: u16, binaries: &mut [u32; BINARY_WORDS], analogs: &mut [u32; ANALOG_WORDS]) -> Head {
+    let s = SetupWords {
         arm_time: 2000,
         confirm_time: 5000,
+        own: 10,
+        master: 1,
         outputs: 8,
-        binary_count: n,
-        analog_count: n,
-        classes: classes,
-        analogs: analogs,
-    }
+    };
+    let classes = [1u8; POINTS_MAX];
+    let k = if n < 64 { n as usize } else { POINTS_MAX };
+    let g = restart::begun(s, &classes[0..k], k, binaries);
+    let r = restart::answered(s, k, added(g, k, analogs));
+    r.head
 }
 
-fn accepted(a: ReadingAnswer) -> u64 {
-    match a {
-        ReadingAnswer::Accepted => 1,
-        ReadingAnswer::Time => 2,
-        ReadingAnswer::NoPoint => 3,
-        ReadingAnswer::NotFinite => 4,
-        ReadingAnswer::HostFlags => 5,
-    }
+// The head with so many events held.
+fn with_events(h: Head, n: usize) -> Head {
+    let mut next = h;
+    next.event_count = n;
+    next
 }
 
-fn fresh_outstation(n: usize) -> Outstation {
-    let r = outstation::restart(setup(n));
-    let o = r.state;
-    o
+// The answer as the checksums have it.
+fn accepted(refusal: u8) -> u64 {
+    refusal as u64 + 1
+}
+
+fn state_reading(
+    h: Head,
+    binaries: &mut [u32; BINARY_WORDS],
+    analogs: &mut [u32; ANALOG_WORDS],
+    held: &mut [u64; EVENT_WORDS],
+    time: u64,
+    point: u16,
+    state: bool,
+) -> Took {
+    let m = Measured::State(state);
+    let r = Reading {
+        time,
+        point,
+        measured: m,
+        flags: 1,
+    };
+    outstation::take_reading(h, binaries, analogs, held, r)
 }
 
 // The next of n points, from the first again after the last.
@@ -61,31 +103,43 @@ fn following(point: u16, n: u16) -> u16 {
 }
 
 // Each reading changes its point's state and raises an event; the buffer is emptied when full.
-pub fn outstation_reading(count: u64, n: u16) -> u64 {
-    let mut o = fresh_outstation(n as usize);
+fn read_all(
+    count: u64,
+    n: u16,
+    first: Head,
+    binaries: &mut [u32; BINARY_WORDS],
+    analogs: &mut [u32; ANALOG_WORDS],
+    held: &mut [u64; EVENT_WORDS],
+) -> u64 {
+    let mut h = first;
     let mut point: u16 = 0;
     let mut state = true;
     let mut sum: u64 = 1;
     let mut left = count;
     while 0 < left {
         if left % 256 == 0 {
-            let mut b = o.buffer;
-            b.count = 0;
-            o.buffer = b;
+            h = with_events(h, 0);
         }
-        let t = outstation::binary_reading(o, count - left, point, state, 1);
-        let next = t.state;
-        o = next;
-        let a = t.answer;
-        sum = fold(sum, plus(accepted(a), o.clock));
+        let t = state_reading(h, binaries, analogs, held, count - left, point, state);
+        let next = t.head;
+        h = next;
+        sum = fold(sum, plus(accepted(t.refusal), h.clock));
         point = following(point, n);
         if point == 0 {
             state = !state;
         }
         left -= 1;
     }
-    let b = o.buffer;
-    digest(sum, b)
+    sum
+}
+
+pub fn outstation_reading(count: u64, n: u16) -> u64 {
+    let mut binaries = [0u32; BINARY_WORDS];
+    let mut analogs = [0u32; ANALOG_WORDS];
+    let mut held = [0u64; EVENT_WORDS];
+    let h = fresh(n, &mut binaries, &mut analogs);
+    let sum = read_all(count, n, h, &mut binaries, &mut analogs, &mut held);
+    digest(sum, &held)
 }
 
 // ---- an outstation that holds events
@@ -105,7 +159,9 @@ fn shown_of(i: u64) -> Shown {
 }
 
 // The kinds and the classes take turns.
-fn event_at(i: u64) -> Event {
+fn event_at(i: u64) -> Event
+    ensures { λ r. ⌜ r .time ≡ i ⌝ }
+{
     let s = shown_of(i);
     Event {
         time: i,
@@ -116,60 +172,86 @@ fn event_at(i: u64) -> Event {
     }
 }
 
-fn held_events(n: u64) -> Buffer {
-    let mut b = events::empty();
-    let mut held = b.held;
-    let end = events::filled(n as usize);
-    let mut i: usize = 0;
-    while i < end {
-        let e = event_at(i as u64);
-        held[i] = Held {
-            event: e,
-            carried: false,
-        };
+// Holds n events.
+fn hold(n: u64, held: &mut [u64; EVENT_WORDS]) -> usize {
+    let mut t = BufferStatus {
+        count: 0,
+        overflow: false,
+    };
+    let mut i: u64 = 0;
+    while i < n {
+        if 256 <= i {
+            return t.count;
+        }
+        t = event_store::push(held, t, event_at(i));
         i += 1;
     }
-    b.held = held;
-    b.count = end;
-    b
+    t.count
 }
 
-// 64 points of each kind, the binaries read once, so that a changed state raises an event.
-fn read_outstation() -> Outstation {
-    let mut o = fresh_outstation(64);
+// 64 points of each kind, the binaries read once, so that a changed state raises an event; n events are held.
+pub fn holding(
+    n: u64,
+    binaries: &mut [u32; BINARY_WORDS],
+    analogs: &mut [u32; ANALOG_WORDS],
+    held: &mut [u64; EVENT_WORDS],
+) -> Head {
+    let mut h = fresh(64, binaries, analogs);
     let mut point: u16 = 0;
     while point < 64 {
-        let t = outstation::binary_reading(o, 0, point, false, 1);
-        let next = t.state;
-        o = next;
+        let t = state_reading(h, binaries, analogs, held, 0, point, false);
+        let next = t.head;
+        h = next;
         point += 1;
     }
-    o
+    with_events(h, hold(n, held))
 }
 
-pub fn holding(n: u64) -> Outstation {
-    let mut o = read_outstation();
-    let b = held_events(n);
-    o.buffer = b;
-    o
+// Sets a binary back to what it was.
+fn set_back(binaries: &mut [u32; BINARY_WORDS], i: usize, word: u32) {
+    if i < POINTS_MAX {
+        binaries[i] = word;
+    }
 }
 
-// Each reading is taken by the same state, which holds n events, and raises one more.
-pub fn held_reading(count: u64, n: u64) -> u64 {
-    let full = holding(n);
+// Each reading is taken with the same head, which holds events, and raises one more; then its point is set back. The binaries are all alike.
+fn read_held(
+    count: u64,
+    full: Head,
+    word: u32,
+    binaries: &mut [u32; BINARY_WORDS],
+    analogs: &mut [u32; ANALOG_WORDS],
+    held: &mut [u64; EVENT_WORDS],
+) -> u64 {
     let mut sum: u64 = 1;
     let mut left = count;
     while 0 < left {
         let point = (left % 64) as u16;
-        let t = outstation::binary_reading(full, left, point, true, 1);
-        let a = t.answer;
-        let o = t.state;
-        let b = o.buffer;
-        sum = fold(sum, plus(accepted(a), plus(o.clock, b.count as u64)));
+        let t = state_reading(full, binaries, analogs, held, left, point, true);
+        sum = fold(sum, plus(accepted(t.refusal), clock_and_count(t.head)));
+        set_back(binaries, point as usize, word);
         left -= 1;
     }
-    let t = outstation::binary_reading(full, 1, 0, true, 1);
-    let o = t.state;
-    let b = o.buffer;
-    digest(sum, b)
+    state_reading(full, binaries, analogs, held, 1, 0, true);
+    sum
+}
+
+fn clock_and_count(h: Head) -> u64 {
+    plus(h.clock, held_in(h))
+}
+
+// How many events are held.
+pub fn held_in(h: Head) -> u64 {
+    let t = outstation::status_of(h);
+    t.count as u64
+}
+
+pub fn held_reading(count: u64, n: u64) -> u64 {
+    let mut binaries = [0u32; BINARY_WORDS];
+    let mut analogs = [0u32; ANALOG_WORDS];
+    let mut held = [0u64; EVENT_WORDS];
+    let full = holding(n, &mut binaries, &mut analogs, &mut held);
+    let word = binaries[0];
+    let sum = read_held(count, full, word, &mut binaries, &mut analogs, &mut held);
+    digest(sum, &held)
 }

@@ -1,5 +1,5 @@
 // Checksums of results, and fillings of bytes.
-use events::Buffer;
+use event_store::EVENT_WORDS;
 
 // The sum, modulo 2^64.
 pub fn plus(a: u64, b: u64) -> u64 {
@@ -43,11 +43,11 @@ pub fn poke(s: &mut [u8], i: usize, b: u8) {
 }
 
 // The times and points of all slots.
-pub fn digest(sum: u64, b: Buffer) -> u64 {
+pub fn digest(sum: u64, held: &[u64; EVENT_WORDS]) -> u64 {
     let mut all = sum;
     let mut i: usize = 0;
-    while i < 256 {
-        let h = b.held[i];
+    while i < events::CAPACITY {
+        let h = event_store::load(held, i);
         let e = h.event;
         all = fold(fold(all, e.time), e.point as u64);
         i += 1;

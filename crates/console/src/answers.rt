@@ -1,11 +1,55 @@
 // The common parts of answers, and the bytes that calls are lent.
 ghost use Prim.Native.Nat.{_≤_};
+ghost use lib.ListN.{length};
 
 // The most bytes that a call is lent.
 pub const LENT_MAX: u64 = 65536;
 
+// The arrays of a call's bytes, and of the bytes that it is lent.
+pub const BYTES_MAX: usize = 32768;
+
+pub const ROOM_MAX: usize = 65536;
+
 // What lent bytes are filled with.
 pub const FILL: u8 = 0xA5;
+
+// LEN and how many bytes HEX has.
+pub struct Asked {
+    pub size: usize,
+    pub len: usize,
+    pub next: text::Cursor,
+}
+
+// What a call came to: the refusal's number, 0 where it has none, and how many of the lent bytes are its answer.
+pub struct Outcome {
+    pub refusal: u8,
+    pub used: usize,
+}
+
+// LEN HEX
+pub fn asked_of(w: &[u8], c: text::Cursor, bytes: &mut [u8]) -> Asked
+    ensures { λ r. ⌜ r .len ≤ length (now (bytes .exit)) ⌝ }
+{
+    let size = text::take_number(w, c, 32, LENT_MAX);
+    let r = text::take_run(w, size.next, bytes);
+    let next = r.next;
+    Asked {
+        size: size.value as usize,
+        len: r.len,
+        next,
+    }
+}
+
+pub fn gave(used: usize) -> Outcome {
+    Outcome { refusal: 0, used }
+}
+
+pub fn refused(n: u8) -> Outcome {
+    Outcome {
+        refusal: n,
+        used: 0,
+    }
+}
 
 // The last words of an answer, and the end of its line.
 pub fn answer(out: &mut [u8], at: usize, s: &[u8]) -> usize {
@@ -14,19 +58,23 @@ pub fn answer(out: &mut [u8], at: usize, s: &[u8]) -> usize {
 }
 
 // `no N`
-pub fn refused(out: &mut [u8], at: usize, n: u64) -> usize {
+fn put_refusal(n: u8, out: &mut [u8], at: usize) -> usize {
     let a = text::put_bytes(out, at, b"no ");
-    text::put_decimal(out, a, n)
-}
-
-// A mark and a number.
-pub fn number(out: &mut [u8], at: usize, mark: u8, n: u16) -> usize {
-    let a = text::put(out, at, mark);
     text::put_decimal(out, a, n as u64)
 }
 
+// The words and the bytes used, or `no N`.
+pub fn put_outcome(o: Outcome, words: &[u8], lent: &[u8], out: &mut [u8], at: usize) -> usize {
+    if o.refusal == 0 {
+        let used = least(o.used, lent.len());
+        let a = text::put_bytes(out, at, words);
+        return text::put_run(out, a, &lent[0..used]);
+    }
+    put_refusal(o.refusal, out, at)
+}
+
 // The end of an answer: ` spoilt` where lent bytes were changed that should not be.
-pub fn ended(out: &mut [u8], at: usize, spoilt: bool) -> usize {
+pub fn ended(spoilt: bool, out: &mut [u8], at: usize) -> usize {
     if spoilt {
         answer(out, at, b" spoilt")
     } else {
@@ -34,10 +82,31 @@ pub fn ended(out: &mut [u8], at: usize, spoilt: bool) -> usize {
     }
 }
 
-// `no N`, with none of the lent bytes changed.
-pub fn refused_whole(n: u64, lent: &[u8], out: &mut [u8], at: usize) -> usize {
-    let a = refused(out, at, n);
-    ended(out, a, changed(lent))
+// The same, where the lent bytes past those used are as they were filled.
+pub fn ended_past(used: usize, lent: &[u8], out: &mut [u8], at: usize) -> usize {
+    let from = least(used, lent.len());
+    ended(changed(&lent[from..]), out, at)
+}
+
+// The whole answer.
+pub fn tell(o: Outcome, words: &[u8], lent: &[u8], out: &mut [u8], at: usize) -> usize {
+    let a = put_outcome(o, words, lent, out, at);
+    ended_past(o.used, lent, out, a)
+}
+
+// What a reading or a table came to: `ok` or `no N`.
+pub fn taken(refusal: u8, out: &mut [u8], at: usize) -> usize {
+    if refusal == 0 {
+        return answer(out, at, b"ok");
+    }
+    let a = put_refusal(refusal, out, at);
+    answer(out, a, b"")
+}
+
+// A mark and a number.
+pub fn number(out: &mut [u8], at: usize, mark: u8, n: u16) -> usize {
+    let a = text::put(out, at, mark);
+    text::put_decimal(out, a, n as u64)
 }
 
 pub fn least(a: usize, b: usize) -> usize

@@ -2,71 +2,74 @@
 use crate::answers;
 use crate::held;
 use crate::readings;
+use crate::readings::RECORDS_MAX;
 use crate::session;
-use crate::session::Session;
 use crate::session::Unit;
 use crate::setup;
-use outstation::Measured;
-use outstation::Outstation;
-use outstation::Reading;
-use outstation::ReadingAnswer;
-use outstation::SetupAnswer;
-use outstation::Took;
+use event_store::EVENT_WORDS;
+use outstation::Head;
+use outstation::ReadingWords;
+use point_store::ANALOG_WORDS;
+use point_store::BINARY_WORDS;
+use points::POINTS_MAX;
+use tables::TableTook;
+
+// Keeps the line of a setup for restarts, and answers its length.
+fn kept(setup: &mut [u8], w: &[u8]) -> usize {
+    if setup.len() < w.len() {
+        return 0;
+    }
+    octets::copy(setup, 0, w);
+    w.len()
+}
 
 // setup OWN MASTER ARM CONFIRM NB NA NO BINARY.. ANALOG..
 pub fn setup(
     u: Unit,
     w: &[u8],
     c: text::Cursor,
+    binaries: &mut [u32; BINARY_WORDS],
+    analogs: &mut [u32; ANALOG_WORDS],
+    setup: &mut [u8],
     heard: &mut [u8],
     out: &mut [u8],
     at: usize,
 ) -> Unit {
-    let t = setup::setup_of(w, c);
-    if !text::finished(t.next) {
+    let mut classes = [0u8; POINTS_MAX];
+    let t = setup::set_up(w, c, &mut classes, binaries, analogs);
+    if !t.right {
         return session::told_all(u, out, at, b"fault");
     }
-    let set = t.setup;
-    let r = outstation::restart(set);
-    let a = r.answer;
-    let state = r.state;
-    let mut next = u;
-    if t.fits && accepted(a) {
-        answers::fill(heard);
-        let s = begun(u.session, set.own, set.master);
-        next.setup = set;
-        next.outstation = state;
-        next.session = session::told(s, out, at, b"ok");
-        return next;
+    let r = t.restarted;
+    let head = r.head;
+    if r.refusal != 0 {
+        let session = session::told(session::none(u.session), out, at, b"no 5");
+        return Unit {
+            session,
+            head,
+            setup_len: 0,
+        };
     }
-    let mut s = u.session;
-    s.have = false;
-    next.session = session::told(s, out, at, b"no 5");
-    next
-}
-
-fn accepted(a: SetupAnswer) -> bool {
-    match a {
-        SetupAnswer::Accepted => true,
-        SetupAnswer::Limit => false,
+    answers::fill(heard);
+    let setup_len = kept(setup, w);
+    let session = session::told(session::begun(u.session, t.setup), out, at, b"ok");
+    Unit {
+        session,
+        head,
+        setup_len,
     }
 }
 
-// There is an outstation; nothing is heard, nothing sent.
-fn begun(s: Session, own: u16, master: u16) -> Session {
-    let addresses = link::Station { own, master };
-    let assembly = transport::nothing_begun();
-    let sender = transport::nothing_sent();
-    let mut next = s;
-    next.have = true;
-    next.addresses = addresses;
-    next.assembly = assembly;
-    next.sender = sender;
-    next
-}
-
-// restart
-pub fn restart(u: Unit, c: text::Cursor, out: &mut [u8], at: usize) -> Unit {
+// restart: set up again from the kept line
+pub fn restart(
+    u: Unit,
+    c: text::Cursor,
+    binaries: &mut [u32; BINARY_WORDS],
+    analogs: &mut [u32; ANALOG_WORDS],
+    setup: &[u8],
+    out: &mut [u8],
+    at: usize,
+) -> Unit {
     if !text::finished(c) {
         return session::told_all(u, out, at, b"fault");
     }
@@ -74,18 +77,32 @@ pub fn restart(u: Unit, c: text::Cursor, out: &mut [u8], at: usize) -> Unit {
     if !s.have {
         return session::told_all(u, out, at, b"none");
     }
-    let set = u.setup;
-    let r = outstation::restart(set);
-    let state = r.state;
-    let b = begun(s, set.own, set.master);
-    let mut next = u;
-    next.outstation = state;
-    next.session = session::told(b, out, at, b"ok");
-    next
+    let n = answers::least(u.setup_len, setup.len());
+    let name = text::word(&setup[0..n], text::start(), 32);
+    let mut classes = [0u8; POINTS_MAX];
+    let t = setup::set_up(&setup[0..n], name.next, &mut classes, binaries, analogs);
+    let r = t.restarted;
+    let head = r.head;
+    let session = session::told(session::begun(s, t.setup), out, at, b"ok");
+    Unit {
+        session,
+        head,
+        setup_len: u.setup_len,
+    }
 }
 
 // bin, ana and flt T I V F; the kind is that of a table's record.
-pub fn reading(u: Unit, w: &[u8], c: text::Cursor, kind: u8, out: &mut [u8], at: usize) -> Unit {
+pub fn reading(
+    u: Unit,
+    w: &[u8],
+    c: text::Cursor,
+    kind: u8,
+    binaries: &mut [u32; BINARY_WORDS],
+    analogs: &mut [u32; ANALOG_WORDS],
+    held: &mut [u64; EVENT_WORDS],
+    out: &mut [u8],
+    at: usize,
+) -> Unit {
     let r = readings::reading_of(w, c, 32, kind);
     if !text::finished(r.next) {
         return session::told_all(u, out, at, b"fault");
@@ -95,40 +112,48 @@ pub fn reading(u: Unit, w: &[u8], c: text::Cursor, kind: u8, out: &mut [u8], at:
         return session::told_all(u, out, at, b"none");
     }
     let x = r.reading;
-    let o = u.outstation;
-    let t = take_reading(o, x);
-    let a = t.answer;
-    let state = t.state;
-    let b = reading_words(a, out, at);
-    let mut next = u;
-    next.outstation = state;
-    next.session = session::told(s, out, b, b"");
-    next
+    let t = outstation::take_reading(u.head, binaries, analogs, held, x);
+    let head = t.head;
+    let b = answers::taken(t.refusal, out, at);
+    session::left(u, head, b)
 }
 
-// A reading for the outstation, by its kind.
-fn take_reading(o: Outstation, r: Reading) -> Took {
-    let m = r.measured;
-    match m {
-        Measured::State(state) => outstation::binary_reading(o, r.time, r.point, state, r.flags),
-        Measured::Whole(z) => outstation::whole_reading(o, r.time, r.point, z, r.flags),
-        Measured::Real(x) => outstation::float_reading(o, r.time, r.point, x, r.flags),
+// The first n readings of a table, up to one that is refused.
+fn taken(
+    h: Head,
+    readings: [ReadingWords; RECORDS_MAX],
+    n: usize,
+    binaries: &mut [u32; BINARY_WORDS],
+    analogs: &mut [u32; ANALOG_WORDS],
+    held: &mut [u64; EVENT_WORDS],
+) -> TableTook {
+    let mut t = tables::begun(h);
+    let mut left: usize = RECORDS_MAX;
+    while 0 < left {
+        if !tables::more(t, n) {
+            return t;
+        }
+        let i = t.taken;
+        if i < RECORDS_MAX {
+            let r = readings[i];
+            t = tables::took(t, binaries, analogs, held, r);
+        }
+        left -= 1;
     }
-}
-
-// `ok` or `no N`
-fn reading_words(a: ReadingAnswer, out: &mut [u8], at: usize) -> usize {
-    match a {
-        ReadingAnswer::Accepted => text::put_bytes(out, at, b"ok"),
-        ReadingAnswer::Time => answers::refused(out, at, 1),
-        ReadingAnswer::NoPoint => answers::refused(out, at, 2),
-        ReadingAnswer::NotFinite => answers::refused(out, at, 3),
-        ReadingAnswer::HostFlags => answers::refused(out, at, 4),
-    }
+    t
 }
 
 // table RECORD..
-pub fn table(u: Unit, w: &[u8], c: text::Cursor, out: &mut [u8], at: usize) -> Unit {
+pub fn table(
+    u: Unit,
+    w: &[u8],
+    c: text::Cursor,
+    binaries: &mut [u32; BINARY_WORDS],
+    analogs: &mut [u32; ANALOG_WORDS],
+    held: &mut [u64; EVENT_WORDS],
+    out: &mut [u8],
+    at: usize,
+) -> Unit {
     let t = readings::table_of(w, c);
     if !t.ok {
         return session::told_all(u, out, at, b"fault");
@@ -138,27 +163,28 @@ pub fn table(u: Unit, w: &[u8], c: text::Cursor, out: &mut [u8], at: usize) -> U
         return session::told_all(u, out, at, b"none");
     }
     let rs = t.readings;
-    let o = u.outstation;
-    let r = tables::table_up_to_128(o, rs, t.count);
-    let a = r.answer;
-    let state = r.state;
-    let b = took_words(r.taken, a, out, at);
-    let mut next = u;
-    next.outstation = state;
-    next.session = session::told(s, out, b, b"");
-    next
+    let r = taken(u.head, rs, t.count, binaries, analogs, held);
+    let head = r.head;
+    let b = took_words(r.taken, r.refusal, out, at);
+    session::left(u, head, b)
 }
 
 // `took COUNT ok` or `took COUNT no N`
-fn took_words(taken: usize, a: ReadingAnswer, out: &mut [u8], at: usize) -> usize {
+fn took_words(taken: usize, refusal: u8, out: &mut [u8], at: usize) -> usize {
     let b = text::put_bytes(out, at, b"took ");
     let c = text::put_decimal(out, b, taken as u64);
     let d = text::put(out, c, 32);
-    reading_words(a, out, d)
+    answers::taken(refusal, out, d)
 }
 
 // held
-pub fn held(u: Unit, c: text::Cursor, out: &mut [u8], at: usize) -> Unit {
+pub fn held(
+    u: Unit,
+    c: text::Cursor,
+    events: &[u64; EVENT_WORDS],
+    out: &mut [u8],
+    at: usize,
+) -> Unit {
     if !text::finished(c) {
         return session::told_all(u, out, at, b"fault");
     }
@@ -166,7 +192,7 @@ pub fn held(u: Unit, c: text::Cursor, out: &mut [u8], at: usize) -> Unit {
     if !s.have {
         return session::told_all(u, out, at, b"none");
     }
-    let o = u.outstation;
-    let b = held::put_held(o.buffer, out, at);
+    let t = outstation::status_of(u.head);
+    let b = held::put_held(events, t.count, out, at);
     session::told_all(u, out, b, b"")
 }

@@ -1,118 +1,172 @@
 // The call `frag`: a fragment, its answer, and the objects carried out.
 use crate::answers;
+use crate::answers::BYTES_MAX;
+use crate::answers::Outcome;
+use crate::answers::ROOM_MAX;
 use crate::session;
 use crate::session::Unit;
+use application::FRAGMENT_MAX;
+use control::ANSWER_MAX;
 use control::Crob;
 use control::Crobs;
+use control::ECHO_MAX;
+use event_store::EVENT_WORDS;
 use fragments::FragmentAnswer;
-use outstation::Outstation;
+use fragments::FragmentResult;
+use outstation::Head;
+use point_store::ANALOG_WORDS;
+use point_store::BINARY_WORDS;
 
 // frag T LEN HEX
 pub fn frag(
     u: Unit,
     w: &[u8],
     c: text::Cursor,
-    bytes: &mut [u8],
-    lent: &mut [u8],
+    binaries: &[u32; BINARY_WORDS],
+    analogs: &[u32; ANALOG_WORDS],
+    held: &mut [u64; EVENT_WORDS],
+    request: &mut [u8; FRAGMENT_MAX],
+    answer: &mut [u8; ANSWER_MAX],
+    objects: &mut [u8; ECHO_MAX],
+    bytes: &mut [u8; BYTES_MAX],
+    lent: &mut [u8; ROOM_MAX],
     out: &mut [u8],
     at: usize,
 ) -> Unit {
     let t = text::take_number(w, c, 32, u64::MAX);
-    let time = t.value;
-    let size = text::take_number(w, t.next, 32, answers::LENT_MAX);
-    let r = text::take_run(w, size.next, bytes);
-    if !text::finished(r.next) {
+    let f = answers::asked_of(w, t.next, bytes);
+    if !text::finished(f.next) {
         return session::told_all(u, out, at, b"fault");
     }
     let s = u.session;
     if !s.have {
         return session::told_all(u, out, at, b"none");
     }
-    let asked = size.value as usize;
-    let n = r.len;
-    lend(u, time, &bytes[0..n], asked, lent, out, at)
+    let r = lend(
+        u.head,
+        binaries,
+        analogs,
+        held,
+        request,
+        answer,
+        objects,
+        t.value,
+        bytes,
+        f.len,
+        lent,
+        f.size,
+    );
+    let head = r.head;
+    let a = r.answer;
+    let operated = r.operated;
+    session::left(u, head, tell(a, operated, lent, f.size, out, at))
 }
 
-// Lends so many bytes for the answer.
+// The fragment is the first n bytes, and so many bytes are lent for its answer.
 fn lend(
-    u: Unit,
+    h: Head,
+    binaries: &[u32; BINARY_WORDS],
+    analogs: &[u32; ANALOG_WORDS],
+    held: &mut [u64; EVENT_WORDS],
+    request: &mut [u8; FRAGMENT_MAX],
+    answer: &mut [u8; ANSWER_MAX],
+    objects: &mut [u8; ECHO_MAX],
     time: u64,
-    fragment: &[u8],
-    asked: usize,
+    bytes: &[u8],
+    n: usize,
     lent: &mut [u8],
-    out: &mut [u8],
-    at: usize,
-) -> Unit {
-    let room = answers::least(asked, lent.len());
-    take_fragment(u, time, fragment, &mut lent[0..room], out, at)
+    size: usize,
+) -> FragmentResult {
+    let len = answers::least(n, bytes.len());
+    let room = answers::least(size, lent.len());
+    answered(
+        h,
+        binaries,
+        analogs,
+        held,
+        request,
+        answer,
+        objects,
+        time,
+        &bytes[0..len],
+        &mut lent[0..room],
+    )
 }
 
 // What the outstation makes of the fragment, into lent bytes that are filled anew.
-fn answered(o: Outstation, time: u64, fragment: &[u8], lent: &mut [u8]) -> fragments::Answered {
-    answers::fill(lent);
-    fragments::fragment(o, time, fragment, lent)
-}
-
-// A fragment came: the outstation takes it, and the answer is told.
-fn take_fragment(
-    u: Unit,
+fn answered(
+    h: Head,
+    binaries: &[u32; BINARY_WORDS],
+    analogs: &[u32; ANALOG_WORDS],
+    held: &mut [u64; EVENT_WORDS],
+    request: &mut [u8; FRAGMENT_MAX],
+    answer: &mut [u8; ANSWER_MAX],
+    objects: &mut [u8; ECHO_MAX],
     time: u64,
     fragment: &[u8],
     lent: &mut [u8],
+) -> FragmentResult {
+    answers::fill(lent);
+    fragments::fragment(
+        h,
+        binaries,
+        analogs,
+        held,
+        request,
+        answer,
+        objects,
+        time,
+        fragment,
+        lent,
+    )
+}
+
+// The whole answer, with so many bytes lent.
+fn tell(
+    a: FragmentAnswer,
+    operated: Crobs,
+    lent: &[u8],
+    size: usize,
     out: &mut [u8],
     at: usize,
-) -> Unit {
-    let o = u.outstation;
-    let r = answered(o, time, fragment, lent);
-    let a = r.answer;
-    let operated = r.operated;
-    let state = r.state;
-    let mut next = u;
-    next.outstation = state;
-    let to = tell(a, operated, lent, out, at);
-    next.session = session::moved(u.session, to);
-    next
+) -> usize {
+    let room = answers::least(size, lent.len());
+    let o = outcome_of(a);
+    let b = put_answer(a, o, operated, &lent[0..room], out, at);
+    answers::ended_past(o.used, &lent[0..room], out, b)
 }
 
-// The whole answer.
-fn tell(a: FragmentAnswer, operated: Crobs, lent: &[u8], out: &mut [u8], at: usize) -> usize {
-    let b = answer_words(a, operated, lent, out, at);
-    let past = answers::least(used_of(a), lent.len());
-    answers::ended(out, b, answers::changed(&lent[past..]))
-}
-
-// How many lent bytes the answer has.
-fn used_of(a: FragmentAnswer) -> usize {
-    if let FragmentAnswer::Answer(n) = a {
-        n
-    } else {
-        0
+fn outcome_of(a: FragmentAnswer) -> Outcome {
+    match a {
+        FragmentAnswer::Answer(n) => answers::gave(n),
+        FragmentAnswer::Silent => answers::gave(0),
+        FragmentAnswer::Confirmed => answers::gave(0),
+        FragmentAnswer::Time => answers::refused(1),
+        FragmentAnswer::Malformed => answers::refused(31),
+        FragmentAnswer::NotConfirmed => answers::refused(32),
+        FragmentAnswer::AnswerLent => answers::refused(33),
     }
 }
 
-fn answer_words(
+fn put_answer(
     a: FragmentAnswer,
+    o: Outcome,
     operated: Crobs,
     lent: &[u8],
     out: &mut [u8],
     at: usize,
 ) -> usize {
     match a {
-        FragmentAnswer::Answer(n) => {
-            let k = answers::least(n, lent.len());
-            let b = text::put_bytes(out, at, b"ans ");
-            let c = text::put_run(out, b, &lent[0..k]);
-            put_operated(operated, out, c)
+        FragmentAnswer::Answer(_) => {
+            let b = answers::put_outcome(o, b"ans ", lent, out, at);
+            put_operated(operated, out, b)
         }
         FragmentAnswer::Silent => {
             let b = text::put_bytes(out, at, b"mute");
             put_operated(operated, out, b)
         }
         FragmentAnswer::Confirmed => text::put_bytes(out, at, b"conf"),
-        FragmentAnswer::Time => answers::refused(out, at, 1),
-        FragmentAnswer::Malformed => answers::refused(out, at, 31),
-        FragmentAnswer::NotConfirmed => answers::refused(out, at, 32),
-        FragmentAnswer::AnswerLent => answers::refused(out, at, 33),
+        _ => answers::put_outcome(o, b"", lent, out, at),
     }
 }
 
@@ -157,8 +211,7 @@ fn put_times(x: Crob, out: &mut [u8], at: usize) -> usize {
 
 // A time's four bytes, the lowest first.
 fn put_time(t: u32, out: &mut [u8], at: usize) -> usize {
-    let a = text::put_byte(out, at, (t % 256) as u8);
-    let b = text::put_byte(out, a, (t / 256 % 256) as u8);
-    let c = text::put_byte(out, b, (t / 65536 % 256) as u8);
-    text::put_byte(out, c, (t / 16777216) as u8)
+    let mut b = [0u8; 4];
+    octets::put4(&mut b, 0, t);
+    text::put_hex(out, at, &b)
 }

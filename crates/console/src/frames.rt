@@ -1,5 +1,8 @@
 // The calls `crc`, `frame-write` and `frame-read`.
+ghost use Prim.Native.Nat.{_≤_};
+ghost use lib.ListN.{length};
 use crate::answers;
+use crate::answers::Outcome;
 use frame::Read;
 use frame::Wrote;
 
@@ -17,6 +20,36 @@ pub fn crc(w: &[u8], c: text::Cursor, bytes: &mut [u8], out: &mut [u8], at: usiz
     answers::answer(out, d, b"")
 }
 
+// LEN CC DEST SRC, and how many bytes HEX has.
+struct FrameAt {
+    size: usize,
+    control: u8,
+    destination: u16,
+    source: u16,
+    len: usize,
+    next: text::Cursor,
+}
+
+// LEN CC DEST SRC HEX
+fn frame_of(w: &[u8], c: text::Cursor, bytes: &mut [u8]) -> FrameAt
+    ensures { λ r. ⌜ r .len ≤ length (now (bytes .exit)) ⌝ }
+{
+    let size = text::take_number(w, c, 32, answers::LENT_MAX);
+    let control = text::take_control(w, size.next);
+    let destination = text::take_number(w, control.next, 32, 65535);
+    let source = text::take_number(w, destination.next, 32, 65535);
+    let r = text::take_run(w, source.next, bytes);
+    let next = r.next;
+    FrameAt {
+        size: size.value as usize,
+        control: control.value,
+        destination: destination.value as u16,
+        source: source.value as u16,
+        len: r.len,
+        next,
+    }
+}
+
 // frame-write LEN CC DEST SRC HEX
 pub fn frame_write(
     w: &[u8],
@@ -26,98 +59,66 @@ pub fn frame_write(
     out: &mut [u8],
     at: usize,
 ) -> usize {
-    let size = text::take_number(w, c, 32, answers::LENT_MAX);
-    let control = text::take_control(w, size.next);
-    let dest = text::take_number(w, control.next, 32, 65535);
-    let src = text::take_number(w, dest.next, 32, 65535);
-    let r = text::take_run(w, src.next, bytes);
-    if !text::finished(r.next) {
+    let f = frame_of(w, c, bytes);
+    if !text::finished(f.next) {
         return answers::answer(out, at, b"fault");
     }
-    let room = answers::least(size.value as usize, lent.len());
-    let n = r.len;
-    written(
-        control.value,
-        dest.value as u16,
-        src.value as u16,
-        &bytes[0..n],
-        &mut lent[0..room],
-        out,
-        at,
-    )
+    let room = answers::least(f.size, lent.len());
+    let n = f.len;
+    let o = written(f, &bytes[0..n], &mut lent[0..room]);
+    answers::tell(o, b"frame ", &lent[0..room], out, at)
 }
 
-fn written(
-    control: u8,
-    destination: u16,
-    source: u16,
-    user: &[u8],
-    lent: &mut [u8],
-    out: &mut [u8],
-    at: usize,
-) -> usize {
+// The frame, into lent bytes that are filled anew.
+fn written(f: FrameAt, user: &[u8], lent: &mut [u8]) -> Outcome {
     answers::fill(lent);
-    let f = frame::write_frame(lent, control, destination, source, user);
-    match f {
-        Wrote::Size(n) => {
-            let k = answers::least(n, lent.len());
-            let a = text::put_bytes(out, at, b"frame ");
-            let b = text::put_run(out, a, &lent[0..k]);
-            answers::ended(out, b, answers::changed(&lent[k..]))
-        }
-        Wrote::TooLong => answers::refused_whole(16, lent, out, at),
-        Wrote::WriteLent => answers::refused_whole(33, lent, out, at),
+    let r = frame::write_frame(lent, f.control, f.destination, f.source, user);
+    match r {
+        Wrote::Size(n) => answers::gave(n),
+        Wrote::TooLong => answers::refused(16),
+        Wrote::WriteLent => answers::refused(33),
     }
 }
 
-// frame-read LEN HEX
-pub fn frame_read(
-    w: &[u8],
-    c: text::Cursor,
-    bytes: &mut [u8],
-    lent: &mut [u8],
-    out: &mut [u8],
-    at: usize,
-) -> usize {
-    let size = text::take_number(w, c, 32, answers::LENT_MAX);
-    let r = text::take_run(w, size.next, bytes);
-    if !text::finished(r.next) {
-        return answers::answer(out, at, b"fault");
-    }
-    let room = answers::least(size.value as usize, lent.len());
-    let n = r.len;
-    answers::fill(&mut lent[0..room]);
-    let f = frame::read_frame(&bytes[0..n], &mut lent[0..room]);
-    user(f, &lent[0..room], out, at)
+// frame-read: the bytes of a frame, read into lent bytes that are filled anew
+pub fn frame_read(frame: &[u8], lent: &mut [u8], out: &mut [u8], at: usize) -> usize {
+    answers::fill(lent);
+    let f = frame::read_frame(frame, lent);
+    let a = put_heading(f, out, at);
+    answers::tell(read_outcome(f), b"", lent, out, a)
 }
 
 // `user CC DEST SRC ` of a frame that was read.
-fn parts(control: u8, destination: u16, source: u16, out: &mut [u8], at: usize) -> usize {
-    let a = text::put_bytes(out, at, b"user ");
-    let b = text::put_byte(out, a, control);
-    let c = answers::number(out, b, 32, destination);
-    let d = answers::number(out, c, 32, source);
-    text::put(out, d, 32)
+fn put_heading(f: Read, out: &mut [u8], at: usize) -> usize {
+    if let Read::Frame {
+        control,
+        destination,
+        source,
+        len: _,
+    } = f {
+        let a = text::put_bytes(out, at, b"user ");
+        let b = text::put_byte(out, a, control);
+        let c = answers::number(out, b, 32, destination);
+        let d = answers::number(out, c, 32, source);
+        text::put(out, d, 32)
+    } else {
+        at
+    }
 }
 
-fn user(f: Read, lent: &[u8], out: &mut [u8], at: usize) -> usize {
+fn read_outcome(f: Read) -> Outcome {
     match f {
         Read::Frame {
-            control,
-            destination,
-            source,
+            control: _,
+            destination: _,
+            source: _,
             len,
-        } => {
-            let a = parts(control, destination, source, out, at);
-            let k = answers::least(len, lent.len());
-            let b = text::put_run(out, a, &lent[0..k]);
-            answers::ended(out, b, answers::changed(&lent[k..]))
-        }
-        Read::Short => answers::refused_whole(11, lent, out, at),
-        Read::Start => answers::refused_whole(12, lent, out, at),
-        Read::HeaderCheck => answers::refused_whole(13, lent, out, at),
-        Read::Length => answers::refused_whole(14, lent, out, at),
-        Read::BlockCheck => answers::refused_whole(15, lent, out, at),
-        Read::ReadLent => answers::refused_whole(33, lent, out, at),
+        } => answers::gave(len),
+        Read::Short => answers::refused(11),
+        Read::Start => answers::refused(12),
+        Read::HeaderCheck => answers::refused(13),
+        Read::Length => answers::refused(14),
+        Read::BlockCheck => answers::refused(15),
+        Read::ReadLent => answers::refused(33),
     }
 }

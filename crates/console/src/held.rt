@@ -1,24 +1,26 @@
 // The events that the outstation holds.
 use crate::answers;
-use events::Buffer;
+use event_store::EVENT_WORDS;
 use events::Event;
 use events::Shown;
 use points::Value;
 
 // `held COUNT EVENT..`, oldest first
-pub fn put_held(b: Buffer, out: &mut [u8], at: usize) -> usize {
-    let n = events::filled(b.count);
+pub fn put_held(held: &[u64; EVENT_WORDS], count: usize, out: &mut [u8], at: usize) -> usize {
+    let n = events::filled(count);
     let a = text::put_bytes(out, at, b"held ");
-    let c = text::put_decimal(out, a, n as u64);
-    put_events(b, out, c)
+    let b = text::put_decimal(out, a, n as u64);
+    put_events(held, n, out, b)
 }
 
-fn put_events(b: Buffer, out: &mut [u8], at: usize) -> usize {
-    let n = events::filled(b.count);
+fn put_events(held: &[u64; EVENT_WORDS], n: usize, out: &mut [u8], at: usize) -> usize {
     let mut a = at;
     let mut i: usize = 0;
     while i < n {
-        let h = b.held[i];
+        if events::CAPACITY <= i {
+            return a;
+        }
+        let h = event_store::load(held, i);
         let e = h.event;
         a = put_event(e, out, a);
         i += 1;
@@ -91,14 +93,9 @@ fn put_signed(z: i32, out: &mut [u8], at: usize) -> usize {
 
 // F32
 fn put_float(x: f32, out: &mut [u8], at: usize) -> usize {
-    let n = float_bits(x);
+    let n = words::float_bits(x);
     let a = text::put_byte(out, at, (n / 16777216) as u8);
     let b = text::put_byte(out, a, (n / 65536 % 256) as u8);
     let c = text::put_byte(out, b, (n / 256 % 256) as u8);
     text::put_byte(out, c, (n % 256) as u8)
-}
-
-// The bits of a float. No event holds a NaN.
-fn float_bits(x: f32) -> u32 {
-    if x == x { f32::to_bits(x) } else { 2143289344 }
 }

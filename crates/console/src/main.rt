@@ -1,4 +1,8 @@
 // Reads call scripts from standard input and answers each call with one line on standard output.
+ghost use mathlib.Core.Path.{_≡_};
+ghost use Prim.Native.Nat.{_≤_};
+ghost use lib.ListN.{length};
+
 mod answers;
 mod calls;
 mod exchange;
@@ -11,35 +15,63 @@ mod session;
 mod setup;
 mod stations;
 
+use answers::BYTES_MAX;
+use answers::ROOM_MAX;
+use application::FRAGMENT_MAX;
+use control::ANSWER_MAX;
+use control::ECHO_MAX;
+use event_store::EVENT_WORDS;
 use libc::STDOUT_FILENO;
 use names::Command;
+use names::LentCall;
+use names::LineCall;
+use point_store::ANALOG_WORDS;
+use point_store::BINARY_WORDS;
 use session::Session;
 use session::Unit;
 
-// The longest line.
+// The longest line, and room for it beside what is read next.
 const LINE_MAX: usize = 65536;
 
-// Room for the longest answer.
-const ANSWER_MAX: usize = 20000;
+const TEXT_MAX: usize = 131072;
 
-// What is kept, how much of the text is filled, and whether the input has ended.
-struct Progress {
-    unit: Unit,
+// Room for the longest answer, and for all that are not yet written out.
+const TOLD_MAX: usize = 20000;
+
+const OUT_MAX: usize = 65536;
+
+// The text: its first `filled` bytes were read, and those before `from` answered.
+struct Reader {
+    from: usize,
     filled: usize,
+    // The rest of a line that was too long is skipped.
+    skipping: bool,
+    // The input has ended.
     done: bool,
 }
 
-struct Answered {
-    unit: Unit,
-    used: usize,
-}
-
-// A line after a first look: its call, and its words behind the name.
+// A line after a first look: its call, its words behind the name, and where the answer goes.
 struct Looked {
-    session: Session,
     command: Command,
     next: text::Cursor,
-    inner: bool,
+    at: usize,
+}
+
+// The next line of the text, or none yet.
+struct Line {
+    reader: Reader,
+    command: Command,
+    next: text::Cursor,
+    at: usize,
+    from: usize,
+    to: usize,
+}
+
+// Writes the answers out.
+fn flush(at: usize, out: &[u8]) {
+    if at <= out.len() {
+        io::write_all(STDOUT_FILENO, &out[0..at]);
+    }
 }
 
 // Writes the answers out where there is little room left, and answers where the next one goes.
@@ -47,153 +79,44 @@ fn room(at: usize, out: &[u8]) -> usize {
     if out.len() < at {
         return 0;
     }
-    if out.len() - at < ANSWER_MAX {
-        io::write_all(STDOUT_FILENO, &out[0..at]);
+    if out.len() - at < TOLD_MAX {
+        flush(at, out);
         return 0;
     }
     at
 }
 
 // A line that is no call: it is not answered, or with `fault`.
-fn no_call(session: Session, command: Command) -> Looked {
+fn no_call(p: LineCall, at: usize) -> Looked {
+    let command = Command::Line(p);
     let next = text::start();
-    Looked {
-        session,
-        command,
-        next,
-        inner: false,
-    }
+    Looked { command, next, at }
 }
 
 // Looks at a line without its end.
-fn look(s: Session, w: &[u8], out: &[u8]) -> Looked {
-    if s.skipping {
-        let mut next = s;
-        next.skipping = false;
-        return no_call(next, Command::Nothing);
+fn look(w: &[u8], skipping: bool, at: usize, out: &[u8]) -> Looked {
+    if skipping {
+        return no_call(LineCall::Nothing, at);
     }
     if w.len() == 0 {
-        return no_call(s, Command::Nothing);
+        return no_call(LineCall::Nothing, at);
     }
-    let session = session::moved(s, room(s.at, out));
+    let to = room(at, out);
     if LINE_MAX < w.len() {
-        return no_call(session, Command::Unknown);
+        return no_call(LineCall::Unknown, to);
     }
     if w[0] == b'#' {
-        return no_call(session, Command::Nothing);
+        return no_call(LineCall::Nothing, to);
     }
     let name = text::word(w, text::start(), 32);
     let from = name.from;
-    let to = name.to;
+    let end = name.to;
+    let command = names::command_of(&w[from..end]);
     let next = name.next;
-    let command = names::command_of(&w[from..to]);
     Looked {
-        session,
         command,
         next,
-        inner: names::is_inner(command),
-    }
-}
-
-// The calls that need no outstation, or only its addresses and segments.
-fn outer_call(
-    k: Command,
-    s: Session,
-    w: &[u8],
-    c: text::Cursor,
-    out: &mut [u8],
-    bytes: &mut [u8],
-    lent: &mut [u8],
-    heard: &mut [u8],
-) -> Session {
-    let at = s.at;
-    match k {
-        Command::Nothing => s,
-        Command::Station => stations::station(s, w, c, bytes, lent, out, at),
-        Command::Record => stations::record(s, w, c, out, at),
-        Command::Seg => segments::seg(s, w, c, bytes, lent, heard, out, at),
-        Command::Send => segments::send(s, w, c, bytes, lent, out, at),
-        Command::FrameWrite => session::moved(s, frames::frame_write(w, c, bytes, lent, out, at)),
-        Command::FrameRead => session::moved(s, frames::frame_read(w, c, bytes, lent, out, at)),
-        Command::Crc => session::moved(s, frames::crc(w, c, bytes, out, at)),
-        _ => session::told(s, out, at, b"fault"),
-    }
-}
-
-// The calls that the outstation itself answers.
-fn inner_call(
-    k: Command,
-    u: Unit,
-    w: &[u8],
-    c: text::Cursor,
-    out: &mut [u8],
-    bytes: &mut [u8],
-    lent: &mut [u8],
-    heard: &mut [u8],
-) -> Unit {
-    let s = u.session;
-    let at = s.at;
-    match k {
-        Command::Setup => calls::setup(u, w, c, heard, out, at),
-        Command::Restart => calls::restart(u, c, out, at),
-        Command::Bin => calls::reading(u, w, c, b'b', out, at),
-        Command::Ana => calls::reading(u, w, c, b'a', out, at),
-        Command::Flt => calls::reading(u, w, c, b'f', out, at),
-        Command::Table => calls::table(u, w, c, out, at),
-        Command::Frag => exchange::frag(u, w, c, bytes, lent, out, at),
-        Command::Held => calls::held(u, c, out, at),
-        _ => session::told_all(u, out, at, b"fault"),
-    }
-}
-
-// A line without its end.
-fn line(
-    u: Unit,
-    w: &[u8],
-    out: &mut [u8],
-    bytes: &mut [u8],
-    lent: &mut [u8],
-    heard: &mut [u8],
-) -> Unit {
-    let mut now = u;
-    let l = look(u.session, w, out);
-    let s = l.session;
-    let k = l.command;
-    let c = l.next;
-    if l.inner {
-        now.session = s;
-        return inner_call(k, now, w, c, out, bytes, lent, heard);
-    }
-    now.session = outer_call(k, s, w, c, out, bytes, lent, heard);
-    now
-}
-
-// The whole lines of the text.
-fn lines(
-    u: Unit,
-    t: &[u8],
-    out: &mut [u8],
-    bytes: &mut [u8],
-    lent: &mut [u8],
-    heard: &mut [u8],
-) -> Answered {
-    let mut now = u;
-    let mut from: usize = 0;
-    while from < t.len() {
-        let to = text::until(t, from, 10);
-        if t.len() <= to {
-            return Answered {
-                unit: now,
-                used: from,
-            };
-        }
-        let next = to + 1;
-        now = line(now, &t[from..to], out, bytes, lent, heard);
-        from = next;
-    }
-    Answered {
-        unit: now,
-        used: from,
+        at: to,
     }
 }
 
@@ -212,27 +135,40 @@ fn shift(t: &mut [u8], from: usize, n: usize) {
     }
 }
 
-// Writes the answers out.
-fn flush(u: Unit, out: &[u8]) -> Unit {
-    let s = u.session;
-    let at = s.at;
-    if at <= out.len() {
-        io::write_all(STDOUT_FILENO, &out[0..at]);
-    }
-    let mut next = u;
-    next.session = session::moved(s, 0);
-    next
+// What is left of the text, at its front, and where the next answer goes.
+struct Rest {
+    filled: usize,
+    skipping: bool,
+    at: usize,
 }
 
-// The rest of the text is longer than a line may be: answered at once, and skipped up to its end.
-fn long(s: Session, out: &mut [u8]) -> Session {
-    if s.skipping {
-        return s;
+// The rest of the text is no whole line. Where it is longer than a line may be it is answered at once, and skipped up to its end.
+fn rest_of(r: Reader, at: usize, t: &mut [u8], out: &mut [u8]) -> Rest {
+    if r.filled <= r.from {
+        return Rest {
+            filled: 0,
+            skipping: r.skipping,
+            at,
+        };
     }
-    let at = room(s.at, out);
-    let mut next = session::told(s, out, at, b"fault");
-    next.skipping = true;
-    next
+    let rest = r.filled - r.from;
+    if rest <= LINE_MAX {
+        shift(t, r.from, rest);
+        return Rest {
+            filled: rest,
+            skipping: r.skipping,
+            at,
+        };
+    }
+    Rest {
+        filled: 0,
+        skipping: true,
+        at: if r.skipping {
+            at
+        } else {
+            answers::answer(out, room(at, out), b"fault")
+        },
+    }
 }
 
 // Reads once, behind what is there, and answers where the text then ends.
@@ -245,102 +181,277 @@ fn fetch(t: &mut [u8], filled: usize) -> usize {
     filled + n
 }
 
-// Reads once, and answers the lines that are whole.
-fn turn(
-    p: Progress,
-    t: &mut [u8],
-    out: &mut [u8],
-    bytes: &mut [u8],
-    lent: &mut [u8],
-    heard: &mut [u8],
-) -> Progress {
-    let filled = p.filled;
+// The line at a place of the text.
+fn line_at(l: Looked, reader: Reader, from: usize, to: usize) -> Line
+    ensures { λ p. ⌜ (p .from ≡ from) × (p .to ≡ to) ⌝ }
+{
+    let command = l.command;
+    let next = l.next;
+    Line {
+        reader,
+        command,
+        next,
+        at: l.at,
+        from,
+        to,
+    }
+}
+
+// The last line: what is left of the text.
+fn last_line(r: Reader, t: &[u8], out: &[u8]) -> Line
+    ensures { λ p. ⌜ (p .from ≤ p .to) × (p .to ≤ length (now (t .entry))) ⌝ }
+{
+    let to = answers::least(r.filled, t.len());
+    let l = look(&t[0..to], r.skipping, 0, out);
+    line_at(l, r, 0, to)
+}
+
+// Writes the answers out and reads once. Where nothing has come, what is left is the last line.
+fn read_on(r: Reader, at: usize, t: &mut [u8], out: &mut [u8]) -> Line
+    ensures { λ p. ⌜ (p .from ≤ p .to) × (p .to ≤ length (now (t .exit))) ⌝ }
+{
+    let rest = rest_of(r, at, t, out);
+    flush(rest.at, out);
+    let filled = rest.filled;
     let end = fetch(t, filled);
-    let unit = p.unit;
-    work(unit, filled, end, t, out, bytes, lent, heard)
+    let reader = Reader {
+        from: 0,
+        filled: end,
+        skipping: rest.skipping,
+        done: end <= filled,
+    };
+    if filled < end {
+        return line_at(no_call(LineCall::Nothing, 0), reader, 0, 0);
+    }
+    last_line(reader, t, out)
 }
 
-// Answers the lines of the text up to its end. Where nothing has come, what is left is the last line.
-fn work(
-    unit: Unit,
-    filled: usize,
-    end: usize,
-    t: &mut [u8],
+// The next line of the text. A line that was looked at ends what is skipped.
+fn next_line(r: Reader, at: usize, t: &mut [u8], out: &mut [u8]) -> Line
+    ensures { λ p. ⌜ (p .from ≤ p .to) × (p .to ≤ length (now (t .exit))) ⌝ }
+{
+    let from = r.from;
+    let end = answers::least(r.filled, t.len());
+    let to = text::until(&t[0..end], from, 10);
+    if to < end {
+        let l = look(&t[from..to], r.skipping, at, out);
+        let reader = Reader {
+            from: to + 1,
+            filled: end,
+            skipping: false,
+            done: false,
+        };
+        return line_at(l, reader, from, to);
+    }
+    read_on(r, at, t, out)
+}
+
+// The outstation is needed for the call.
+fn needs_station(k: LentCall) -> bool {
+    match k {
+        LentCall::FrameRead => false,
+        _ => true,
+    }
+}
+
+// The calls with LEN HEX, with the bytes given and the bytes lent.
+fn given_call(
+    k: LentCall,
+    s: Session,
+    given: &[u8],
+    lent: &mut [u8],
+    heard: &mut [u8],
     out: &mut [u8],
+    at: usize,
+) -> Session {
+    match k {
+        LentCall::Station => stations::station(s, given, lent, out, at),
+        LentCall::Seg => segments::seg(s, given, lent, heard, out, at),
+        LentCall::Send => segments::send(s, given, lent, out, at),
+        LentCall::FrameRead => session::moved(s, frames::frame_read(given, lent, out, at)),
+    }
+}
+
+fn lent_call(
+    k: LentCall,
+    s: Session,
+    w: &[u8],
+    c: text::Cursor,
     bytes: &mut [u8],
     lent: &mut [u8],
     heard: &mut [u8],
-) -> Progress {
-    if t.len() < end {
-        return Progress {
-            unit,
-            filled: 0,
-            done: true,
-        };
+    out: &mut [u8],
+    at: usize,
+) -> Session {
+    let a = answers::asked_of(w, c, bytes);
+    if !text::finished(a.next) {
+        return session::told(s, out, at, b"fault");
     }
-    if end <= filled {
-        let u = line(unit, &t[0..end], out, bytes, lent, heard);
-        return Progress {
-            unit: flush(u, out),
-            filled: 0,
-            done: true,
-        };
+    if needs_station(k) && !s.have {
+        return session::told(s, out, at, b"none");
     }
-    let l = lines(unit, &t[0..end], out, bytes, lent, heard);
-    let used = l.used;
-    keep(l.unit, used, end, t, out)
+    let n = a.len;
+    let room = answers::least(a.size, lent.len());
+    given_call(k, s, &bytes[0..n], &mut lent[0..room], heard, out, at)
 }
 
-// The text from used to end is kept for the next turn.
-fn keep(u: Unit, used: usize, end: usize, t: &mut [u8], out: &mut [u8]) -> Progress {
-    if end <= used {
-        return Progress {
-            unit: flush(u, out),
-            filled: 0,
-            done: false,
-        };
-    }
-    let rest = end - used;
-    if LINE_MAX < rest {
-        let mut next = u;
-        next.session = long(u.session, out);
-        return Progress {
-            unit: flush(next, out),
-            filled: 0,
-            done: false,
-        };
-    }
-    shift(t, used, rest);
-    Progress {
-        unit: flush(u, out),
-        filled: rest,
-        done: false,
+// The calls that need no outstation, or only its addresses and segments.
+fn line_call(
+    k: LineCall,
+    s: Session,
+    w: &[u8],
+    c: text::Cursor,
+    bytes: &mut [u8],
+    lent: &mut [u8],
+    heard: &mut [u8],
+    out: &mut [u8],
+    at: usize,
+) -> Session {
+    match k {
+        LineCall::Lent(l) => lent_call(l, s, w, c, bytes, lent, heard, out, at),
+        LineCall::Record => stations::record(s, w, c, out, at),
+        LineCall::FrameWrite => session::moved(s, frames::frame_write(w, c, bytes, lent, out, at)),
+        LineCall::Crc => session::moved(s, frames::crc(w, c, bytes, out, at)),
+        LineCall::Unknown => session::told(s, out, at, b"fault"),
+        LineCall::Nothing => session::moved(s, at),
     }
 }
 
-// A proved loop has to end, and nothing says that the input does: the turns are counted down from a number that no run uses up.
-fn serve(t: &mut [u8], out: &mut [u8], bytes: &mut [u8], lent: &mut [u8], heard: &mut [u8]) {
-    let mut p = Progress {
-        unit: session::fresh(),
+// One call.
+fn call(
+    k: Command,
+    u: Unit,
+    w: &[u8],
+    c: text::Cursor,
+    binaries: &mut [u32; BINARY_WORDS],
+    analogs: &mut [u32; ANALOG_WORDS],
+    held: &mut [u64; EVENT_WORDS],
+    request: &mut [u8; FRAGMENT_MAX],
+    answer: &mut [u8; ANSWER_MAX],
+    objects: &mut [u8; ECHO_MAX],
+    setup: &mut [u8; LINE_MAX],
+    bytes: &mut [u8; BYTES_MAX],
+    lent: &mut [u8; ROOM_MAX],
+    heard: &mut [u8; ROOM_MAX],
+    out: &mut [u8; OUT_MAX],
+    at: usize,
+) -> Unit {
+    match k {
+        Command::Reading(kind) => {
+            calls::reading(u, w, c, kind, binaries, analogs, held, out, at)
+        }
+        Command::Table => calls::table(u, w, c, binaries, analogs, held, out, at),
+        Command::Frag => exchange::frag(
+            u,
+            w,
+            c,
+            binaries,
+            analogs,
+            held,
+            request,
+            answer,
+            objects,
+            bytes,
+            lent,
+            out,
+            at,
+        ),
+        Command::Held => calls::held(u, c, held, out, at),
+        Command::Setup => { calls::setup(u, w, c, binaries, analogs, setup, heard, out, at) }
+        Command::Restart => { calls::restart(u, c, binaries, analogs, setup, out, at) }
+        Command::Line(l) => {
+            let mut next = u;
+            next.session = line_call(l, u.session, w, c, bytes, lent, heard, out, at);
+            next
+        }
+    }
+}
+
+// A proved loop has to end, and nothing says that the input does: the lines are counted down from a number that no run uses up.
+fn serve(
+    t: &mut [u8],
+    binaries: &mut [u32; BINARY_WORDS],
+    analogs: &mut [u32; ANALOG_WORDS],
+    held: &mut [u64; EVENT_WORDS],
+    request: &mut [u8; FRAGMENT_MAX],
+    answer: &mut [u8; ANSWER_MAX],
+    objects: &mut [u8; ECHO_MAX],
+    setup: &mut [u8; LINE_MAX],
+    bytes: &mut [u8; BYTES_MAX],
+    lent: &mut [u8; ROOM_MAX],
+    heard: &mut [u8; ROOM_MAX],
+    out: &mut [u8; OUT_MAX],
+) {
+    let mut u = session::fresh();
+    let mut r = Reader {
+        from: 0,
         filled: 0,
+        skipping: false,
         done: false,
     };
     let mut turns = u64::MAX;
     while turns > 0 {
-        p = turn(p, t, out, bytes, lent, heard);
-        if p.done {
-            return;
+        let s = u.session;
+        let p = next_line(r, s.at, t, out);
+        let reader = p.reader;
+        r = reader;
+        let from = p.from;
+        let to = p.to;
+        let k = p.command;
+        let c = p.next;
+        u = call(
+            k,
+            u,
+            &t[from..to],
+            c,
+            binaries,
+            analogs,
+            held,
+            request,
+            answer,
+            objects,
+            setup,
+            bytes,
+            lent,
+            heard,
+            out,
+            p.at,
+        );
+        if r.done {
+            let last = u.session;
+            return flush(last.at, out);
         }
         turns -= 1;
     }
 }
 
-// The text read, the answers, a call's bytes, its lent bytes, and those that segments are put together in.
+// The text read; the state that the outstation is lent, and the line that set it up; a call's bytes, its lent bytes, those that segments are
+// put together in, and the answers.
 fn main() {
-    let mut t = [0u8; 131072];
-    let mut out = [0u8; 65536];
-    let mut bytes = [0u8; 32768];
-    let mut lent = [0u8; 65536];
-    let mut heard = [0u8; 65536];
-    serve(&mut t, &mut out, &mut bytes, &mut lent, &mut heard);
+    let mut t = [0u8; TEXT_MAX];
+    let mut binaries = [0u32; BINARY_WORDS];
+    let mut analogs = [0u32; ANALOG_WORDS];
+    let mut held = [0u64; EVENT_WORDS];
+    let mut request = [0u8; FRAGMENT_MAX];
+    let mut answer = [0u8; ANSWER_MAX];
+    let mut objects = [0u8; ECHO_MAX];
+    let mut setup = [0u8; LINE_MAX];
+    let mut bytes = [0u8; BYTES_MAX];
+    let mut lent = [0u8; ROOM_MAX];
+    let mut heard = [0u8; ROOM_MAX];
+    let mut out = [0u8; OUT_MAX];
+    serve(
+        &mut t,
+        &mut binaries,
+        &mut analogs,
+        &mut held,
+        &mut request,
+        &mut answer,
+        &mut objects,
+        &mut setup,
+        &mut bytes,
+        &mut lent,
+        &mut heard,
+        &mut out,
+    );
 }

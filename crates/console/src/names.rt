@@ -1,34 +1,68 @@
-// The names of calls; Nothing where none is made.
-pub enum Command {
-    Setup,
-    Restart,
-    Bin,
-    Ana,
-    Flt,
-    Table,
-    Frag,
-    Held,
+// The names of calls.
+
+// The calls with LEN HEX.
+pub enum LentCall {
     Station,
-    Record,
     Seg,
     Send,
-    FrameWrite,
     FrameRead,
+}
+
+// The calls that need no outstation, or only its addresses and segments; Nothing where none is made.
+pub enum LineCall {
+    Lent(LentCall),
+    Record,
+    FrameWrite,
     Crc,
     Unknown,
     Nothing,
 }
 
-// The calls of the outstation itself.
-fn inner(w: &[u8]) -> Command {
+// All calls. Reading: a binary (b), whole (a) or float (f) one.
+pub enum Command {
+    Setup,
+    Restart,
+    Reading(u8),
+    Table,
+    Frag,
+    Held,
+    Line(LineCall),
+}
+
+fn line_call_of(w: &[u8]) -> LineCall {
+    if text::same(w, b"station") {
+        return LineCall::Lent(LentCall::Station);
+    }
+    if text::same(w, b"record") {
+        return LineCall::Record;
+    }
+    if text::same(w, b"seg") {
+        return LineCall::Lent(LentCall::Seg);
+    }
+    if text::same(w, b"send") {
+        return LineCall::Lent(LentCall::Send);
+    }
+    if text::same(w, b"frame-write") {
+        return LineCall::FrameWrite;
+    }
+    if text::same(w, b"frame-read") {
+        return LineCall::Lent(LentCall::FrameRead);
+    }
+    if text::same(w, b"crc") {
+        return LineCall::Crc;
+    }
+    LineCall::Unknown
+}
+
+pub fn command_of(w: &[u8]) -> Command {
     if text::same(w, b"bin") {
-        return Command::Bin;
+        return Command::Reading(b'b');
     }
     if text::same(w, b"ana") {
-        return Command::Ana;
+        return Command::Reading(b'a');
     }
     if text::same(w, b"flt") {
-        return Command::Flt;
+        return Command::Reading(b'f');
     }
     if text::same(w, b"table") {
         return Command::Table;
@@ -45,45 +79,5 @@ fn inner(w: &[u8]) -> Command {
     if text::same(w, b"restart") {
         return Command::Restart;
     }
-    Command::Unknown
-}
-
-pub fn command_of(w: &[u8]) -> Command {
-    if text::same(w, b"station") {
-        return Command::Station;
-    }
-    if text::same(w, b"record") {
-        return Command::Record;
-    }
-    if text::same(w, b"seg") {
-        return Command::Seg;
-    }
-    if text::same(w, b"send") {
-        return Command::Send;
-    }
-    if text::same(w, b"frame-write") {
-        return Command::FrameWrite;
-    }
-    if text::same(w, b"frame-read") {
-        return Command::FrameRead;
-    }
-    if text::same(w, b"crc") {
-        return Command::Crc;
-    }
-    inner(w)
-}
-
-// The outstation itself answers the call.
-pub fn is_inner(k: Command) -> bool {
-    match k {
-        Command::Setup => true,
-        Command::Restart => true,
-        Command::Bin => true,
-        Command::Ana => true,
-        Command::Flt => true,
-        Command::Table => true,
-        Command::Frag => true,
-        Command::Held => true,
-        _ => false,
-    }
+    Command::Line(line_call_of(w))
 }

@@ -1,5 +1,6 @@
 // The calls `seg` and `send`: segments put together, and a fragment sent in segments.
 use crate::answers;
+use crate::answers::Outcome;
 use crate::session;
 use crate::session::Session;
 use transport::Received;
@@ -9,47 +10,27 @@ use transport::Sent;
 // The most segments of a fragment.
 const SEGMENTS_MAX: usize = 9;
 
-// seg LEN HEX
+// seg: a segment is heard, with so many of the bytes that segments are put together in; `before` keeps them as they were.
 pub fn seg(
     s: Session,
-    w: &[u8],
-    c: text::Cursor,
-    bytes: &mut [u8],
-    lent: &mut [u8],
-    heard: &mut [u8],
-    out: &mut [u8],
-    at: usize,
-) -> Session {
-    let size = text::take_number(w, c, 32, answers::LENT_MAX);
-    let r = text::take_run(w, size.next, bytes);
-    if !text::finished(r.next) {
-        return session::told(s, out, at, b"fault");
-    }
-    if !s.have {
-        return session::told(s, out, at, b"none");
-    }
-    let n = r.len;
-    let asked = size.value as usize;
-    lend(s, &bytes[0..n], asked, lent, heard, out, at)
-}
-
-// Lends so many of the bytes that segments are put together in.
-fn lend(
-    s: Session,
     segment: &[u8],
-    asked: usize,
-    lent: &mut [u8],
+    before: &mut [u8],
     heard: &mut [u8],
     out: &mut [u8],
     at: usize,
 ) -> Session {
-    let least = answers::least(asked, lent.len());
-    let room = answers::least(least, heard.len());
-    heard_segment(s, segment, &mut lent[0..room], &mut heard[0..room], out, at)
+    let room = answers::least(before.len(), heard.len());
+    hear(
+        s,
+        segment,
+        &mut before[0..room],
+        &mut heard[0..room],
+        out,
+        at,
+    )
 }
 
-// A segment was heard; `before` keeps the lent bytes as they were.
-fn heard_segment(
+fn hear(
     s: Session,
     segment: &[u8],
     before: &mut [u8],
@@ -64,72 +45,38 @@ fn heard_segment(
     let r = transport::receive(s.assembly, segment, lent);
     let assembly = r.assembly;
     let a = r.answer;
-    let used = answers::least(
-        answers::least(used_of(a, assembly), lent.len()),
-        before.len(),
-    );
-    let b = received_words(a, lent, out, at);
-    let spoilt = answers::differ(&lent[used..], &before[used..]);
+    let o = received_outcome(a, assembly.len);
+    let b = put_received(a, o, lent, out, at);
     let mut next = s;
     next.assembly = assembly;
-    next.at = answers::ended(out, b, spoilt);
+    next.at = answers::ended(differ_past(o.used, lent, before), out, b);
     next
 }
 
-// How many lent bytes are put together so far.
-fn used_of(a: Received, assembly: transport::Assembly) -> usize {
+// The bytes used are those put together so far.
+fn received_outcome(a: Received, len: usize) -> Outcome {
     match a {
-        Received::More => assembly.len,
-        Received::Fragment(n) => n,
-        Received::SegmentLength => 0,
-        Received::OutOfSequence => 0,
-        Received::FragmentTooLong => 0,
-        Received::AssemblyLent => 0,
+        Received::More => answers::gave(len),
+        Received::Fragment(n) => answers::gave(n),
+        Received::SegmentLength => answers::refused(21),
+        Received::OutOfSequence => answers::refused(22),
+        Received::FragmentTooLong => answers::refused(23),
+        Received::AssemblyLent => answers::refused(33),
     }
 }
 
-fn received_words(a: Received, lent: &[u8], out: &mut [u8], at: usize) -> usize {
-    match a {
-        Received::More => text::put_bytes(out, at, b"more"),
-        Received::Fragment(n) => {
-            let k = answers::least(n, lent.len());
-            let b = text::put_bytes(out, at, b"whole ");
-            text::put_run(out, b, &lent[0..k])
-        }
-        Received::SegmentLength => answers::refused(out, at, 21),
-        Received::OutOfSequence => answers::refused(out, at, 22),
-        Received::FragmentTooLong => answers::refused(out, at, 23),
-        Received::AssemblyLent => answers::refused(out, at, 33),
+fn put_received(a: Received, o: Outcome, lent: &[u8], out: &mut [u8], at: usize) -> usize {
+    if let Received::More = a {
+        text::put_bytes(out, at, b"more")
+    } else {
+        answers::put_outcome(o, b"whole ", lent, out, at)
     }
 }
 
-// send LEN HEX
-pub fn send(
-    s: Session,
-    w: &[u8],
-    c: text::Cursor,
-    bytes: &mut [u8],
-    lent: &mut [u8],
-    out: &mut [u8],
-    at: usize,
-) -> Session {
-    let size = text::take_number(w, c, 32, answers::LENT_MAX);
-    let r = text::take_run(w, size.next, bytes);
-    if !text::finished(r.next) {
-        return session::told(s, out, at, b"fault");
-    }
-    if !s.have {
-        return session::told(s, out, at, b"none");
-    }
-    let room = answers::least(size.value as usize, lent.len());
-    let n = r.len;
-    let a = text::put_bytes(out, at, b"segs");
-    let f = sent(s.sender, &bytes[0..n], &mut lent[0..room], out, at, a);
-    let sender = f.sender;
-    let mut next = s;
-    next.sender = sender;
-    next.at = answers::ended(out, f.at, f.spoilt);
-    next
+// Some byte past those used is not as it was before.
+fn differ_past(used: usize, lent: &[u8], before: &[u8]) -> bool {
+    let from = answers::least(answers::least(used, lent.len()), before.len());
+    answers::differ(&lent[from..], &before[from..])
 }
 
 // Segments sent so far, and what is told of them.
@@ -140,7 +87,18 @@ struct Progress {
     more: bool,
 }
 
-// Sends the fragment; a refusal is told at the answer's beginning.
+// send: the segments of a fragment; a refusal is told instead
+pub fn send(s: Session, fragment: &[u8], lent: &mut [u8], out: &mut [u8], at: usize) -> Session {
+    let a = text::put_bytes(out, at, b"segs");
+    let f = sent(s.sender, fragment, lent, out, at, a);
+    let sender = f.sender;
+    let mut next = s;
+    next.sender = sender;
+    next.at = answers::ended(f.spoilt, out, f.at);
+    next
+}
+
+// A refusal is told at the answer's beginning.
 fn sent(
     p: Sender,
     fragment: &[u8],
@@ -178,29 +136,30 @@ fn sent_one(
     let r = transport::send(now.sender, fragment, lent);
     let sender = r.sender;
     let a = r.answer;
-    match a {
-        Sent::Segment { size, last } => {
-            let k = answers::least(size, lent.len());
-            let b = text::put(out, now.at, 32);
-            let to = text::put_run(out, b, &lent[0..k]);
-            let spoilt = now.spoilt || answers::changed(&lent[k..]);
-            Progress {
-                sender,
-                at: to,
-                spoilt,
-                more: !last,
-            }
-        }
-        Sent::FragmentLength => not_sent(sender, 16, lent, out, begin),
-        Sent::SegmentLent => not_sent(sender, 33, lent, out, begin),
+    let o = sent_outcome(a);
+    let from = if o.refusal == 0 { now.at } else { begin };
+    let used = answers::least(o.used, lent.len());
+    Progress {
+        sender,
+        at: answers::put_outcome(o, b" ", lent, out, from),
+        spoilt: now.spoilt || answers::changed(&lent[used..]),
+        more: more_of(a),
     }
 }
 
-fn not_sent(sender: Sender, n: u64, lent: &[u8], out: &mut [u8], at: usize) -> Progress {
-    Progress {
-        sender,
-        at: answers::refused(out, at, n),
-        spoilt: answers::changed(lent),
-        more: false,
+fn sent_outcome(a: Sent) -> Outcome {
+    match a {
+        Sent::Segment { size, last: _ } => answers::gave(size),
+        Sent::FragmentLength => answers::refused(16),
+        Sent::SegmentLent => answers::refused(33),
+    }
+}
+
+// A segment is left.
+fn more_of(a: Sent) -> bool {
+    if let Sent::Segment { size: _, last } = a {
+        !last
+    } else {
+        false
     }
 }

@@ -1,11 +1,11 @@
-// What is kept from call to call.
+// What is kept from call to call, beside the arrays that are lent.
+use outstation::Head;
+use restart::SetupWords;
 
-// What is kept beside the outstation.
+// What is kept of the line.
 pub struct Session {
     // Where the next answer goes.
     pub at: usize,
-    // The rest of a line that was too long is skipped.
-    pub skipping: bool,
     // There is an outstation.
     pub have: bool,
     pub addresses: link::Station,
@@ -14,11 +14,11 @@ pub struct Session {
     pub sender: transport::Sender,
 }
 
-// The session, the outstation, and the setup that a restart gives it again.
+// The session, the outstation's head, and how long the line was that set it up.
 pub struct Unit {
     pub session: Session,
-    pub setup: outstation::Setup,
-    pub outstation: outstation::Outstation,
+    pub head: Head,
+    pub setup_len: usize,
 }
 
 // Before the first call: no outstation, and a line record of zeros.
@@ -37,7 +37,6 @@ fn fresh_session() -> Session {
     let sender = transport::nothing_sent();
     Session {
         at: 0,
-        skipping: false,
         have: false,
         addresses,
         record,
@@ -46,16 +45,25 @@ fn fresh_session() -> Session {
     }
 }
 
-// Until there is an outstation, one without points and outputs stands in its place.
+// Until there is an outstation, the head of one without points and outputs stands in its place.
 pub fn fresh() -> Unit {
     let session = fresh_session();
-    let setup = crate::setup::bare();
-    let r = outstation::restart(setup);
-    let outstation = r.state;
+    let r = restart::answered(
+        SetupWords {
+            arm_time: 0,
+            confirm_time: 0,
+            own: 0,
+            master: 0,
+            outputs: 0,
+        },
+        0,
+        restart::Going { at: 0, refusal: 5 },
+    );
+    let head = r.head;
     Unit {
         session,
-        setup,
-        outstation,
+        head,
+        setup_len: 0,
     }
 }
 
@@ -73,8 +81,42 @@ pub fn told(s: Session, out: &mut [u8], at: usize, words: &[u8]) -> Session {
 
 // The same, with all that is kept.
 pub fn told_all(u: Unit, out: &mut [u8], at: usize, words: &[u8]) -> Unit {
-    let s = told(u.session, out, at, words);
-    let mut next = u;
-    next.session = s;
+    let h = u.head;
+    left(u, h, crate::answers::answer(out, at, words))
+}
+
+// What a call leaves: the outstation's head, and where the next answer goes.
+pub fn left(u: Unit, head: Head, at: usize) -> Unit {
+    let session = moved(u.session, at);
+    Unit {
+        session,
+        head,
+        setup_len: u.setup_len,
+    }
+}
+
+// There is an outstation; nothing is heard, nothing sent.
+pub fn begun(s: Session, setup: SetupWords) -> Session {
+    let addresses = link::Station {
+        own: setup.own,
+        master: setup.master,
+    };
+    let assembly = transport::nothing_begun();
+    let sender = transport::nothing_sent();
+    let record = s.record;
+    Session {
+        at: s.at,
+        have: true,
+        addresses,
+        record,
+        assembly,
+        sender,
+    }
+}
+
+// There is none.
+pub fn none(s: Session) -> Session {
+    let mut next = s;
+    next.have = false;
     next
 }

@@ -1,43 +1,44 @@
-// The fields of the call `setup`.
-use outstation::Setup;
-use points::AnalogKind;
-use points::AnalogSetup;
-use points::FloatGate;
-use points::Scale;
-use points::WholeGate;
+// The fields of the call `setup`, and the fresh points that they ask for.
+use point_store::ANALOG_WORDS;
+use point_store::BINARY_WORDS;
+use points::POINTS_MAX;
+use restart::AnalogSetupWords;
+use restart::Going;
+use restart::Restarted;
+use restart::SetupWords;
 
-// A setup line. `fits`: each whole limit is one that its type holds.
-pub struct SetupAt {
-    pub setup: Setup,
-    pub fits: bool,
-    pub next: text::Cursor,
-}
-
-struct Classes {
-    classes: [u8; 64],
+// A setup line. `fits`: each whole limit is one that its type holds. `first`: where the analogs begin.
+struct SetupAt {
+    setup: SetupWords,
+    binaries: usize,
+    analogs: usize,
+    fits: bool,
+    first: text::Cursor,
     next: text::Cursor,
 }
 
+// What a setup line came to: whether it is right, what it sets up beside the points, and the refusal or the head.
+pub struct SetUp {
+    pub right: bool,
+    pub setup: SetupWords,
+    pub restarted: Restarted,
+}
+
 struct Points {
-    points: [AnalogSetup; 64],
     fits: bool,
     next: text::Cursor,
 }
 
 struct AnalogAt {
-    analog: AnalogSetup,
+    analog: AnalogSetupWords,
     fits: bool,
     next: text::Cursor,
 }
 
-struct WholeGateAt {
-    gate: WholeGate,
+struct GateAt {
+    gate: u8,
+    limit: u32,
     fits: bool,
-    next: text::Cursor,
-}
-
-struct FloatGateAt {
-    gate: FloatGate,
     next: text::Cursor,
 }
 
@@ -66,21 +67,22 @@ fn limit_of(negative: bool, size: u64) -> Limit {
     }
 }
 
+// GATE and - where it has no limit.
+fn no_limit(f: &[u8], c: text::Cursor, gate: u8) -> GateAt {
+    GateAt {
+        gate,
+        limit: 0,
+        fits: true,
+        next: text::take_none(f, c, 44),
+    }
+}
+
 // GATE,LIMIT of a whole point.
-fn whole_gate(f: &[u8], c: text::Cursor) -> WholeGateAt {
+fn whole_gate(f: &[u8], c: text::Cursor) -> GateAt {
     let g = text::take_number(f, c, 44, 3);
-    let k = g.value;
-    if k < 2 {
-        let next = text::take_none(f, g.next, 44);
-        return WholeGateAt {
-            gate: if k == 0 {
-                WholeGate::Never
-            } else {
-                WholeGate::AnyChange
-            },
-            fits: true,
-            next,
-        };
+    let gate = g.value as u8;
+    if gate < 2 {
+        return no_limit(f, g.next, gate);
     }
     let p = text::word(f, g.next, 44);
     let from = p.from;
@@ -88,40 +90,27 @@ fn whole_gate(f: &[u8], c: text::Cursor) -> WholeGateAt {
     let n = text::signed_of(&f[from..to], 9223372036854775808, 9223372036854775807);
     let next = text::judge(p.next, n.ok);
     let limit = limit_of(n.negative, n.size);
-    WholeGateAt {
-        gate: if k == 2 {
-            WholeGate::Beyond(limit.value)
-        } else {
-            WholeGate::Summed(limit.value)
-        },
+    GateAt {
+        gate,
+        limit: limit.value,
         fits: limit.fits,
         next,
     }
 }
 
 // GATE,LIMIT of a float point.
-fn float_gate(f: &[u8], c: text::Cursor) -> FloatGateAt {
+fn float_gate(f: &[u8], c: text::Cursor) -> GateAt {
     let g = text::take_number(f, c, 44, 3);
-    let k = g.value;
-    if k < 2 {
-        let next = text::take_none(f, g.next, 44);
-        return FloatGateAt {
-            gate: if k == 0 {
-                FloatGate::Never
-            } else {
-                FloatGate::AnyChange
-            },
-            next,
-        };
+    let gate = g.value as u8;
+    if gate < 2 {
+        return no_limit(f, g.next, gate);
     }
     let l = text::take_real(f, g.next, 44);
     let next = l.next;
-    FloatGateAt {
-        gate: if k == 2 {
-            FloatGate::Beyond(l.value)
-        } else {
-            FloatGate::Summed(l.value)
-        },
+    GateAt {
+        gate,
+        limit: words::float_bits(l.value),
+        fits: true,
         next,
     }
 }
@@ -131,15 +120,14 @@ fn float_point(f: &[u8], c: text::Cursor, class: u8) -> AnalogAt {
     let gain = text::take_real(f, c, 44);
     let offset = text::take_real(f, gain.next, 44);
     let g = float_gate(f, offset.next);
-    let gate = g.gate;
     let next = g.next;
-    let scale = Scale {
-        gain: gain.value,
-        offset: offset.value,
-    };
-    let analog = AnalogSetup {
+    let analog = AnalogSetupWords {
+        limit: g.limit,
+        gain: words::float_bits(gain.value),
+        offset: words::float_bits(offset.value),
         class,
-        kind: AnalogKind::Real(gate, scale),
+        kind: 2,
+        gate: g.gate,
     };
     AnalogAt {
         analog,
@@ -149,19 +137,18 @@ fn float_point(f: &[u8], c: text::Cursor, class: u8) -> AnalogAt {
 }
 
 // -,-,GATE,LIMIT of a whole point.
-fn whole_point(f: &[u8], c: text::Cursor, class: u8, long: bool) -> AnalogAt {
+fn whole_point(f: &[u8], c: text::Cursor, class: u8, kind: u8) -> AnalogAt {
     let gain = text::take_none(f, c, 44);
     let offset = text::take_none(f, gain, 44);
     let g = whole_gate(f, offset);
-    let gate = g.gate;
     let next = g.next;
-    let analog = AnalogSetup {
+    let analog = AnalogSetupWords {
+        limit: g.limit,
+        gain: 0,
+        offset: 0,
         class,
-        kind: if long {
-            AnalogKind::Long(gate)
-        } else {
-            AnalogKind::Short(gate)
-        },
+        kind,
+        gate: g.gate,
     };
     AnalogAt {
         analog,
@@ -180,60 +167,48 @@ fn analog_of(f: &[u8]) -> AnalogAt {
         return float_point(f, k.next, class);
     }
     let right = kind == 1 || kind == 2;
-    whole_point(f, text::judge(k.next, right), class, kind == 1)
+    let short: u8 = if kind == 1 { 0 } else { 1 };
+    whole_point(f, text::judge(k.next, right), class, short)
 }
 
-fn binaries(w: &[u8], c: text::Cursor, n: usize) -> Classes {
-    let mut classes = [0u8; 64];
+fn binaries(w: &[u8], c: text::Cursor, n: usize, classes: &mut [u8; POINTS_MAX]) -> text::Cursor {
     let mut at = c;
     let mut i: usize = 0;
     while i < n {
-        if 64 <= i {
-            return Classes { classes, next: at };
+        if POINTS_MAX <= i {
+            return at;
         }
         let k = text::take_number(w, at, 32, 255);
         classes[i] = k.value as u8;
         at = k.next;
         i += 1;
     }
-    Classes { classes, next: at }
+    at
 }
 
-fn blank() -> AnalogSetup {
-    AnalogSetup {
-        class: 0,
-        kind: AnalogKind::Long(WholeGate::Never),
-    }
+// The next analog's word.
+fn analog_at(w: &[u8], c: text::Cursor) -> AnalogAt {
+    let p = text::word(w, c, 32);
+    let from = p.from;
+    let to = p.to;
+    let a = analog_of(&w[from..to]);
+    let mut at = a;
+    at.next = text::judge(p.next, text::finished(a.next));
+    at
 }
 
+// The words of n analogs.
 fn analogs(w: &[u8], c: text::Cursor, n: usize) -> Points {
-    let mut points = [blank(); 64];
     let mut fits = true;
-    let mut at = c;
-    let mut i: usize = 0;
-    while i < n {
-        if 64 <= i {
-            return Points {
-                points,
-                fits,
-                next: at,
-            };
-        }
-        let p = text::word(w, at, 32);
-        let from = p.from;
-        let to = p.to;
-        let a = analog_of(&w[from..to]);
-        let x = a.analog;
-        points[i] = x;
+    let mut next = c;
+    let mut left = n;
+    while 0 < left {
+        let a = analog_at(w, next);
         fits = fits & a.fits;
-        at = text::judge(p.next, text::finished(a.next));
-        i += 1;
+        next = a.next;
+        left -= 1;
     }
-    Points {
-        points,
-        fits,
-        next: at,
-    }
+    Points { fits, next }
 }
 
 // OWN MASTER ARM CONFIRM
@@ -279,52 +254,110 @@ fn count_of(w: &[u8], c: text::Cursor) -> Count {
 }
 
 // How many words are given for so many points.
-fn words(n: u8) -> usize {
-    if n < 64 { n as usize } else { 64 }
+fn given(n: u8) -> usize {
+    if n < 64 { n as usize } else { POINTS_MAX }
 }
 
 // OWN MASTER ARM CONFIRM NB NA NO BINARY.. ANALOG..
-pub fn setup_of(w: &[u8], c: text::Cursor) -> SetupAt {
+fn setup_of(w: &[u8], c: text::Cursor, classes: &mut [u8; POINTS_MAX]) -> SetupAt {
     let e = ends_of(w, c);
     let nb = count_of(w, e.next);
     let na = count_of(w, nb.next);
     let no = count_of(w, na.next);
-    let b = binaries(w, no.next, words(nb.value));
-    let a = analogs(w, b.next, words(na.value));
-    let classes = b.classes;
-    let points = a.points;
+    let first = binaries(w, no.next, given(nb.value), classes);
+    let a = analogs(w, first, given(na.value));
     let next = a.next;
-    let setup = Setup {
-        own: e.own,
-        master: e.master,
+    let setup = SetupWords {
         arm_time: e.arm,
         confirm_time: e.confirm,
+        own: e.own,
+        master: e.master,
         outputs: no.value as u16,
-        binary_count: nb.value as usize,
-        analog_count: na.value as usize,
-        classes: classes,
-        analogs: points,
     };
     SetupAt {
         setup,
+        binaries: nb.value as usize,
+        analogs: na.value as usize,
         fits: a.fits,
+        first,
         next,
     }
 }
 
-// A setup without points and outputs.
-pub fn bare() -> Setup {
-    let classes = [0u8; 64];
-    let points = [blank(); 64];
-    Setup {
-        own: 0,
-        master: 0,
-        arm_time: 0,
-        confirm_time: 0,
-        outputs: 0,
-        binary_count: 0,
-        analog_count: 0,
-        classes: classes,
-        analogs: points,
+// The fresh points of a setup with these classes, and the head of its outstation.
+fn restarted(
+    t: SetupAt,
+    w: &[u8],
+    classes: &[u8],
+    binaries: &mut [u32; BINARY_WORDS],
+    analogs: &mut [u32; ANALOG_WORDS],
+) -> Restarted {
+    let s = t.setup;
+    let n = t.analogs;
+    let mut g = restart::begun(s, classes, n, binaries);
+    let mut next = t.first;
+    let mut left: usize = POINTS_MAX;
+    while 0 < left {
+        if !restart::more(g, n) {
+            return restart::answered(s, classes.len(), g);
+        }
+        if POINTS_MAX <= g.at {
+            return restart::answered(s, classes.len(), g);
+        }
+        let a = analog_at(w, next);
+        next = a.next;
+        let x = a.analog;
+        g = restart::added(g, analogs, x);
+        left -= 1;
+    }
+    restart::answered(s, classes.len(), g)
+}
+
+// The same, of the classes those that the setup has.
+fn restarted_with(
+    t: SetupAt,
+    w: &[u8],
+    classes: &[u8],
+    binaries: &mut [u32; BINARY_WORDS],
+    analogs: &mut [u32; ANALOG_WORDS],
+) -> Restarted {
+    let n = crate::answers::least(t.binaries, classes.len());
+    restarted(t, w, &classes[0..n], binaries, analogs)
+}
+
+// No outstation: a line that is not right, or a limit or a count that is more than its type holds.
+fn not_set_up(right: bool, setup: SetupWords) -> SetUp {
+    let restarted = restart::answered(setup, 0, Going { at: 0, refusal: 5 });
+    SetUp {
+        right,
+        setup,
+        restarted,
+    }
+}
+
+// Sets up from the line. A line that is not right changes nothing but the classes, which are lent for the call alone.
+pub fn set_up(
+    w: &[u8],
+    c: text::Cursor,
+    classes: &mut [u8; POINTS_MAX],
+    binaries: &mut [u32; BINARY_WORDS],
+    analogs: &mut [u32; ANALOG_WORDS],
+) -> SetUp {
+    let t = setup_of(w, c, classes);
+    let setup = t.setup;
+    if !text::finished(t.next) {
+        return not_set_up(false, setup);
+    }
+    if !t.fits {
+        return not_set_up(true, setup);
+    }
+    if POINTS_MAX < t.binaries {
+        return not_set_up(true, setup);
+    }
+    let r = restarted_with(t, w, classes, binaries, analogs);
+    SetUp {
+        right: true,
+        setup,
+        restarted: r,
     }
 }

@@ -1,5 +1,6 @@
 // The calls `record` and `station`: the line record, and frames for the station.
 use crate::answers;
+use crate::answers::Outcome;
 use crate::session;
 use crate::session::Session;
 use link::LineRecord;
@@ -74,71 +75,54 @@ fn put_record(l: LineRecord, out: &mut [u8], at: usize) -> usize {
     answers::number(out, g, 44, l.not_taken)
 }
 
-// station LEN HEX
-pub fn station(
-    s: Session,
-    w: &[u8],
-    c: text::Cursor,
-    bytes: &mut [u8],
-    lent: &mut [u8],
-    out: &mut [u8],
-    at: usize,
-) -> Session {
-    let size = text::take_number(w, c, 32, answers::LENT_MAX);
-    let r = text::take_run(w, size.next, bytes);
-    if !text::finished(r.next) {
-        return session::told(s, out, at, b"fault");
-    }
-    if !s.have {
-        return session::told(s, out, at, b"none");
-    }
-    let room = answers::least(size.value as usize, lent.len());
-    let n = r.len;
-    came(s, &bytes[0..n], &mut lent[0..room], out, at)
-}
-
-// A frame came: it is taken and counted, and the answer told.
-fn came(s: Session, frame: &[u8], lent: &mut [u8], out: &mut [u8], at: usize) -> Session {
+// station: a frame came; it is taken and counted, and the answer told.
+pub fn station(s: Session, frame: &[u8], lent: &mut [u8], out: &mut [u8], at: usize) -> Session {
     answers::fill(lent);
     let st = s.addresses;
     let r = link::receive_by_value(s.record, st, frame, lent);
     let t = r.taken;
     let record = r.line;
-    let a = taken_words(t, st, lent, out, at);
+    let o = taken_outcome(t);
+    let a = put_taken(t, st, o, lent, out, at);
     let b = put_record(record, out, a);
-    let past = answers::least(handed(t), lent.len());
     let mut next = s;
     next.record = record;
-    next.at = answers::ended(out, b, answers::changed(&lent[past..]));
+    next.at = answers::ended_past(o.used, lent, out, b);
     next
 }
 
-// How many user bytes are handed on.
-fn handed(t: Taken) -> usize {
-    if let Taken::UserData(n) = t { n } else { 0 }
+fn taken_outcome(t: Taken) -> Outcome {
+    match t {
+        Taken::UserData(n) => answers::gave(n),
+        Taken::Reply(_) => answers::gave(0),
+        Taken::Short => answers::refused(11),
+        Taken::Start => answers::refused(12),
+        Taken::HeaderCheck => answers::refused(13),
+        Taken::Length => answers::refused(14),
+        Taken::BlockCheck => answers::refused(15),
+        Taken::NotTaken => answers::refused(17),
+        Taken::TakeLent => answers::refused(33),
+    }
 }
 
 // The answer without the line record.
-fn taken_words(t: Taken, st: link::Station, lent: &[u8], out: &mut [u8], at: usize) -> usize {
-    match t {
-        Taken::UserData(n) => {
-            let k = answers::least(n, lent.len());
-            let a = text::put_bytes(out, at, b"data ");
-            text::put_run(out, a, &lent[0..k])
-        }
-        Taken::Reply(control) => reply(control, st, out, at),
-        Taken::Short => answers::refused(out, at, 11),
-        Taken::Start => answers::refused(out, at, 12),
-        Taken::HeaderCheck => answers::refused(out, at, 13),
-        Taken::Length => answers::refused(out, at, 14),
-        Taken::BlockCheck => answers::refused(out, at, 15),
-        Taken::NotTaken => answers::refused(out, at, 17),
-        Taken::TakeLent => answers::refused(out, at, 33),
+fn put_taken(
+    t: Taken,
+    st: link::Station,
+    o: Outcome,
+    lent: &[u8],
+    out: &mut [u8],
+    at: usize,
+) -> usize {
+    if let Taken::Reply(control) = t {
+        put_reply(control, st, out, at)
+    } else {
+        answers::put_outcome(o, b"data ", lent, out, at)
     }
 }
 
 // `reply CC HEX`, with the reply's frame as frame writing gives it.
-fn reply(control: u8, st: link::Station, out: &mut [u8], at: usize) -> usize {
+fn put_reply(control: u8, st: link::Station, out: &mut [u8], at: usize) -> usize {
     let mut f = [0u8; 292];
     let a = text::put_bytes(out, at, b"reply ");
     let b = text::put_byte(out, a, control);

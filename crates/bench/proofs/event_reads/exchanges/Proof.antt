@@ -1,4 +1,4 @@
--- `bench::event_reads::exchanges` is safe and ends. The lent slices keep their lengths; the measure is the number of turns that are left.
+-- `bench::event_reads::exchanges` meets its contract. The lent slices keep their lengths; the measure is the number of turns that are left.
 -- Assumes nothing.
 use mathlib.Core.Path.{_≡_, refl}
 use lib.ListN.{length}
@@ -8,10 +8,10 @@ use Rattle.bench.proofs.event_reads.exchanges.Statement.{statement}
 use Rattle.bench.proofs.event_reads.exchanges.Tie as tie
 
 abbrev Inv-loop : tie.InvT-loop
-Inv-loop count full ask₀ confirm₀ out₀ sum₀ left₀ ask confirm out sum left = (length ask ≡ length ask₀) × (length confirm ≡ length confirm₀) × (length out ≡ length out₀)
+Inv-loop count n binaries analogs held₀ request₀ answer₀ objects₀ ask₀ confirm₀ out₀ full events sum₀ left₀ held request answer objects ask confirm out sum left = (length ask ≡ length ask₀) × (length confirm ≡ length confirm₀) × (length out ≡ length out₀)
 
 abbrev μ-loop : tie.MeasureT-loop
-μ-loop count full ask₀ confirm₀ out₀ sum₀ left₀ ask confirm out sum left = left
+μ-loop count n binaries analogs held₀ request₀ answer₀ objects₀ ask₀ confirm₀ out₀ full events sum₀ left₀ held request answer objects ask confirm out sum left = left
 
 loop-holds : tie.Need-loop-holds Inv-loop μ-loop
 loop-holds c = (refl, refl, refl)
@@ -34,6 +34,9 @@ add-exchange c = omega arith
 exchange-requires : tie.Need-exchange-requires Inv-loop μ-loop
 exchange-requires c κs = tt
 
+refill-requires : tie.Need-refill-requires Inv-loop μ-loop
+refill-requires c κs = tt
+
 sub-left : tie.Need-sub-left Inv-loop μ-loop
 sub-left c = omega arith
 
@@ -42,15 +45,6 @@ loop-less c = omega arith
 
 loop-again : tie.Need-loop-again Inv-loop μ-loop
 loop-again c = (search needs, search needs, search needs)
-
-left-after-requires : tie.Need-left-after-requires Inv-loop μ-loop
-left-after-requires c κs = tt
-
-fold-all-requires : tie.Need-fold-all-requires Inv-loop μ-loop
-fold-all-requires c κs = tt
-
-digest-requires : tie.Need-digest-requires Inv-loop μ-loop
-digest-requires c κs = tt
 
 same-length : tie.Need-same-length Inv-loop μ-loop
 same-length c = omega arith
@@ -77,12 +71,10 @@ exchanges-spec =
     poke-requires-2
     add-exchange
     exchange-requires
+    refill-requires
     sub-left
     loop-less
     loop-again
-    left-after-requires
-    fold-all-requires
-    digest-requires
     same-length
     same-length-2
     same-length-3

@@ -1,4 +1,4 @@
--- `bench::sums::digest` is safe and ends. The measure is the number of slots that are left.
+-- `bench::sums::digest` meets its contract. The measure is the slots left.
 -- Assumes nothing.
 use Prim.Native.Nat.{_-_}
 use borrow.Author.Needs.{needs}
@@ -7,19 +7,16 @@ use Rattle.bench.proofs.sums.digest.Statement.{statement}
 use Rattle.bench.proofs.sums.digest.Tie as tie
 
 abbrev Inv-loop : tie.InvT-loop
-Inv-loop sum b all₀ i₀ all i = Unit {0}
+Inv-loop sum held all₀ i₀ all i = Unit {0}
 
 abbrev μ-loop : tie.MeasureT-loop
-μ-loop sum b all₀ i₀ all i = 256 - i
+μ-loop sum held all₀ i₀ all i = 256 - i
 
 loop-holds : tie.Need-loop-holds Inv-loop μ-loop
 loop-holds c = tt
 
-mul-h : tie.Need-mul-h Inv-loop μ-loop
-mul-h c = search needs
-
-element-copy-out-h : tie.Need-element-copy-out-h Inv-loop μ-loop
-element-copy-out-h c = search needs
+load-requires : tie.Need-load-requires Inv-loop μ-loop
+load-requires c κs = search needs
 
 fold-requires : tie.Need-fold-requires Inv-loop μ-loop
 fold-requires c κs = tt
@@ -49,8 +46,7 @@ digest-spec =
     Inv-loop
     μ-loop
     loop-holds
-    mul-h
-    element-copy-out-h
+    load-requires
     fold-requires
     cast-fold
     fold-requires-2

@@ -1,20 +1,18 @@
--- `console::setup::binaries` meets its contract. The invariant: there are 64 classes.
+-- `console::setup::binaries` meets its contract. The loop keeps nothing.
 -- Assumes nothing.
-use mathlib.Core.Path.{_≡_, refl}
 use Prim.Native.Nat.{_-_}
-use lib.ListN.{length, length-set}
 use native.Mathlib.Omega.{arith}
 use Rattle.console.proofs.setup.binaries.Statement.{statement}
 use Rattle.console.proofs.setup.binaries.Tie as tie
 
 abbrev Inv-loop : tie.InvT-loop
-Inv-loop w n classes₀ at₀ i₀ classes at i = length classes ≡ 64
+Inv-loop w n classes₀ at₀ i₀ classes at i = Unit {0}
 
 abbrev μ-loop : tie.MeasureT-loop
 μ-loop w n classes₀ at₀ i₀ classes at i = n - i
 
 loop-holds : tie.Need-loop-holds Inv-loop μ-loop
-loop-holds c = refl
+loop-holds c = tt
 
 returns : tie.Need-returns Inv-loop μ-loop
 returns c = tt
@@ -25,8 +23,8 @@ take-number-requires c κs = tt
 cast-classes : tie.Need-cast-classes Inv-loop μ-loop
 cast-classes c = omega arith
 
-array-write-classes : tie.Need-array-write-classes Inv-loop μ-loop
-array-write-classes c = omega arith
+element-write-classes : tie.Need-element-write-classes Inv-loop μ-loop
+element-write-classes c = omega arith
 
 add-i : tie.Need-add-i Inv-loop μ-loop
 add-i c = omega arith
@@ -35,7 +33,7 @@ loop-less : tie.Need-loop-less Inv-loop μ-loop
 loop-less c = omega arith
 
 loop-again : tie.Need-loop-again Inv-loop μ-loop
-loop-again c = simp length-set (omega arith)
+loop-again c = tt
 
 returns-2 : tie.Need-returns-2 Inv-loop μ-loop
 returns-2 c = tt
@@ -50,7 +48,7 @@ binaries-spec =
     returns
     take-number-requires
     cast-classes
-    array-write-classes
+    element-write-classes
     add-i
     loop-less
     loop-again

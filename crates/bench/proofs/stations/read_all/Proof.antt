@@ -1,28 +1,28 @@
--- `bench::stations::outstation_reading` is safe and ends. The measure is the number of turns that are left.
+-- `bench::stations::read_all` meets its contract. The measure is the number of turns that are left.
 -- Assumes nothing.
 use Prim.Native.Nat.{_≤_}
 use borrow.Author.Needs.{needs}
 use native.Mathlib.Omega.{arith}
-use Rattle.bench.proofs.stations.outstation_reading.Statement.{statement}
-use Rattle.bench.proofs.stations.outstation_reading.Tie as tie
+use Rattle.bench.proofs.stations.read_all.Statement.{statement}
+use Rattle.bench.proofs.stations.read_all.Tie as tie
 
 abbrev Inv-loop : tie.InvT-loop
-Inv-loop count n o₀ point₀ state₀ sum₀ left₀ o point state sum left = left ≤ count
+Inv-loop count n binaries₀ analogs₀ held₀ h₀ point₀ state₀ sum₀ left₀ binaries analogs held h point state sum left = left ≤ count
 
 abbrev μ-loop : tie.MeasureT-loop
-μ-loop count n o₀ point₀ state₀ sum₀ left₀ o point state sum left = left
-
-fresh-outstation-requires : tie.Need-fresh-outstation-requires Inv-loop μ-loop
-fresh-outstation-requires c κs = tt
+μ-loop count n binaries₀ analogs₀ held₀ h₀ point₀ state₀ sum₀ left₀ binaries analogs held h point state sum left = left
 
 loop-holds : tie.Need-loop-holds Inv-loop μ-loop
 loop-holds c = search needs
 
-sub-binary-reading : tie.Need-sub-binary-reading Inv-loop μ-loop
-sub-binary-reading c = omega arith
+with-events-requires : tie.Need-with-events-requires Inv-loop μ-loop
+with-events-requires c κs = tt
 
-binary-reading-requires : tie.Need-binary-reading-requires Inv-loop μ-loop
-binary-reading-requires c κs = tt
+sub-state-reading : tie.Need-sub-state-reading Inv-loop μ-loop
+sub-state-reading c = omega arith
+
+state-reading-requires : tie.Need-state-reading-requires Inv-loop μ-loop
+state-reading-requires c κs = tt
 
 accepted-requires : tie.Need-accepted-requires Inv-loop μ-loop
 accepted-requires c κs = tt
@@ -45,22 +45,19 @@ loop-less c = omega arith
 loop-again : tie.Need-loop-again Inv-loop μ-loop
 loop-again c = search needs
 
-digest-requires : tie.Need-digest-requires Inv-loop μ-loop
-digest-requires c κs = tt
-
 returns : tie.Need-returns Inv-loop μ-loop
 returns c = tt
 
-pub outstation-reading-spec : {M : Type 1} → statement M
-outstation-reading-spec =
+pub read-all-spec : {M : Type 1} → statement M
+read-all-spec =
     tie.close
     (tie.spec
     Inv-loop
     μ-loop
-    fresh-outstation-requires
     loop-holds
-    sub-binary-reading
-    binary-reading-requires
+    with-events-requires
+    sub-state-reading
+    state-reading-requires
     accepted-requires
     plus-requires
     fold-requires
@@ -68,5 +65,4 @@ outstation-reading-spec =
     sub-left
     loop-less
     loop-again
-    digest-requires
     returns)
