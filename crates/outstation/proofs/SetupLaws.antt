@@ -87,7 +87,3 @@ module _ (u : Setup) (b : Bounds u) where
   pub good-classes : (t : Bool) → all (map classOk (take (u .«binary_count») (u .classes))) ≡ true → t ≡ all (map analogOk (take (u .«analog_count») (u .analogs))) → t ≡ setupOk u
   unfolding binaryClasses analogSetups
   good-classes t h e = rw (kept, h) (e ∙ and-true _)
-
-  pub bad-classes : all (map classOk (take (u .«binary_count») (u .classes))) ≡ false → false ≡ setupOk u
-  unfolding binaryClasses
-  bad-classes h = rw (kept, h)

@@ -3,6 +3,7 @@ use Rattle.outstation.proofs.HeadLaws.{analog-taken, analog-refused}
 use Rattle.points.specs.Reading.{analogTakenOf}
 use native.Mathlib.Omega.{arith}
 use mathlib.Core.Path.{refl, ap}
+use Rattle.outstation.specs.Hearing.{withMarks}
 use borrow.Author.Needs.{needs}
 use Rattle.outstation.proofs.hear_analog.Statement.{statement}
 use Rattle.outstation.proofs.hear_analog.Tie as tie
@@ -33,27 +34,27 @@ returns c =
     let t = c .before .before .before .before .before .before in
     let s = t .before .before in
     let i = s .args in
-    λ b.
-    analog-taken (i .h) (record { binaries = b; analogs = i .analogs .now; held = i .held .now }) (i .r) (i .t) (omega (arith, s .pre .1)) _ _
-    (t .t .given .1) _ _ _ (c .before .before .store-analog .ensures) (c .taken .ensures)
+    λ h b.
+    analog-taken (withMarks h (i .m)) (record { binaries = b; analogs = i .analogs .now; held = i .held .now }) (i .r) (i .t) (omega (arith, s .pre .1)) _ _
+    (t .t .given .1) _ _ _ (c .before .before .store-analog .ensures) (c .taken .ensures h)
 
 returns-2 : tie.Need-returns-2
 returns-2 c =
     let i = c .before .before .args in
-    λ b.
-    analog-refused (i .h) (record { binaries = b; analogs = i .analogs .now; held = i .held .now }) (i .r) (i .t) 2 refl (ap analogTakenOf (c .enum-told .given .1))
+    λ h b.
+    analog-refused (withMarks h (i .m)) (record { binaries = b; analogs = i .analogs .now; held = i .held .now }) (i .r) (i .t) 2 refl (ap analogTakenOf (c .enum-told .given .1))
 
 returns-3 : tie.Need-returns-3
 returns-3 c =
     let i = c .before .before .args in
-    λ b.
-    analog-refused (i .h) (record { binaries = b; analogs = i .analogs .now; held = i .held .now }) (i .r) (i .t) 3 refl (ap analogTakenOf (c .enum-told2 .given .1))
+    λ h b.
+    analog-refused (withMarks h (i .m)) (record { binaries = b; analogs = i .analogs .now; held = i .held .now }) (i .r) (i .t) 3 refl (ap analogTakenOf (c .enum-told2 .given .1))
 
 returns-4 : tie.Need-returns-4
 returns-4 c =
     let i = c .before .before .args in
-    λ b.
-    analog-refused (i .h) (record { binaries = b; analogs = i .analogs .now; held = i .held .now }) (i .r) (i .t) 4 refl (ap analogTakenOf (c .enum-told3 .given .1))
+    λ h b.
+    analog-refused (withMarks h (i .m)) (record { binaries = b; analogs = i .analogs .now; held = i .held .now }) (i .r) (i .t) 4 refl (ap analogTakenOf (c .enum-told3 .given .1))
 
 pub hear-analog-spec : {M : Type 1} → statement M
 hear-analog-spec =

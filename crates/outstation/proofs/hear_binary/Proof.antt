@@ -4,6 +4,7 @@ use Rattle.points.specs.Reading.{binaryReading}
 use Rattle.points.specs.declared.BinaryPoint.{BinaryPoint}
 use native.Mathlib.Omega.{arith}
 use mathlib.Core.Path.{ap, _∙_}
+use Rattle.outstation.specs.Hearing.{withMarks}
 use borrow.Author.Needs.{needs}
 use Rattle.outstation.proofs.hear_binary.Statement.{statement}
 use Rattle.outstation.proofs.hear_binary.Tie as tie
@@ -38,19 +39,19 @@ returns c =
     let f = read .before .before .before .before .before in
     let s = f .before in
     let i = s .args in
-    λ a.
-    binary-taken (i .h) (record { binaries = i .binaries .now; analogs = a; held = i .held .now }) (i .r) (i .state)
+    λ h a.
+    binary-taken (withMarks h (i .m)) (record { binaries = i .binaries .now; analogs = a; held = i .held .now }) (i .r) (i .state)
     (omega (arith, read .before .before .before .if1 .taken, f .installed .ensures)) (read .read-binary .result)
     (read .read-binary .ensures ∙ ap (λ (x : BinaryPoint). binaryReading x (i .state) (i .r .flags)) (read .before .load-binary .ensures))
-    _ _ (c .before .before .before .before .before .t .given .1) _ _ _ (c .before .before .store-binary .ensures) (c .taken .ensures)
+    _ _ (c .before .before .before .before .before .t .given .1) _ _ _ (c .before .before .store-binary .ensures) (c .taken .ensures h)
 
 returns-2 : tie.Need-returns-2
 returns-2 c =
     let read = c .before .before in
     let f = read .before .before .before .before .before in
     let i = f .before .args in
-    λ a.
-    binary-refused (i .h) (record { binaries = i .binaries .now; analogs = a; held = i .held .now }) (i .r) (i .state)
+    λ h a.
+    binary-refused (withMarks h (i .m)) (record { binaries = i .binaries .now; analogs = a; held = i .held .now }) (i .r) (i .state)
     (omega (arith, read .before .before .before .if1 .taken, f .installed .ensures)) (read .read-binary .result)
     (read .read-binary .ensures ∙ ap (λ (x : BinaryPoint). binaryReading x (i .state) (i .r .flags)) (read .before .load-binary .ensures))
     (c .enum-told .given .1)
@@ -59,8 +60,8 @@ returns-3 : tie.Need-returns-3
 returns-3 c =
     let f = c .before .before in
     let i = f .before .args in
-    λ a.
-    no-binary (i .h) (record { binaries = i .binaries .now; analogs = a; held = i .held .now }) (i .r) (i .state)
+    λ h a.
+    no-binary (withMarks h (i .m)) (record { binaries = i .binaries .now; analogs = a; held = i .held .now }) (i .r) (i .state)
     (omega (arith, c .if1 .left, f .installed .ensures))
 
 pub hear-binary-spec : {M : Type 1} → statement M

@@ -4,6 +4,7 @@ use Rattle.points.specs.Reading.{floatReading}
 use Rattle.points.specs.declared.AnalogPoint.{AnalogPoint}
 use native.Mathlib.Omega.{arith}
 use mathlib.Core.Path.{ap, _∙_}
+use Rattle.outstation.specs.Hearing.{withMarks}
 use borrow.Author.Needs.{needs}
 use Rattle.outstation.proofs.hear_real.Statement.{statement}
 use Rattle.outstation.proofs.hear_real.Tie as tie
@@ -28,17 +29,17 @@ returns c =
     let read = c .before .before .before in
     let f = read .before .before .before .before .before in
     let i = f .before .args in
-    λ b.
-    analog-heard (i .h) (record { binaries = b; analogs = i .analogs .now; held = i .held .now }) (i .r) (λ q. floatReading q (i .x) (i .r .flags))
+    λ h b.
+    analog-heard (withMarks h (i .m)) (record { binaries = b; analogs = i .analogs .now; held = i .held .now }) (i .r) (λ q. floatReading q (i .x) (i .r .flags))
     (omega (arith, read .before .before .before .if1 .taken, f .installed .ensures)) (read .read-float .result)
-    (read .read-float .ensures ∙ ap (λ (q : AnalogPoint). floatReading q (i .x) (i .r .flags)) (read .before .load-analog .ensures)) (c .hear-analog .result .refusal) _ _ (c .hear-analog .ensures b)
+    (read .read-float .ensures ∙ ap (λ (q : AnalogPoint). floatReading q (i .x) (i .r .flags)) (read .before .load-analog .ensures)) (c .hear-analog .result .refusal) _ _ (c .hear-analog .ensures h b)
 
 returns-2 : tie.Need-returns-2
 returns-2 c =
     let f = c .before .before in
     let i = f .before .args in
-    λ b.
-    no-analog (i .h) (record { binaries = b; analogs = i .analogs .now; held = i .held .now }) (i .r) (λ q. floatReading q (i .x) (i .r .flags)) (omega (arith, c .if1 .left, f .installed .ensures))
+    λ h b.
+    no-analog (withMarks h (i .m)) (record { binaries = b; analogs = i .analogs .now; held = i .held .now }) (i .r) (λ q. floatReading q (i .x) (i .r .flags)) (omega (arith, c .if1 .left, f .installed .ensures))
 
 pub hear-real-spec : {M : Type 1} → statement M
 hear-real-spec =

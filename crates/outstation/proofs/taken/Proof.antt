@@ -1,11 +1,12 @@
 -- `outstation::taken` meets its contract. Assumes nothing.
 use Rattle.outstation.proofs.HeadLaws.{not-raised, held-did, dropped-did}
+use Rattle.outstation.specs.Hearing.{withMarks}
 use borrow.Author.Needs.{needs}
 use Rattle.outstation.proofs.taken.Statement.{statement}
 use Rattle.outstation.proofs.taken.Tie as tie
 
-status-of-requires : tie.Need-status-of-requires
-status-of-requires c κs = search needs
+truth-requires : tie.Need-truth-requires
+truth-requires c κs = search needs
 
 push-requires : tie.Need-push-requires
 push-requires c κs = search needs
@@ -17,24 +18,26 @@ returns : tie.Need-returns
 returns c =
     let push = c .before .before .before in
     let s = push .before .before .before .before in
+    λ h.
     rw (push .before .before .before .if1 .taken)
-    (held-did (s .args .h) (s .args .held .now) (s .args .time) (s .args .e) (push .push .last .0) (push .push .result) (c .before .before .truth-byte .result)
-    (rw (push .before .status-of .ensures) at (push .push .ensures))
+    (held-did (withMarks h (s .args .m)) (s .args .held .now) (s .args .time) (s .args .e) (push .push .last .0) (push .push .result) (c .before .before .truth-byte .result)
+    (rw (push .before .before .truth .ensures) at (push .push .ensures))
     (c .before .before .truth-byte .ensures) (c .if2 .taken))
 
 returns-2 : tie.Need-returns-2
 returns-2 c =
     let push = c .before .before .before in
     let s = push .before .before .before .before in
+    λ h.
     rw (push .before .before .before .if1 .taken)
-    (dropped-did (s .args .h) (s .args .held .now) (s .args .time) (s .args .e) (push .push .last .0) (push .push .result) (c .before .before .truth-byte .result)
-    (rw (push .before .status-of .ensures) at (push .push .ensures))
+    (dropped-did (withMarks h (s .args .m)) (s .args .held .now) (s .args .time) (s .args .e) (push .push .last .0) (push .push .result) (c .before .before .truth-byte .result)
+    (rw (push .before .before .truth .ensures) at (push .push .ensures))
     (c .before .before .truth-byte .ensures) (c .if2 .left))
 
 returns-3 : tie.Need-returns-3
-returns-3 c = let s = c .before in rw (c .if1 .left) (not-raised (s .args .h) (s .args .held .now) (s .args .time) (s .args .e))
+returns-3 c = let s = c .before in λ h. rw (c .if1 .left) (not-raised (withMarks h (s .args .m)) (s .args .held .now) (s .args .time) (s .args .e))
 
 pub taken-spec : {M : Type 1} → statement M
 taken-spec =
     tie.close
-    (tie.spec status-of-requires push-requires truth-byte-requires returns returns-2 returns-3)
+    (tie.spec truth-requires push-requires truth-byte-requires returns returns-2 returns-3)

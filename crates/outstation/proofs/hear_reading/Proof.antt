@@ -1,0 +1,82 @@
+-- `outstation::hear_reading` meets its contract. Assumes nothing.
+use Rattle.outstation.proofs.HeadLaws.{late, in-time, time-below}
+use mathlib.Core.Path.{sym, _∙_}
+use mir.Facts.{toZ-ofZ}
+use mir.Syntax.{w32}
+use Rattle.outstation.specs.Hearing.{withMarks}
+use borrow.Author.Needs.{needs, sfits-of}
+use Rattle.outstation.proofs.hear_reading.Statement.{statement}
+use Rattle.outstation.proofs.hear_reading.Tie as tie
+
+bad-time-requires : tie.Need-bad-time-requires
+bad-time-requires c κs = search needs
+
+returns : tie.Need-returns
+returns c =
+    let i = c .before .before .args in
+    λ h.
+    late (withMarks h (i .m)) (record { binaries = i .binaries .now; analogs = i .analogs .now; held = i .held .now }) (i .r) (sym (c .before .bad-time .ensures) ∙ c .if1 .taken)
+
+enum-known-x : tie.Need-enum-known-x
+enum-known-x c = search needs
+
+hear-binary-requires : tie.Need-hear-binary-requires
+hear-binary-requires c κs =
+    let late = c .before .before .before .before .before in
+    time-below (late .before .before .args .m .clock) _ (sym (late .before .bad-time .ensures) ∙ late .if1 .left)
+
+enum-known-x-2 : tie.Need-enum-known-x-2
+enum-known-x-2 c = search needs
+
+hear-whole-requires : tie.Need-hear-whole-requires
+hear-whole-requires c κs =
+    let late = c .before .before .before .before .before in
+    time-below (late .before .before .args .m .clock) _ (sym (late .before .bad-time .ensures) ∙ late .if1 .left)
+
+enum-known-x-3 : tie.Need-enum-known-x-3
+enum-known-x-3 c = search needs
+
+hear-real-requires : tie.Need-hear-real-requires
+hear-real-requires c κs =
+    let late = c .before .before .before .before .before in
+    time-below (late .before .before .args .m .clock) _ (sym (late .before .bad-time .ensures) ∙ late .if1 .left)
+
+returns-2 : tie.Need-returns-2
+returns-2 c =
+    let x = c .before .before .before .before in
+    let late = x .before .before in
+    let i = late .before .before .args in
+    λ h.
+    in-time (withMarks h (i .m)) (record { binaries = i .binaries .now; analogs = i .analogs .now; held = i .held .now }) (i .r) (sym (late .before .bad-time .ensures) ∙ late .if1 .left) _ (x .x .given .1) (c .hear-binary .result .refusal) _ _ (c .hear-binary .ensures h (i .analogs .now))
+
+returns-3 : tie.Need-returns-3
+returns-3 c =
+    let x = c .before .before .before .before in
+    let late = x .before .before in
+    let i = late .before .before .args in
+    λ h.
+    in-time (withMarks h (i .m)) (record { binaries = i .binaries .now; analogs = i .analogs .now; held = i .held .now }) (i .r) (sym (late .before .bad-time .ensures) ∙ late .if1 .left) _ (x .x2 .given .1) (c .hear-whole .result .refusal) _ _ (rw (toZ-ofZ (sfits-of {w = w32} (c .before .before .before .known-told2 .given .0 .1))) at (c .hear-whole .ensures h (i .binaries .now)))
+
+returns-4 : tie.Need-returns-4
+returns-4 c =
+    let x = c .before .before .before .before in
+    let late = x .before .before in
+    let i = late .before .before .args in
+    λ h.
+    in-time (withMarks h (i .m)) (record { binaries = i .binaries .now; analogs = i .analogs .now; held = i .held .now }) (i .r) (sym (late .before .bad-time .ensures) ∙ late .if1 .left) _ (x .x3 .given .1) (c .hear-real .result .refusal) _ _ (c .hear-real .ensures h (i .binaries .now))
+
+pub hear-reading-spec : {M : Type 1} → statement M
+hear-reading-spec =
+    tie.close
+    (tie.spec
+    bad-time-requires
+    returns
+    enum-known-x
+    hear-binary-requires
+    enum-known-x-2
+    hear-whole-requires
+    enum-known-x-3
+    hear-real-requires
+    returns-2
+    returns-3
+    returns-4)
