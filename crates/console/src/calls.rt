@@ -131,7 +131,7 @@ fn taken(
     let mut left: usize = RECORDS_MAX;
     while 0 < left {
         if !tables::more(t, n) {
-            return t;
+            return tables::ended(h, t);
         }
         let i = t.taken;
         if i < RECORDS_MAX {
@@ -140,7 +140,7 @@ fn taken(
         }
         left -= 1;
     }
-    t
+    tables::ended(h, t)
 }
 
 // table RECORD..

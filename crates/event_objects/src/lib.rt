@@ -129,9 +129,10 @@ pub fn put_events(
     let mut last: u8 = 0;
     let mut i: usize = 0;
     while i < n {
-        let h = event_store::load(held, i);
+        let j = i;
         i += 1;
-        if h.carried {
+        if event_store::carried_at(held, j) {
+            let h = event_store::load(held, j);
             let e = h.event;
             let k = events::kind(e);
             if k == last {

@@ -2,8 +2,8 @@
 ghost use mathlib.Core.Path.{_≡_};
 ghost use mathlib.Core.Bool.{_||_};
 ghost use Prim.Native.Nat.{min, _≤_};
+ghost use lib.Dec.{eqb};
 ghost use Rattle.events.specs.Placing.{kindOf, sizeOf, asked, costOf, turnOf};
-ghost use Rattle.events.specs.Queue.{leftOf};
 use points::Value;
 
 // How many events may be held.
@@ -127,21 +127,9 @@ pub fn weigh(m: Classes, k: Pack, e: Event) -> Turn
     }
 }
 
-// The held event is of the class and not carried.
-fn left_of(h: Held, class: u8) -> bool
-    ensures { λ r. ⌜ r ≡ leftOf class h ⌝ }
+// Whether the class was met earlier, or is this one.
+pub fn met(earlier: bool, class: u8, wanted: u8) -> bool
+    ensures { λ r. ⌜ r ≡ (earlier || eqb class wanted) ⌝ }
 {
-    if h.carried {
-        false
-    } else {
-        let e = h.event;
-        e.class == class
-    }
-}
-
-// Whether one of the class was seen earlier, or this is one.
-pub fn seen(earlier: bool, h: Held, class: u8) -> bool
-    ensures { λ r. ⌜ r ≡ (earlier || leftOf class h) ⌝ }
-{
-    if earlier { true } else { left_of(h, class) }
+    if earlier { true } else { class == wanted }
 }

@@ -29,11 +29,19 @@ pub struct Reply {
 fn classes(plan: Plan) -> Classes
     ensures { λ r. ⌜ r ≡ classesOf (take (plan .count) (plan .headers)) ⌝ }
 {
-    Classes {
-        one: request::asks(plan, 1),
-        two: request::asks(plan, 2),
-        three: request::asks(plan, 3),
+    let n = request::filled(plan.count);
+    let mut one = false;
+    let mut two = false;
+    let mut three = false;
+    let mut i: usize = 0;
+    while i < n {
+        let h = plan.headers[i];
+        i += 1;
+        one = events::met(one, h.class, 1);
+        two = events::met(two, h.class, 2);
+        three = events::met(three, h.class, 3);
     }
+    Classes { one, two, three }
 }
 
 // Puts the carried events and then the static part behind the first four bytes, and answers the offset after them.

@@ -1,11 +1,10 @@
 // A READ's object headers: what they ask for, or the first fault.
 ghost use mathlib.Core.Path.{_≡_};
 ghost use Prim.Native.Nat.{min, _≤_};
-ghost use lib.ListN.{length, take};
-ghost use mathlib.Core.List.{[]};
+ghost use lib.ListN.{length};
 ghost use Rattle.request.specs.Headers.{objectOf, pointsFrom, rangeHeader, pointHeader, classHeader, headerOf};
-ghost use Rattle.request.specs.Parse.{headersMax, parse, asksFor};
-ghost use Rattle.request.specs.Plans.{planned, plannedOf};
+ghost use Rattle.request.specs.Parse.{headersMax, parse};
+ghost use Rattle.request.specs.Plans.{plannedOf};
 
 // A READ has at most so many object headers.
 pub const HEADERS_MAX: usize = 16;
@@ -180,19 +179,6 @@ fn front(s: &[u8], binaries: u16, analogs: u16) -> Step
     }
 }
 
-// A plan with no headers.
-fn none(verdict: Verdict) -> Plan
-    ensures { λ r. ⌜ (plannedOf r ≡ planned verdict []) × (r .count ≤ headersMax) ⌝ }
-{
-    let blank = points_from(false, 0, 0);
-    let list = [blank; HEADERS_MAX];
-    Plan {
-        verdict: verdict,
-        headers: list,
-        count: 0,
-    }
-}
-
 // The headers of a READ, of the bytes after control and function, where there are so many binaries and analogs.
 pub fn headers(s: &[u8], binaries: u16, analogs: u16) -> Plan
     ensures { λ r. ⌜ (plannedOf r ≡ parse binaries analogs (now (s .entry))) × (r .count ≤ headersMax) ⌝ }
@@ -203,7 +189,11 @@ pub fn headers(s: &[u8], binaries: u16, analogs: u16) -> Plan
     let mut at: usize = 0;
     while at < s.len() {
         if n == HEADERS_MAX {
-            return none(Verdict::BadParameter);
+            return Plan {
+                verdict: Verdict::BadParameter,
+                headers: list,
+                count: 0,
+            };
         }
         let step = front(&s[at..], binaries, analogs);
         match step {
@@ -213,10 +203,18 @@ pub fn headers(s: &[u8], binaries: u16, analogs: u16) -> Plan
                 at += size;
             }
             Step::ObjectUnknown => {
-                return none(Verdict::ObjectUnknown);
+                return Plan {
+                    verdict: Verdict::ObjectUnknown,
+                    headers: list,
+                    count: 0,
+                };
             }
             Step::BadParameter => {
-                return none(Verdict::BadParameter);
+                return Plan {
+                    verdict: Verdict::BadParameter,
+                    headers: list,
+                    count: 0,
+                };
             }
         }
     }
@@ -236,20 +234,4 @@ pub fn filled(count: usize) -> usize
     } else {
         HEADERS_MAX
     }
-}
-
-// One of the headers asks for events of the class, 1 to 3.
-pub fn asks(p: Plan, class: u8) -> bool
-    ensures { λ r. ⌜ r ≡ asksFor class (take (p .count) (p .headers)) ⌝ }
-{
-    let n = filled(p.count);
-    let mut i: usize = 0;
-    while i < n {
-        let h = p.headers[i];
-        if h.class == class {
-            return true;
-        }
-        i += 1;
-    }
-    false
 }

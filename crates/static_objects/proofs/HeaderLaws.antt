@@ -1,11 +1,12 @@
 -- Laws of the loops over a READ's headers, and of the fault of a static part that is too long.
 -- Assumes nothing.
 use mathlib.Core.Path.{_≡_, refl, sym, ap, _∙_}
-use mathlib.Core.Bool.{true, false}
+use mathlib.Core.Bool.{Bool, true, false, cond}
 use mathlib.Core.List.{List, [], _∷_, _++_}
 use Prim.Native.Nat.{ℕ, _+_, _*_, _≤_, _<_}
 use native.Mathlib.Omega.{arith}
 use borrow.Author.Tests.{lt-ltb, le-ltb}
+use lib.Dec.{ltb}
 use lib.ListN.{length, take, getD, length-append, length-take, drop-of-length-le}
 use lib.Seq.{slice}
 use Rattle.laws.proofs.Loops.{front}
@@ -14,11 +15,12 @@ use Rattle.octets.proofs.Splice.{splice-append, splice-nil, length-splice}
 use Rattle.points.specs.Inputs.{Inputs}
 use Rattle.request.specs.declared.Header.{Header}
 use Rattle.request.specs.declared.Plan.{Plan}
+use Rattle.request.specs.declared.Verdict.{Verdict}
 use Rattle.request.specs.declared.Verdict.the-variants.{Faultless, ObjectUnknown, BadParameter}
 use Rattle.request.specs.Parse.{Parsed, headers, fault, objectUnknown, badParameter, parse}
-use Rattle.request.specs.Plans.{plannedOf}
+use Rattle.request.specs.Plans.{planned, plannedOf}
 use Rattle.request.proofs.AskLaws.{noHeader}
-use Rattle.static_objects.specs.Static.{rangeBytes, headerBytes, staticBytes, sized}
+use Rattle.static_objects.specs.Static.{rangeBytes, headerBytes, staticBytes, sized, fittedOf}
 
 -- ---- a plan by its verdict
 
@@ -132,18 +134,27 @@ module _ (i : Inputs) where
 
   -- ---- "then static part plus 4 above 2,048, 2.2"
 
-  pub too-long : (x : Parsed) (hs : List Header) (size : ℕ) → headers hs ≡ x → size ≡ length (staticBytes i hs) → 2048 < size + 4 → fault badParameter ≡ sized i x
-  too-long x hs size e l h =
-      let t : 2048 < length (staticBytes i hs) + 4 = omega arith in
-      rw (← e, lt-ltb _ _ t)
+  by-size : (hs : List Header) (b : Bool) → planned (cond b BadParameter Faultless) hs ≡ cond b (fault badParameter) (headers hs)
+  by-size hs true = refl
+  by-size hs false = refl
 
-  pub short : (x : Parsed) (hs : List Header) (size : ℕ) → headers hs ≡ x → size ≡ length (staticBytes i hs) → size + 4 ≤ 2048 → headers hs ≡ sized i x
-  short x hs size e l h =
-      let t : length (staticBytes i hs) + 4 ≤ 2048 = omega arith in
-      rw (← e, le-ltb _ _ t)
+  by-verdict : (hs : List Header) (size : ℕ) → size ≡ length (staticBytes i hs) → (v : Verdict) → planned (fittedOf v size) hs ≡ sized i (planned v hs)
+  by-verdict hs size l Faultless = by-size hs (ltb 2048 (size + 4)) ∙ ap (λ (n : ℕ). cond (ltb 2048 (n + 4)) (fault badParameter) (headers hs)) l
+  by-verdict hs size l ObjectUnknown = refl
+  by-verdict hs size l BadParameter = refl
 
-  pub faulty : (x : Parsed) (n : ℕ) → fault n ≡ x → fault n ≡ sized i x
-  faulty x n e = rw (← e)
+  pub fitted-plan : (q : Plan) (v : Verdict) (size : ℕ) → v ≡ fittedOf (q .verdict) size → size ≡ length (staticBytes i (take (q .count) (q .headers)))
+      → plannedOf (record { verdict = v; headers = q .headers; count = q .count }) ≡ sized i (plannedOf q)
+  unfolding plannedOf
+  fitted-plan q v size e l =
+      ap (λ (x : Verdict). planned x (take (q .count) (q .headers))) e ∙ by-verdict (take (q .count) (q .headers)) size l (q .verdict)
+
+module _ (v : Verdict) (size : ℕ) where
+  pub fitted-long : v ≡ Faultless → 2048 < size + 4 → BadParameter ≡ fittedOf v size
+  fitted-long e h = rw (e, lt-ltb 2048 (size + 4) h)
+
+  pub fitted-short : v ≡ Faultless → size + 4 ≤ 2048 → Faultless ≡ fittedOf v size
+  fitted-short e h = rw (e, le-ltb 2048 (size + 4) h)
 
 -- the counts of the code are those of the inputs
 pub parsed-as : (p : Plan) (s : List ℕ) (nb na mb ma : ℕ) → plannedOf p ≡ parse nb na s → nb ≡ mb → na ≡ ma → plannedOf p ≡ parse mb ma s

@@ -13,6 +13,8 @@ use Rattle.points.specs.declared.Value.the-variants.{Long, Short, Real}
 use Rattle.objects.specs.Values.{valueBytes, stateByte}
 use Rattle.objects.specs.Runs.{Object, Heading, encoded}
 use Rattle.request.specs.declared.Header.{Header}
+use Rattle.request.specs.declared.Verdict.{Verdict}
+use Rattle.request.specs.declared.Verdict.the-variants.{Faultless, ObjectUnknown, BadParameter}
 use Rattle.request.specs.Parse.{Parsed, headers, fault, badParameter, parse}
 use Rattle.static_objects.specs.declared.Shown.{Shown}
 use Rattle.static_objects.specs.declared.Shown.the-variants.{Binary, Analog}
@@ -69,6 +71,12 @@ staticBytes i (h ∷ hs) = headerBytes i h ++ staticBytes i hs
 abbrev pub sized : Inputs → Parsed → Parsed
 sized i (headers hs) = cond (ltb 2048 (length (staticBytes i hs) + 4)) (fault badParameter) (headers hs)
 sized i (fault n) = fault n
+
+-- the same of a verdict, where the static part has so many bytes
+abbrev pub fittedOf : Verdict → ℕ → Verdict
+fittedOf Faultless size = cond (ltb 2048 (size + 4)) BadParameter Faultless
+fittedOf ObjectUnknown size = ObjectUnknown
+fittedOf BadParameter size = BadParameter
 
 -- what a READ asks for, or its fault, of the bytes after control and function
 abbrev pub readOf : Inputs → List ℕ → Parsed

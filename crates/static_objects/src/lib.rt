@@ -22,6 +22,7 @@ ghost use Rattle.static_objects.specs.Static.{
   rangeBytes,
   headerBytes,
   staticBytes,
+  fittedOf,
   readOf,
 };
 ghost use Rattle.static_objects.specs.Alone.{binariesAlone, analogsAlone};
@@ -373,6 +374,24 @@ pub fn put_static(
     to
 }
 
+// The verdict of a READ whose static part has so many bytes: one that is too long is a fault.
+fn fitted(v: Verdict, size: usize) -> Verdict
+    requires { ⌜ size ≤ 25600000 ⌝ }
+    ensures { λ r. ⌜ r ≡ fittedOf v size ⌝ }
+{
+    match v {
+        Verdict::Faultless => {
+            if 2048 < size + 4 {
+                Verdict::BadParameter
+            } else {
+                Verdict::Faultless
+            }
+        }
+        Verdict::ObjectUnknown => Verdict::ObjectUnknown,
+        Verdict::BadParameter => Verdict::BadParameter,
+    }
+}
+
 // What a READ asks for, or its fault, of the bytes after control and function.
 pub fn asked(s: &[u8], analogs: &[u32; ANALOG_WORDS], n: Installed) -> SizedPlan
     ensures { λ r. ⌜
@@ -385,33 +404,15 @@ pub fn asked(s: &[u8], analogs: &[u32; ANALOG_WORDS], n: Installed) -> SizedPlan
     let plan = request::headers(s, binary_count, analog_count);
     let size = static_size(plan, analogs, n);
     let v = plan.verdict;
-    match v {
-        Verdict::Faultless => {
-            if 2048 < size + 4 {
-                let headers = plan.headers;
-                let over = Plan {
-                    verdict: Verdict::BadParameter,
-                    headers: headers,
-                    count: plan.count,
-                };
-                SizedPlan {
-                    plan: over,
-                    size: size,
-                }
-            } else {
-                SizedPlan {
-                    plan: plan,
-                    size: size,
-                }
-            }
-        }
-        Verdict::ObjectUnknown => SizedPlan {
-            plan: plan,
-            size: size,
-        },
-        Verdict::BadParameter => SizedPlan {
-            plan: plan,
-            size: size,
-        },
+    let verdict = fitted(v, size);
+    let headers = plan.headers;
+    let sized = Plan {
+        verdict: verdict,
+        headers: headers,
+        count: plan.count,
+    };
+    SizedPlan {
+        plan: sized,
+        size: size,
     }
 }

@@ -6,10 +6,11 @@ use Rattle.event_store.specs.EventWords.{slotsIn, bufferIn}
 use Rattle.event_objects.proofs.LoopLaws.{held-of, Putting, begun, written, yes, no}
 use Rattle.event_objects.proofs.EventLaws.{heading-length}
 use Rattle.event_objects.specs.Events.{eventHeading, eventObject, carriedObjects}
+use Rattle.events.specs.Queue.{noHeld}
 use Rattle.events.specs.declared.Held.{Held}
 use Rattle.objects.proofs.WriterLaws.{writing-passed, same-fits, same-put, own-fits, own-put}
 use lib.Seq.{slice}
-use lib.ListN.{length}
+use lib.ListN.{length, getD}
 use native.Mathlib.Omega.{arith}
 use Prim.Native.Nat.{ℕ, _+_, _-_, _≤_}
 use mathlib.Core.List.{List, _∷_}
@@ -25,8 +26,8 @@ Inv-loop out₀ at held n to₀ last₀ i₀ out to last i = Putting out₀ at (
 abbrev μ-loop : tie.MeasureT-loop
 μ-loop out₀ at held n to₀ last₀ i₀ out to last i = n - i
 
--- the objects to come: the event that is loaded, and the rest
-module _ (c : tie.After-load Inv-loop μ-loop) where
+-- the objects to come, the i-th event being asked for its mark
+module _ (c : tie.After-carried-at Inv-loop μ-loop) where
   abbrev f : tie.After-filled Inv-loop μ-loop
   f = c .before .before .before
 
@@ -42,13 +43,18 @@ module _ (c : tie.After-load Inv-loop μ-loop) where
   fits : n ≤ length (slotsIn ws)
   fits = omega (arith, slots-length ws, f .filled .ensures)
 
-  next : c .load .result .carried ≡ true → carriedObjects (slice i n (slotsIn ws)) ≡ eventObject (c .load .result .event) ∷ carriedObjects (slice (i + 1) n (slotsIn ws))
-  next h =
-      yes n i (slotsIn ws) (c .before .loop-test .taken) fits (sym (ap (λ (x : Held). x .carried) (c .load .ensures)) ∙ h)
-      ∙ ap (λ (x : Held). eventObject (x .event) ∷ carriedObjects (slice (i + 1) n (slotsIn ws))) (sym (c .load .ensures))
+  marked : c .carried-at .result ≡ true → carriedObjects (slice i n (slotsIn ws)) ≡ eventObject (getD (slotsIn ws) i noHeld .event) ∷ carriedObjects (slice (i + 1) n (slotsIn ws))
+  marked h = yes n i (slotsIn ws) (c .before .loop-test .taken) fits (sym (c .carried-at .ensures) ∙ h)
 
-  passed : c .load .result .carried ≡ false → carriedObjects (slice i n (slotsIn ws)) ≡ carriedObjects (slice (i + 1) n (slotsIn ws))
-  passed h = no n i (slotsIn ws) (c .before .loop-test .taken) fits (sym (ap (λ (x : Held). x .carried) (c .load .ensures)) ∙ h)
+  passed : c .carried-at .result ≡ false → carriedObjects (slice i n (slotsIn ws)) ≡ carriedObjects (slice (i + 1) n (slotsIn ws))
+  passed h = no n i (slotsIn ws) (c .before .loop-test .taken) fits (sym (c .carried-at .ensures) ∙ h)
+
+-- the event that is loaded, and the rest
+next : (c : tie.After-load Inv-loop μ-loop) → let q = c .before .before in carriedObjects (slice (i q) (n q) (slotsIn (ws q))) ≡ eventObject (c .load .result .event) ∷ carriedObjects (slice (i q + 1) (n q) (slotsIn (ws q)))
+next c =
+    let q = c .before .before in
+    marked q (c .before .if1 .taken)
+    ∙ ap (λ (x : Held). eventObject (x .event) ∷ carriedObjects (slice (i q + 1) (n q) (slotsIn (ws q)))) (sym (c .load .ensures))
 
 filled-requires : tie.Need-filled-requires Inv-loop μ-loop
 filled-requires c κs = search needs
@@ -60,11 +66,14 @@ loop-holds c =
     let e = held-of ws (a .args .status) _ (c .filled .ensures) in
     begun _ _ (bufferIn ws (statusOf (c .filled .result))) (c .filled .result) (slots-length ws) (omega (arith, c .filled .ensures)) (rw e (a .pre))
 
-load-requires : tie.Need-load-requires Inv-loop μ-loop
-load-requires c κs = search needs
-
 add-i : tie.Need-add-i Inv-loop μ-loop
 add-i c = search needs
+
+carried-at-requires : tie.Need-carried-at-requires Inv-loop μ-loop
+carried-at-requires c κs = search needs
+
+load-requires : tie.Need-load-requires Inv-loop μ-loop
+load-requires c κs = search needs
 
 kind-requires : tie.Need-kind-requires Inv-loop μ-loop
 kind-requires c κs = search needs
@@ -72,8 +81,9 @@ kind-requires c κs = search needs
 put-event-requires : tie.Need-put-event-requires Inv-loop μ-loop
 put-event-requires c κs =
     let k = c .before .before in
-    let l = k .before .before .before in
-    same-fits eventHeading 5 heading-length (l .before .before .loop .inv) _ _ (next l (k .before .before .if1 .taken)) _ (k .kind .ensures) _ refl (c .before .if2 .taken)
+    let l = k .before .before in
+    let q = l .before .before in
+    same-fits eventHeading 5 heading-length (q .before .before .loop .inv) _ _ (next l) _ (k .kind .ensures) _ refl (c .before .if2 .taken)
 
 loop-less : tie.Need-loop-less Inv-loop μ-loop
 loop-less c = search needs
@@ -81,8 +91,9 @@ loop-less c = search needs
 loop-again : tie.Need-loop-again Inv-loop μ-loop
 loop-again c =
     let k = c .before .before .before .before .before in
-    let l = k .before .before .before in
-    same-put eventHeading 5 heading-length (l .before .before .loop .inv) _ _ (next l (k .before .before .if1 .taken)) _ (k .kind .ensures) _ refl (c .before .before .before .before .if2 .taken) _ _ (c .before .before .put-event .ensures .0) (c .before .before .put-event .ensures .1)
+    let l = k .before .before in
+    let q = l .before .before in
+    same-put eventHeading 5 heading-length (q .before .before .loop .inv) _ _ (next l) _ (k .kind .ensures) _ refl (c .before .before .before .before .if2 .taken) _ _ (c .before .before .put-event .ensures .0) (c .before .before .put-event .ensures .1)
 
 run-length-requires : tie.Need-run-length-requires Inv-loop μ-loop
 run-length-requires c κs = search needs
@@ -93,15 +104,17 @@ add-put-heading c = search needs
 put-heading-requires : tie.Need-put-heading-requires Inv-loop μ-loop
 put-heading-requires c κs =
     let k = c .before .before .before in
-    let l = k .before .before .before in
-    omega (arith, own-fits eventHeading 5 heading-length (l .before .before .loop .inv) _ _ (next l (k .before .before .if1 .taken)) _ (k .kind .ensures) _ refl (c .before .before .if2 .left))
+    let l = k .before .before in
+    let q = l .before .before in
+    omega (arith, own-fits eventHeading 5 heading-length (q .before .before .loop .inv) _ _ (next l) _ (k .kind .ensures) _ refl (c .before .before .if2 .left))
 
 put-event-requires-2 : tie.Need-put-event-requires-2 Inv-loop μ-loop
 put-event-requires-2 c κs =
     let h = c .before .before .before in
     let k = h .before .before .before .before in
-    let l = k .before .before .before in
-    omega (arith, own-fits eventHeading 5 heading-length (l .before .before .loop .inv) _ _ (next l (k .before .before .if1 .taken)) _ (k .kind .ensures) _ refl (h .before .before .before .if2 .left), h .put-heading .ensures .0, h .put-heading .kept .0)
+    let l = k .before .before in
+    let q = l .before .before in
+    omega (arith, own-fits eventHeading 5 heading-length (q .before .before .loop .inv) _ _ (next l) _ (k .kind .ensures) _ refl (h .before .before .before .if2 .left), h .put-heading .ensures .0, h .put-heading .kept .0)
 
 loop-less-2 : tie.Need-loop-less-2 Inv-loop μ-loop
 loop-less-2 c = search needs
@@ -111,9 +124,10 @@ loop-again-2 c =
     let h = c .before .before .before .before .before .before in
     let r = h .before .before in
     let k = r .before .before in
-    let l = k .before .before .before in
-    let many = r .run-length .ensures .0 ∙ run-of (ws l) (k .kind .result) (n l) (i l + 1) in
-    own-put eventHeading 5 heading-length (l .before .before .loop .inv) _ _ (next l (k .before .before .if1 .taken)) _ (k .kind .ensures) _ refl (r .before .if2 .left) _ _ _ _ _ many
+    let l = k .before .before in
+    let q = l .before .before in
+    let many = r .run-length .ensures .0 ∙ run-of (ws q) (k .kind .result) (n q) (i q + 1) in
+    own-put eventHeading 5 heading-length (q .before .before .loop .inv) _ _ (next l) _ (k .kind .ensures) _ refl (r .before .if2 .left) _ _ _ _ _ many
     (h .put-heading .ensures .0) (h .put-heading .ensures .1) (c .before .before .put-event2 .ensures .0) (c .before .before .put-event2 .ensures .1)
 
 loop-less-3 : tie.Need-loop-less-3 Inv-loop μ-loop
@@ -141,8 +155,9 @@ put-events-spec =
     μ-loop
     filled-requires
     loop-holds
-    load-requires
     add-i
+    carried-at-requires
+    load-requires
     kind-requires
     put-event-requires
     loop-less

@@ -21,11 +21,9 @@ points-from-requires c κs = search needs
 loop-holds : tie.Need-loop-holds Inv-loop μ-loop
 loop-holds c = begun _ _ _ _ refl
 
-none-requires : tie.Need-none-requires Inv-loop μ-loop
-none-requires c κs = search needs
-
 returns : tie.Need-returns Inv-loop μ-loop
-returns c = (c .none .ensures .0 ∙ over _ _ _ _ _ _ (c .before .before .before .loop .inv) (c .before .if1 .taken) (c .before .before .loop-test .taken), c .none .ensures .1)
+unfolding plannedOf
+returns c = (over _ _ _ _ _ _ (c .before .before .loop .inv) (c .if1 .taken) (c .before .loop-test .taken), omega arith)
 
 sub-front : tie.Need-sub-front Inv-loop μ-loop
 sub-front c = search needs
@@ -65,20 +63,16 @@ loop-again c = asked _ _ _ _ _ _ (c .before .before .before .before .before .bef
 enum-told : tie.Need-enum-told Inv-loop μ-loop
 enum-told c = search needs
 
-none-requires-2 : tie.Need-none-requires-2 Inv-loop μ-loop
-none-requires-2 c κs = search needs
-
 returns-2 : tie.Need-returns-2 Inv-loop μ-loop
-returns-2 c = (c .none2 .ensures .0 ∙ unknown _ _ _ _ _ _ (c .before .before .before .before .before .before .before .loop .inv) (c .before .before .before .before .before .if1 .left) (c .before .before .before .before .before .before .loop-test .taken) (sym (c .before .before .before .front .ensures) ∙ c .before .enum-told .given .1), c .none2 .ensures .1)
+unfolding plannedOf
+returns-2 c = (unknown _ _ _ _ _ _ (c .before .before .before .before .before .before .loop .inv) (c .before .before .before .before .if1 .left) (c .before .before .before .before .before .loop-test .taken) (sym (c .before .before .front .ensures) ∙ c .enum-told .given .1), omega arith)
 
 enum-told-2 : tie.Need-enum-told-2 Inv-loop μ-loop
 enum-told-2 c = search needs
 
-none-requires-3 : tie.Need-none-requires-3 Inv-loop μ-loop
-none-requires-3 c κs = search needs
-
 returns-3 : tie.Need-returns-3 Inv-loop μ-loop
-returns-3 c = (c .none3 .ensures .0 ∙ bad _ _ _ _ _ _ (c .before .before .before .before .before .before .before .loop .inv) (c .before .before .before .before .before .if1 .left) (c .before .before .before .before .before .before .loop-test .taken) (sym (c .before .before .before .front .ensures) ∙ c .before .enum-told2 .given .1), c .none3 .ensures .1)
+unfolding plannedOf
+returns-3 c = (bad _ _ _ _ _ _ (c .before .before .before .before .before .before .loop .inv) (c .before .before .before .before .if1 .left) (c .before .before .before .before .before .loop-test .taken) (sym (c .before .before .front .ensures) ∙ c .enum-told2 .given .1), omega arith)
 
 returns-4 : tie.Need-returns-4 Inv-loop μ-loop
 unfolding plannedOf
@@ -92,7 +86,6 @@ headers-spec =
     μ-loop
     points-from-requires
     loop-holds
-    none-requires
     returns
     sub-front
     part-front-start
@@ -106,9 +99,7 @@ headers-spec =
     loop-less
     loop-again
     enum-told
-    none-requires-2
     returns-2
     enum-told-2
-    none-requires-3
     returns-3
     returns-4)

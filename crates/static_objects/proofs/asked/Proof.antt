@@ -1,13 +1,13 @@
 -- `static_objects::asked` meets its contract.
 -- Assumes nothing.
-use mathlib.Core.Path.{_≡_, refl, sym, _∙_}
+use mathlib.Core.Path.{_≡_, ap, _∙_}
 use mathlib.Core.List.{List}
 use Prim.Native.Nat.{ℕ}
-use native.Mathlib.Omega.{arith}
 use Rattle.request.specs.Parse.{parse}
 use Rattle.request.specs.Plans.{plannedOf}
 use Rattle.static_objects.proofs.AloneLaws.{binaries-count, analogs-count}
-use Rattle.static_objects.proofs.HeaderLaws.{plan-headers, plan-object, plan-parameter, too-long, short, faulty, parsed-as}
+use Rattle.static_objects.proofs.HeaderLaws.{fitted-plan, parsed-as}
+use Rattle.static_objects.specs.Static.{sized}
 use Rattle.point_store.specs.PointWords.{inputsIn}
 use lib.ListN.{length}
 use borrow.Author.Needs.{needs}
@@ -42,46 +42,18 @@ headers-requires c κs = search needs
 static-size-requires : tie.Need-static-size-requires
 static-size-requires c κs = search needs
 
-enum-told : tie.Need-enum-told
-enum-told c = search needs
-
-add-if1 : tie.Need-add-if1
-add-if1 c = search needs
-
-enum-told-2 : tie.Need-enum-told-2
-enum-told-2 c = search needs
-
-enum-told-3 : tie.Need-enum-told-3
-enum-told-3 c = search needs
+fitted-requires : tie.Need-fitted-requires
+fitted-requires c κs = search needs
 
 returns : tie.Need-returns
 returns c =
-    let t = c .before .before in
-    let z = t .before .before in
-    let f = plan-headers (z .before .headers .result) (t .enum-told .given .1) in (
-      λ b. plan-parameter _ refl ∙ too-long _ _ _ _ (sym f ∙ parsed (z .before) b) (z .static-size .ensures .0 b) (omega (arith, c .before .if1 .taken)),
+    let z = c .before .before in
+    let a = z .before .before .before .before .before .args in (
+      λ b. fitted-plan (inputsIn (a .n) b (a .analogs .now)) (z .before .headers .result) _ _ (c .before .fitted .ensures) (z .static-size .ensures .0 b)
+          ∙ ap (sized (inputsIn (a .n) b (a .analogs .now))) (parsed (z .before) b),
       z .static-size .ensures .0,
       z .before .headers .ensures .1,
     )
-
-returns-2 : tie.Need-returns-2
-returns-2 c =
-    let t = c .before in
-    let z = t .before .before in
-    let f = plan-headers (z .before .headers .result) (t .enum-told .given .1) in
-    (λ b. f ∙ short _ _ _ _ (sym f ∙ parsed (z .before) b) (z .static-size .ensures .0 b) (omega (arith, c .if1 .left)), z .static-size .ensures .0, z .before .headers .ensures .1)
-
-returns-3 : tie.Need-returns-3
-returns-3 c =
-    let z = c .before .before in
-    let f = plan-object (z .before .headers .result) (c .enum-told2 .given .1) in
-    (λ b. f ∙ faulty _ _ 2 (sym f ∙ parsed (z .before) b), z .static-size .ensures .0, z .before .headers .ensures .1)
-
-returns-4 : tie.Need-returns-4
-returns-4 c =
-    let z = c .before .before in
-    let f = plan-parameter (z .before .headers .result) (c .enum-told3 .given .1) in
-    (λ b. f ∙ faulty _ _ 4 (sym f ∙ parsed (z .before) b), z .static-size .ensures .0, z .before .headers .ensures .1)
 
 pub asked-spec : {M : Type 1} → statement M
 asked-spec =
@@ -93,11 +65,5 @@ asked-spec =
     cast-analog-count
     headers-requires
     static-size-requires
-    enum-told
-    add-if1
-    enum-told-2
-    enum-told-3
-    returns
-    returns-2
-    returns-3
-    returns-4)
+    fitted-requires
+    returns)
