@@ -95,7 +95,7 @@ fn respond(
     while 0 < left {
         let k = (left % 64) as usize;
         point_store::store_binary(binaries, k, binary_of(left % 3 == 0, 1));
-        let r = lent_read::respond(out, s, binaries, analogs, n, held, none);
+        let r = read::respond(out, s, binaries, analogs, n, held, none);
         let i = (sum % 1024) as usize;
         sum = fold(sum, plus(r.size as u64, byte_at(out, i)));
         left -= 1;

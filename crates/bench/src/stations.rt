@@ -1,5 +1,6 @@
 // The whole outstation in lent memory: one reading, by the points installed and by the events held.
 ghost use mathlib.Core.Path.{_≡_};
+ghost use Prim.Native.Nat.{_≤_};
 use crate::sums::digest;
 use crate::sums::fold;
 use crate::sums::plus;
@@ -44,6 +45,13 @@ fn added(first: Going, n: usize, analogs: &mut [u32; ANALOG_WORDS]) -> Going {
     g
 }
 
+// A size as a number of points.
+fn points_of(n: u16) -> usize
+    ensures { λ r. ⌜ r ≤ 64 ⌝ }
+{
+    if n < 64 { n as usize } else { POINTS_MAX }
+}
+
 // So many points of each kind, none read yet.
 fn fresh(n: u16, binaries: &mut [u32; BINARY_WORDS], analogs: &mut [u32; ANALOG_WORDS]) -> Head {
     let s = SetupWords {
@@ -54,7 +62,7 @@ fn fresh(n: u16, binaries: &mut [u32; BINARY_WORDS], analogs: &mut [u32; ANALOG_
         outputs: 8,
     };
     let classes = [1u8; POINTS_MAX];
-    let k = if n < 64 { n as usize } else { POINTS_MAX };
+    let k = points_of(n);
     let g = restart::begun(s, &classes[0..k], k, binaries);
     let r = restart::answered(s, k, added(g, k, analogs));
     r.head

@@ -18,8 +18,14 @@ loop-holds c = tt
 returns : tie.Need-returns Inv-loop μ-loop
 returns c = tt
 
-shared-element-read-held : tie.Need-shared-element-read-held Inv-loop μ-loop
-shared-element-read-held c = search needs
+mul-held : tie.Need-mul-held Inv-loop μ-loop
+mul-held c = search needs
+
+element-copy-out-held : tie.Need-element-copy-out-held Inv-loop μ-loop
+element-copy-out-held c = search needs
+
+mul-held-2 : tie.Need-mul-held-2 Inv-loop μ-loop
+mul-held-2 c = search needs
 
 element-write-held : tie.Need-element-write-held Inv-loop μ-loop
 element-write-held c = search needs
@@ -44,7 +50,9 @@ refill-spec =
     μ-loop
     loop-holds
     returns
-    shared-element-read-held
+    mul-held
+    element-copy-out-held
+    mul-held-2
     element-write-held
     add-i
     loop-less
