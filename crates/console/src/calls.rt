@@ -1,14 +1,15 @@
 // The calls that the outstation itself answers: setup, restart, readings, tables, held events.
-use crate::answers;
-use crate::held;
-use crate::readings;
-use crate::readings::RECORDS_MAX;
-use crate::session;
-use crate::session::Unit;
-use crate::setup;
+use crate::unit;
+use crate::unit::Unit;
 use event_store::EVENT_WORDS;
+use line_calls::answers;
+use line_calls::session;
 use outstation::Head;
 use outstation::ReadingWords;
+use point_calls::held;
+use point_calls::readings;
+use point_calls::readings::RECORDS_MAX;
+use point_calls::setup;
 use point_store::ANALOG_WORDS;
 use point_store::BINARY_WORDS;
 use points::POINTS_MAX;
@@ -38,7 +39,7 @@ pub fn setup(
     let mut classes = [0u8; POINTS_MAX];
     let t = setup::set_up(w, c, &mut classes, binaries, analogs);
     if !t.right {
-        return session::told_all(u, out, at, b"fault");
+        return unit::told_all(u, out, at, b"fault");
     }
     let r = t.restarted;
     let head = r.head;
@@ -52,7 +53,12 @@ pub fn setup(
     }
     answers::fill(heard);
     let setup_len = kept(setup, w);
-    let session = session::told(session::begun(u.session, t.setup), out, at, b"ok");
+    let session = session::told(
+        session::begun(u.session, t.setup.own, t.setup.master),
+        out,
+        at,
+        b"ok",
+    );
     Unit {
         session,
         head,
@@ -71,11 +77,11 @@ pub fn restart(
     at: usize,
 ) -> Unit {
     if !text::finished(c) {
-        return session::told_all(u, out, at, b"fault");
+        return unit::told_all(u, out, at, b"fault");
     }
     let s = u.session;
     if !s.have {
-        return session::told_all(u, out, at, b"none");
+        return unit::told_all(u, out, at, b"none");
     }
     let n = answers::least(u.setup_len, setup.len());
     let name = text::word(&setup[0..n], text::start(), 32);
@@ -83,7 +89,12 @@ pub fn restart(
     let t = setup::set_up(&setup[0..n], name.next, &mut classes, binaries, analogs);
     let r = t.restarted;
     let head = r.head;
-    let session = session::told(session::begun(s, t.setup), out, at, b"ok");
+    let session = session::told(
+        session::begun(s, t.setup.own, t.setup.master),
+        out,
+        at,
+        b"ok",
+    );
     Unit {
         session,
         head,
@@ -105,17 +116,17 @@ pub fn reading(
 ) -> Unit {
     let r = readings::reading_of(w, c, 32, kind);
     if !text::finished(r.next) {
-        return session::told_all(u, out, at, b"fault");
+        return unit::told_all(u, out, at, b"fault");
     }
     let s = u.session;
     if !s.have {
-        return session::told_all(u, out, at, b"none");
+        return unit::told_all(u, out, at, b"none");
     }
     let x = r.reading;
     let t = outstation::take_reading(u.head, binaries, analogs, held, x);
     let head = t.head;
     let b = answers::taken(t.refusal, out, at);
-    session::left(u, head, b)
+    unit::left(u, head, b)
 }
 
 // The first n readings of a table, up to one that is refused.
@@ -156,17 +167,17 @@ pub fn table(
 ) -> Unit {
     let t = readings::table_of(w, c);
     if !t.ok {
-        return session::told_all(u, out, at, b"fault");
+        return unit::told_all(u, out, at, b"fault");
     }
     let s = u.session;
     if !s.have {
-        return session::told_all(u, out, at, b"none");
+        return unit::told_all(u, out, at, b"none");
     }
     let rs = t.readings;
     let r = taken(u.head, rs, t.count, binaries, analogs, held);
     let head = r.head;
     let b = took_words(r.taken, r.refusal, out, at);
-    session::left(u, head, b)
+    unit::left(u, head, b)
 }
 
 // `took COUNT ok` or `took COUNT no N`
@@ -186,13 +197,13 @@ pub fn held(
     at: usize,
 ) -> Unit {
     if !text::finished(c) {
-        return session::told_all(u, out, at, b"fault");
+        return unit::told_all(u, out, at, b"fault");
     }
     let s = u.session;
     if !s.have {
-        return session::told_all(u, out, at, b"none");
+        return unit::told_all(u, out, at, b"none");
     }
     let t = outstation::status_of(u.head);
     let b = held::put_held(events, t.count, out, at);
-    session::told_all(u, out, b, b"")
+    unit::told_all(u, out, b, b"")
 }

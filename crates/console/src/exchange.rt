@@ -1,10 +1,6 @@
 // The call `frag`: a fragment, its answer, and the objects carried out.
-use crate::answers;
-use crate::answers::BYTES_MAX;
-use crate::answers::Outcome;
-use crate::answers::ROOM_MAX;
-use crate::session;
-use crate::session::Unit;
+use crate::unit;
+use crate::unit::Unit;
 use application::FRAGMENT_MAX;
 use control::ANSWER_MAX;
 use control::Crob;
@@ -13,6 +9,11 @@ use control::ECHO_MAX;
 use event_store::EVENT_WORDS;
 use fragments::FragmentAnswer;
 use fragments::FragmentResult;
+use line_calls::answers;
+use line_calls::answers::BYTES_MAX;
+use line_calls::answers::Outcome;
+use line_calls::answers::ROOM_MAX;
+use line_calls::session;
 use outstation::Head;
 use point_store::ANALOG_WORDS;
 use point_store::BINARY_WORDS;
@@ -36,11 +37,11 @@ pub fn frag(
     let t = text::take_number(w, c, 32, u64::MAX);
     let f = answers::asked_of(w, t.next, bytes);
     if !text::finished(f.next) {
-        return session::told_all(u, out, at, b"fault");
+        return unit::told_all(u, out, at, b"fault");
     }
     let s = u.session;
     if !s.have {
-        return session::told_all(u, out, at, b"none");
+        return unit::told_all(u, out, at, b"none");
     }
     let r = lend(
         u.head,
@@ -59,7 +60,7 @@ pub fn frag(
     let head = r.head;
     let a = r.answer;
     let operated = r.operated;
-    session::left(u, head, tell(a, operated, lent, f.size, out, at))
+    unit::left(u, head, tell(a, operated, lent, f.size, out, at))
 }
 
 // The fragment is the first n bytes, and so many bytes are lent for its answer.

@@ -3,32 +3,25 @@ ghost use mathlib.Core.Path.{_≡_};
 ghost use Prim.Native.Nat.{_≤_};
 ghost use lib.ListN.{length};
 
-mod answers;
 mod calls;
 mod exchange;
-mod frames;
-mod held;
 mod names;
-mod readings;
-mod segments;
-mod session;
-mod setup;
-mod stations;
+mod unit;
 
-use answers::BYTES_MAX;
-use answers::ROOM_MAX;
 use application::FRAGMENT_MAX;
 use control::ANSWER_MAX;
 use control::ECHO_MAX;
 use event_store::EVENT_WORDS;
 use libc::STDOUT_FILENO;
+use line_calls::answers;
+use line_calls::answers::BYTES_MAX;
+use line_calls::answers::ROOM_MAX;
+use line_calls::lines;
+use line_calls::lines::LineCall;
 use names::Command;
-use names::LentCall;
-use names::LineCall;
 use point_store::ANALOG_WORDS;
 use point_store::BINARY_WORDS;
-use session::Session;
-use session::Unit;
+use unit::Unit;
 
 // The longest line, and room for it beside what is read next.
 const LINE_MAX: usize = 65536;
@@ -246,77 +239,6 @@ fn next_line(r: Reader, at: usize, t: &mut [u8], out: &mut [u8]) -> Line
     read_on(r, at, t, out)
 }
 
-// The outstation is needed for the call.
-fn needs_station(k: LentCall) -> bool {
-    match k {
-        LentCall::FrameRead => false,
-        _ => true,
-    }
-}
-
-// The calls with LEN HEX, with the bytes given and the bytes lent.
-fn given_call(
-    k: LentCall,
-    s: Session,
-    given: &[u8],
-    lent: &mut [u8],
-    heard: &mut [u8],
-    out: &mut [u8],
-    at: usize,
-) -> Session {
-    match k {
-        LentCall::Station => stations::station(s, given, lent, out, at),
-        LentCall::Seg => segments::seg(s, given, lent, heard, out, at),
-        LentCall::Send => segments::send(s, given, lent, out, at),
-        LentCall::FrameRead => session::moved(s, frames::frame_read(given, lent, out, at)),
-    }
-}
-
-fn lent_call(
-    k: LentCall,
-    s: Session,
-    w: &[u8],
-    c: text::Cursor,
-    bytes: &mut [u8],
-    lent: &mut [u8],
-    heard: &mut [u8],
-    out: &mut [u8],
-    at: usize,
-) -> Session {
-    let a = answers::asked_of(w, c, bytes);
-    if !text::finished(a.next) {
-        return session::told(s, out, at, b"fault");
-    }
-    if needs_station(k) && !s.have {
-        return session::told(s, out, at, b"none");
-    }
-    let n = a.len;
-    let room = answers::least(a.size, lent.len());
-    given_call(k, s, &bytes[0..n], &mut lent[0..room], heard, out, at)
-}
-
-// The calls that need no outstation, or only its addresses and segments.
-fn line_call(
-    k: LineCall,
-    s: Session,
-    w: &[u8],
-    c: text::Cursor,
-    bytes: &mut [u8],
-    lent: &mut [u8],
-    heard: &mut [u8],
-    out: &mut [u8],
-    at: usize,
-) -> Session {
-    match k {
-        LineCall::Lent(l) => lent_call(l, s, w, c, bytes, lent, heard, out, at),
-        LineCall::Record => stations::record(s, w, c, out, at),
-        LineCall::FrameWrite => session::moved(s, frames::frame_write(w, c, bytes, lent, out, at)),
-        LineCall::Crc => session::moved(s, frames::crc(w, c, bytes, out, at)),
-        LineCall::Unknown => session::told(s, out, at, b"fault"),
-        LineCall::Nothing => session::moved(s, at),
-    }
-}
-
 // One call.
 fn call(
     k: Command,
@@ -361,7 +283,7 @@ fn call(
         Command::Restart => { calls::restart(u, c, binaries, analogs, setup, out, at) }
         Command::Line(l) => {
             let mut next = u;
-            next.session = line_call(l, u.session, w, c, bytes, lent, heard, out, at);
+            next.session = lines::line_call(l, u.session, w, c, bytes, lent, heard, out, at);
             next
         }
     }
@@ -382,7 +304,7 @@ fn serve(
     heard: &mut [u8; ROOM_MAX],
     out: &mut [u8; OUT_MAX],
 ) {
-    let mut u = session::fresh();
+    let mut u = unit::fresh();
     let mut r = Reader {
         from: 0,
         filled: 0,

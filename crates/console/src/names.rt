@@ -1,22 +1,6 @@
 // The names of calls.
-
-// The calls with LEN HEX.
-pub enum LentCall {
-    Station,
-    Seg,
-    Send,
-    FrameRead,
-}
-
-// The calls that need no outstation, or only its addresses and segments; Nothing where none is made.
-pub enum LineCall {
-    Lent(LentCall),
-    Record,
-    FrameWrite,
-    Crc,
-    Unknown,
-    Nothing,
-}
+use line_calls::lines;
+use line_calls::lines::LineCall;
 
 // All calls. Reading: a binary (b), whole (a) or float (f) one.
 pub enum Command {
@@ -27,31 +11,6 @@ pub enum Command {
     Frag,
     Held,
     Line(LineCall),
-}
-
-fn line_call_of(w: &[u8]) -> LineCall {
-    if text::same(w, b"station") {
-        return LineCall::Lent(LentCall::Station);
-    }
-    if text::same(w, b"record") {
-        return LineCall::Record;
-    }
-    if text::same(w, b"seg") {
-        return LineCall::Lent(LentCall::Seg);
-    }
-    if text::same(w, b"send") {
-        return LineCall::Lent(LentCall::Send);
-    }
-    if text::same(w, b"frame-write") {
-        return LineCall::FrameWrite;
-    }
-    if text::same(w, b"frame-read") {
-        return LineCall::Lent(LentCall::FrameRead);
-    }
-    if text::same(w, b"crc") {
-        return LineCall::Crc;
-    }
-    LineCall::Unknown
 }
 
 pub fn command_of(w: &[u8]) -> Command {
@@ -79,5 +38,5 @@ pub fn command_of(w: &[u8]) -> Command {
     if text::same(w, b"restart") {
         return Command::Restart;
     }
-    Command::Line(line_call_of(w))
+    Command::Line(lines::line_call_of(w))
 }

@@ -1,0 +1,7 @@
+// The calls of a script that the line answers: frames, the station and its record, segments; and the common parts of answers.
+pub mod answers;
+pub mod frames;
+pub mod lines;
+pub mod segments;
+pub mod session;
+pub mod stations;

@@ -1,0 +1,122 @@
+// The calls that need no outstation, or only its addresses and segments.
+use crate::answers;
+use crate::frames;
+use crate::segments;
+use crate::session;
+use crate::session::Session;
+use crate::stations;
+
+// The calls with LEN HEX.
+pub enum LentCall {
+    Station,
+    Seg,
+    Send,
+    FrameRead,
+}
+
+// The calls that need no outstation, or only its addresses and segments; Nothing where none is made.
+pub enum LineCall {
+    Lent(LentCall),
+    Record,
+    FrameWrite,
+    Crc,
+    Unknown,
+    Nothing,
+}
+
+// The call of this name.
+pub fn line_call_of(w: &[u8]) -> LineCall {
+    if text::same(w, b"station") {
+        return LineCall::Lent(LentCall::Station);
+    }
+    if text::same(w, b"record") {
+        return LineCall::Record;
+    }
+    if text::same(w, b"seg") {
+        return LineCall::Lent(LentCall::Seg);
+    }
+    if text::same(w, b"send") {
+        return LineCall::Lent(LentCall::Send);
+    }
+    if text::same(w, b"frame-write") {
+        return LineCall::FrameWrite;
+    }
+    if text::same(w, b"frame-read") {
+        return LineCall::Lent(LentCall::FrameRead);
+    }
+    if text::same(w, b"crc") {
+        return LineCall::Crc;
+    }
+    LineCall::Unknown
+}
+
+// The outstation is needed for the call.
+fn needs_station(k: LentCall) -> bool {
+    match k {
+        LentCall::FrameRead => false,
+        _ => true,
+    }
+}
+
+// The calls with LEN HEX, with the bytes given and the bytes lent.
+fn given_call(
+    k: LentCall,
+    s: Session,
+    given: &[u8],
+    lent: &mut [u8],
+    heard: &mut [u8],
+    out: &mut [u8],
+    at: usize,
+) -> Session {
+    match k {
+        LentCall::Station => stations::station(s, given, lent, out, at),
+        LentCall::Seg => segments::seg(s, given, lent, heard, out, at),
+        LentCall::Send => segments::send(s, given, lent, out, at),
+        LentCall::FrameRead => session::moved(s, frames::frame_read(given, lent, out, at)),
+    }
+}
+
+fn lent_call(
+    k: LentCall,
+    s: Session,
+    w: &[u8],
+    c: text::Cursor,
+    bytes: &mut [u8],
+    lent: &mut [u8],
+    heard: &mut [u8],
+    out: &mut [u8],
+    at: usize,
+) -> Session {
+    let a = answers::asked_of(w, c, bytes);
+    if !text::finished(a.next) {
+        return session::told(s, out, at, b"fault");
+    }
+    if needs_station(k) && !s.have {
+        return session::told(s, out, at, b"none");
+    }
+    let n = a.len;
+    let room = answers::least(a.size, lent.len());
+    given_call(k, s, &bytes[0..n], &mut lent[0..room], heard, out, at)
+}
+
+// One of these calls.
+pub fn line_call(
+    k: LineCall,
+    s: Session,
+    w: &[u8],
+    c: text::Cursor,
+    bytes: &mut [u8],
+    lent: &mut [u8],
+    heard: &mut [u8],
+    out: &mut [u8],
+    at: usize,
+) -> Session {
+    match k {
+        LineCall::Lent(l) => lent_call(l, s, w, c, bytes, lent, heard, out, at),
+        LineCall::Record => stations::record(s, w, c, out, at),
+        LineCall::FrameWrite => session::moved(s, frames::frame_write(w, c, bytes, lent, out, at)),
+        LineCall::Crc => session::moved(s, frames::crc(w, c, bytes, out, at)),
+        LineCall::Unknown => session::told(s, out, at, b"fault"),
+        LineCall::Nothing => session::moved(s, at),
+    }
+}

@@ -1,0 +1,71 @@
+// What is kept of the line from call to call.
+// What is kept of the line.
+pub struct Session {
+    // Where the next answer goes.
+    pub at: usize,
+    // There is an outstation.
+    pub have: bool,
+    pub addresses: link::Station,
+    pub record: link::LineRecord,
+    pub assembly: transport::Assembly,
+    pub sender: transport::Sender,
+}
+
+// Before the first call: no outstation, and a line record of zeros.
+pub fn fresh() -> Session {
+    let addresses = link::Station { own: 0, master: 0 };
+    let record = link::LineRecord {
+        accepted: 0,
+        short: 0,
+        start: 0,
+        header_check: 0,
+        length: 0,
+        block_check: 0,
+        not_taken: 0,
+    };
+    let assembly = transport::nothing_begun();
+    let sender = transport::nothing_sent();
+    Session {
+        at: 0,
+        have: false,
+        addresses,
+        record,
+        assembly,
+        sender,
+    }
+}
+
+// The session with its next answer somewhere else.
+pub fn moved(s: Session, at: usize) -> Session {
+    let mut next = s;
+    next.at = at;
+    next
+}
+
+// The answer to a line that is no call, or to a call for which there is no outstation.
+pub fn told(s: Session, out: &mut [u8], at: usize, words: &[u8]) -> Session {
+    moved(s, crate::answers::answer(out, at, words))
+}
+
+// There is an outstation; nothing is heard, nothing sent.
+pub fn begun(s: Session, own: u16, master: u16) -> Session {
+    let addresses = link::Station { own, master };
+    let assembly = transport::nothing_begun();
+    let sender = transport::nothing_sent();
+    let record = s.record;
+    Session {
+        at: s.at,
+        have: true,
+        addresses,
+        record,
+        assembly,
+        sender,
+    }
+}
+
+// There is none.
+pub fn none(s: Session) -> Session {
+    let mut next = s;
+    next.have = false;
+    next
+}

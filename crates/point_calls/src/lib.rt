@@ -1,0 +1,4 @@
+// What a script gives and asks of points: setups, readings, held events.
+pub mod held;
+pub mod readings;
+pub mod setup;
