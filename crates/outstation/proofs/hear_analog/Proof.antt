@@ -29,32 +29,45 @@ enum-told-2 c = search needs
 enum-told-3 : tie.Need-enum-told-3
 enum-told-3 c = search needs
 
+refused-requires : tie.Need-refused-requires
+refused-requires c κs = search needs
+
+refused-requires-2 : tie.Need-refused-requires-2
+refused-requires-2 c κs = search needs
+
+refused-requires-3 : tie.Need-refused-requires-3
+refused-requires-3 c κs = search needs
+
 returns : tie.Need-returns
 returns c =
     let t = c .before .before .before .before .before .before in
     let s = t .before .before in
     let i = s .args in
     λ h b.
-    analog-taken (withMarks h (i .m)) (record { binaries = b; analogs = i .analogs .now; held = i .held .now }) (i .r) (i .t) (omega (arith, s .pre .1)) _ _
-    (t .t .given .1) _ _ _ (c .before .before .store-analog .ensures) (c .taken .ensures h)
+    rw (c .taken .ensures .1)
+    (analog-taken (withMarks h (i .n) (i .m)) (record { binaries = b; analogs = i .analogs .now; held = i .held .now }) (i .r) (i .t) (omega (arith, s .pre .1)) _ _
+    (t .t .given .1) _ _ _ (c .before .before .store-analog .ensures) (c .taken .ensures .0 h (i .n)))
 
 returns-2 : tie.Need-returns-2
 returns-2 c =
-    let i = c .before .before .args in
+    let i = c .before .before .before .args in
     λ h b.
-    analog-refused (withMarks h (i .m)) (record { binaries = b; analogs = i .analogs .now; held = i .held .now }) (i .r) (i .t) 2 refl (ap analogTakenOf (c .enum-told .given .1))
+    rw (c .refused .ensures)
+    (analog-refused (withMarks h (i .n) (i .m)) (record { binaries = b; analogs = i .analogs .now; held = i .held .now }) (i .r) (i .t) 2 refl (ap analogTakenOf (c .before .enum-told .given .1)))
 
 returns-3 : tie.Need-returns-3
 returns-3 c =
-    let i = c .before .before .args in
+    let i = c .before .before .before .args in
     λ h b.
-    analog-refused (withMarks h (i .m)) (record { binaries = b; analogs = i .analogs .now; held = i .held .now }) (i .r) (i .t) 3 refl (ap analogTakenOf (c .enum-told2 .given .1))
+    rw (c .refused2 .ensures)
+    (analog-refused (withMarks h (i .n) (i .m)) (record { binaries = b; analogs = i .analogs .now; held = i .held .now }) (i .r) (i .t) 3 refl (ap analogTakenOf (c .before .enum-told2 .given .1)))
 
 returns-4 : tie.Need-returns-4
 returns-4 c =
-    let i = c .before .before .args in
+    let i = c .before .before .before .args in
     λ h b.
-    analog-refused (withMarks h (i .m)) (record { binaries = b; analogs = i .analogs .now; held = i .held .now }) (i .r) (i .t) 4 refl (ap analogTakenOf (c .enum-told3 .given .1))
+    rw (c .refused3 .ensures)
+    (analog-refused (withMarks h (i .n) (i .m)) (record { binaries = b; analogs = i .analogs .now; held = i .held .now }) (i .r) (i .t) 4 refl (ap analogTakenOf (c .before .enum-told3 .given .1)))
 
 pub hear-analog-spec : {M : Type 1} → statement M
 hear-analog-spec =
@@ -65,8 +78,11 @@ hear-analog-spec =
     store-analog-requires
     taken-requires
     enum-told
+    refused-requires
     enum-told-2
+    refused-requires-2
     enum-told-3
+    refused-requires-3
     returns
     returns-2
     returns-3

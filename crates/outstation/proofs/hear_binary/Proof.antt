@@ -33,6 +33,12 @@ taken-requires c κs = search needs
 enum-told : tie.Need-enum-told
 enum-told c = search needs
 
+refused-requires : tie.Need-refused-requires
+refused-requires c κs = search needs
+
+refused-requires-2 : tie.Need-refused-requires-2
+refused-requires-2 c κs = search needs
+
 returns : tie.Need-returns
 returns c =
     let read = c .before .before .before .before .before .before .before in
@@ -40,29 +46,32 @@ returns c =
     let s = f .before in
     let i = s .args in
     λ h a.
-    binary-taken (withMarks h (i .m)) (record { binaries = i .binaries .now; analogs = a; held = i .held .now }) (i .r) (i .state)
+    rw (c .taken .ensures .1)
+    (binary-taken (withMarks h (i .n) (i .m)) (record { binaries = i .binaries .now; analogs = a; held = i .held .now }) (i .r) (i .state)
     (omega (arith, read .before .before .before .if1 .taken, f .installed .ensures)) (read .read-binary .result)
     (read .read-binary .ensures ∙ ap (λ (x : BinaryPoint). binaryReading x (i .state) (i .r .flags)) (read .before .load-binary .ensures))
-    _ _ (c .before .before .before .before .before .t .given .1) _ _ _ (c .before .before .store-binary .ensures) (c .taken .ensures h)
+    _ _ (c .before .before .before .before .before .t .given .1) _ _ _ (c .before .before .store-binary .ensures) (c .taken .ensures .0 h (i .n)))
 
 returns-2 : tie.Need-returns-2
 returns-2 c =
-    let read = c .before .before in
+    let read = c .before .before .before in
     let f = read .before .before .before .before .before in
     let i = f .before .args in
     λ h a.
-    binary-refused (withMarks h (i .m)) (record { binaries = i .binaries .now; analogs = a; held = i .held .now }) (i .r) (i .state)
+    rw (c .refused .ensures)
+    (binary-refused (withMarks h (i .n) (i .m)) (record { binaries = i .binaries .now; analogs = a; held = i .held .now }) (i .r) (i .state)
     (omega (arith, read .before .before .before .if1 .taken, f .installed .ensures)) (read .read-binary .result)
     (read .read-binary .ensures ∙ ap (λ (x : BinaryPoint). binaryReading x (i .state) (i .r .flags)) (read .before .load-binary .ensures))
-    (c .enum-told .given .1)
+    (c .before .enum-told .given .1))
 
 returns-3 : tie.Need-returns-3
 returns-3 c =
-    let f = c .before .before in
+    let f = c .before .before .before in
     let i = f .before .args in
     λ h a.
-    no-binary (withMarks h (i .m)) (record { binaries = i .binaries .now; analogs = a; held = i .held .now }) (i .r) (i .state)
-    (omega (arith, c .if1 .left, f .installed .ensures))
+    rw (c .refused2 .ensures)
+    (no-binary (withMarks h (i .n) (i .m)) (record { binaries = i .binaries .now; analogs = a; held = i .held .now }) (i .r) (i .state)
+    (omega (arith, c .before .if1 .left, f .installed .ensures)))
 
 pub hear-binary-spec : {M : Type 1} → statement M
 hear-binary-spec =
@@ -76,6 +85,8 @@ hear-binary-spec =
     store-binary-requires
     taken-requires
     enum-told
+    refused-requires
+    refused-requires-2
     returns
     returns-2
     returns-3)

@@ -11,11 +11,15 @@ use Rattle.outstation.proofs.hear_reading.Tie as tie
 bad-time-requires : tie.Need-bad-time-requires
 bad-time-requires c κs = search needs
 
+refused-requires : tie.Need-refused-requires
+refused-requires c κs = search needs
+
 returns : tie.Need-returns
 returns c =
-    let i = c .before .before .args in
+    let i = c .before .before .before .args in
     λ h.
-    late (withMarks h (i .m)) (record { binaries = i .binaries .now; analogs = i .analogs .now; held = i .held .now }) (i .r) (sym (c .before .bad-time .ensures) ∙ c .if1 .taken)
+    rw (c .refused .ensures)
+    (late (withMarks h (i .n) (i .m)) (record { binaries = i .binaries .now; analogs = i .analogs .now; held = i .held .now }) (i .r) (sym (c .before .before .bad-time .ensures) ∙ c .before .if1 .taken))
 
 enum-known-x : tie.Need-enum-known-x
 enum-known-x c = search needs
@@ -47,7 +51,7 @@ returns-2 c =
     let late = x .before .before in
     let i = late .before .before .args in
     λ h.
-    in-time (withMarks h (i .m)) (record { binaries = i .binaries .now; analogs = i .analogs .now; held = i .held .now }) (i .r) (sym (late .before .bad-time .ensures) ∙ late .if1 .left) _ (x .x .given .1) (c .hear-binary .result .refusal) _ _ (c .hear-binary .ensures h (i .analogs .now))
+    in-time (withMarks h (i .n) (i .m)) (record { binaries = i .binaries .now; analogs = i .analogs .now; held = i .held .now }) (i .r) (sym (late .before .bad-time .ensures) ∙ late .if1 .left) _ (x .x .given .1) (c .hear-binary .result .refusal) _ _ (c .hear-binary .ensures h (i .analogs .now))
 
 returns-3 : tie.Need-returns-3
 returns-3 c =
@@ -55,7 +59,7 @@ returns-3 c =
     let late = x .before .before in
     let i = late .before .before .args in
     λ h.
-    in-time (withMarks h (i .m)) (record { binaries = i .binaries .now; analogs = i .analogs .now; held = i .held .now }) (i .r) (sym (late .before .bad-time .ensures) ∙ late .if1 .left) _ (x .x2 .given .1) (c .hear-whole .result .refusal) _ _ (rw (toZ-ofZ (sfits-of {w = w32} (c .before .before .before .known-told2 .given .0 .1))) at (c .hear-whole .ensures h (i .binaries .now)))
+    in-time (withMarks h (i .n) (i .m)) (record { binaries = i .binaries .now; analogs = i .analogs .now; held = i .held .now }) (i .r) (sym (late .before .bad-time .ensures) ∙ late .if1 .left) _ (x .x2 .given .1) (c .hear-whole .result .refusal) _ _ (rw (toZ-ofZ (sfits-of {w = w32} (c .before .before .before .known-told2 .given .0 .1))) at (c .hear-whole .ensures h (i .binaries .now)))
 
 returns-4 : tie.Need-returns-4
 returns-4 c =
@@ -63,13 +67,14 @@ returns-4 c =
     let late = x .before .before in
     let i = late .before .before .args in
     λ h.
-    in-time (withMarks h (i .m)) (record { binaries = i .binaries .now; analogs = i .analogs .now; held = i .held .now }) (i .r) (sym (late .before .bad-time .ensures) ∙ late .if1 .left) _ (x .x3 .given .1) (c .hear-real .result .refusal) _ _ (c .hear-real .ensures h (i .binaries .now))
+    in-time (withMarks h (i .n) (i .m)) (record { binaries = i .binaries .now; analogs = i .analogs .now; held = i .held .now }) (i .r) (sym (late .before .bad-time .ensures) ∙ late .if1 .left) _ (x .x3 .given .1) (c .hear-real .result .refusal) _ _ (c .hear-real .ensures h (i .binaries .now))
 
 pub hear-reading-spec : {M : Type 1} → statement M
 hear-reading-spec =
     tie.close
     (tie.spec
     bad-time-requires
+    refused-requires
     returns
     enum-known-x
     hear-binary-requires

@@ -30,16 +30,20 @@ returns c =
     let f = read .before .before .before .before .before in
     let i = f .before .args in
     λ h b.
-    analog-heard (withMarks h (i .m)) (record { binaries = b; analogs = i .analogs .now; held = i .held .now }) (i .r) (λ q. floatReading q (i .x) (i .r .flags))
+    analog-heard (withMarks h (i .n) (i .m)) (record { binaries = b; analogs = i .analogs .now; held = i .held .now }) (i .r) (λ q. floatReading q (i .x) (i .r .flags))
     (omega (arith, read .before .before .before .if1 .taken, f .installed .ensures)) (read .read-float .result)
     (read .read-float .ensures ∙ ap (λ (q : AnalogPoint). floatReading q (i .x) (i .r .flags)) (read .before .load-analog .ensures)) (c .hear-analog .result .refusal) _ _ (c .hear-analog .ensures h b)
 
+refused-requires : tie.Need-refused-requires
+refused-requires c κs = search needs
+
 returns-2 : tie.Need-returns-2
 returns-2 c =
-    let f = c .before .before in
+    let f = c .before .before .before in
     let i = f .before .args in
     λ h b.
-    no-analog (withMarks h (i .m)) (record { binaries = b; analogs = i .analogs .now; held = i .held .now }) (i .r) (λ q. floatReading q (i .x) (i .r .flags)) (omega (arith, c .if1 .left, f .installed .ensures))
+    rw (c .refused .ensures)
+    (no-analog (withMarks h (i .n) (i .m)) (record { binaries = b; analogs = i .analogs .now; held = i .held .now }) (i .r) (λ q. floatReading q (i .x) (i .r .flags)) (omega (arith, c .before .if1 .left, f .installed .ensures)))
 
 pub hear-real-spec : {M : Type 1} → statement M
 hear-real-spec =
@@ -51,4 +55,5 @@ hear-real-spec =
     read-float-requires
     hear-analog-requires
     returns
+    refused-requires
     returns-2)

@@ -32,18 +32,22 @@ returns c =
     let f = read .before .before .before .before .before in
     let i = f .before .args in
     λ h b.
-    analog-heard (withMarks h (i .m)) (record { binaries = b; analogs = i .analogs .now; held = i .held .now }) (i .r) (λ q. wholeReading q (i .z) (i .r .flags))
+    analog-heard (withMarks h (i .n) (i .m)) (record { binaries = b; analogs = i .analogs .now; held = i .held .now }) (i .r) (λ q. wholeReading q (i .z) (i .r .flags))
     (omega (arith, read .before .before .before .if1 .taken, f .installed .ensures)) (read .read-whole .result)
     (read .read-whole .ensures
     ∙ ap (λ (y : ℤ). wholeReading (read .before .load-analog .result) y (i .r .flags)) (toZ-ofZ (f .before .fits .z))
     ∙ ap (λ (q : AnalogPoint). wholeReading q (i .z) (i .r .flags)) (read .before .load-analog .ensures)) (c .hear-analog .result .refusal) _ _ (c .hear-analog .ensures h b)
 
+refused-requires : tie.Need-refused-requires
+refused-requires c κs = search needs
+
 returns-2 : tie.Need-returns-2
 returns-2 c =
-    let f = c .before .before in
+    let f = c .before .before .before in
     let i = f .before .args in
     λ h b.
-    no-analog (withMarks h (i .m)) (record { binaries = b; analogs = i .analogs .now; held = i .held .now }) (i .r) (λ q. wholeReading q (i .z) (i .r .flags)) (omega (arith, c .if1 .left, f .installed .ensures))
+    rw (c .refused .ensures)
+    (no-analog (withMarks h (i .n) (i .m)) (record { binaries = b; analogs = i .analogs .now; held = i .held .now }) (i .r) (λ q. wholeReading q (i .z) (i .r .flags)) (omega (arith, c .before .if1 .left, f .installed .ensures)))
 
 pub hear-whole-spec : {M : Type 1} → statement M
 hear-whole-spec =
@@ -55,4 +59,5 @@ hear-whole-spec =
     read-whole-requires
     hear-analog-requires
     returns
+    refused-requires
     returns-2)

@@ -1,6 +1,7 @@
 -- `outstation::taken` meets its contract. Assumes nothing.
 use Rattle.outstation.proofs.HeadLaws.{not-raised, held-did, dropped-did}
 use Rattle.outstation.specs.Hearing.{withMarks}
+use mathlib.Core.Path.{refl}
 use borrow.Author.Needs.{needs}
 use Rattle.outstation.proofs.taken.Statement.{statement}
 use Rattle.outstation.proofs.taken.Tie as tie
@@ -18,24 +19,26 @@ returns : tie.Need-returns
 returns c =
     let push = c .before .before .before in
     let s = push .before .before .before .before in
-    λ h.
-    rw (push .before .before .before .if1 .taken)
-    (held-did (withMarks h (s .args .m)) (s .args .held .now) (s .args .time) (s .args .e) (push .push .last .0) (push .push .result) (c .before .before .truth-byte .result)
-    (rw (push .before .before .truth .ensures) at (push .push .ensures))
-    (c .before .before .truth-byte .ensures) (c .if2 .taken))
+    let raised = push .before .before .before .if1 .taken in (
+      λ h n. rw raised (held-did (withMarks h n (s .args .m)) (s .args .held .now) (s .args .time) (s .args .e) (push .push .last .0) (push .push .result) (c .before .before .truth-byte .result)
+          (rw (push .before .before .truth .ensures) at (push .push .ensures))
+          (c .before .before .truth-byte .ensures) (c .if2 .taken)),
+      refl,
+    )
 
 returns-2 : tie.Need-returns-2
 returns-2 c =
     let push = c .before .before .before in
     let s = push .before .before .before .before in
-    λ h.
-    rw (push .before .before .before .if1 .taken)
-    (dropped-did (withMarks h (s .args .m)) (s .args .held .now) (s .args .time) (s .args .e) (push .push .last .0) (push .push .result) (c .before .before .truth-byte .result)
-    (rw (push .before .before .truth .ensures) at (push .push .ensures))
-    (c .before .before .truth-byte .ensures) (c .if2 .left))
+    let raised = push .before .before .before .if1 .taken in (
+      λ h n. rw raised (dropped-did (withMarks h n (s .args .m)) (s .args .held .now) (s .args .time) (s .args .e) (push .push .last .0) (push .push .result) (c .before .before .truth-byte .result)
+          (rw (push .before .before .truth .ensures) at (push .push .ensures))
+          (c .before .before .truth-byte .ensures) (c .if2 .left)),
+      refl,
+    )
 
 returns-3 : tie.Need-returns-3
-returns-3 c = let s = c .before in λ h. rw (c .if1 .left) (not-raised (withMarks h (s .args .m)) (s .args .held .now) (s .args .time) (s .args .e))
+returns-3 c = let s = c .before in (λ h n. rw (c .if1 .left) (not-raised (withMarks h n (s .args .m)) (s .args .held .now) (s .args .time) (s .args .e)), refl)
 
 pub taken-spec : {M : Type 1} → statement M
 taken-spec =

@@ -1,0 +1,10 @@
+-- `outstation::refused` meets its contract. Assumes nothing.
+use mathlib.Core.Path.{refl}
+use Rattle.outstation.proofs.refused.Statement.{statement}
+use Rattle.outstation.proofs.refused.Tie as tie
+
+returns : tie.Need-returns
+returns c = refl
+
+pub refused-spec : {M : Type 1} → statement M
+refused-spec = tie.close (tie.spec returns)
