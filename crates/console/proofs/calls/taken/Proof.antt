@@ -6,10 +6,10 @@ use Rattle.console.proofs.calls.taken.Statement.{statement}
 use Rattle.console.proofs.calls.taken.Tie as tie
 
 abbrev Inv-loop : tie.InvT-loop
-Inv-loop n binaries₀ analogs₀ held₀ readings t₀ left₀ binaries analogs held t left = Unit {0}
+Inv-loop h n binaries₀ analogs₀ held₀ readings t₀ left₀ binaries analogs held t left = Unit {0}
 
 abbrev μ-loop : tie.MeasureT-loop
-μ-loop n binaries₀ analogs₀ held₀ readings t₀ left₀ binaries analogs held t left = left
+μ-loop h n binaries₀ analogs₀ held₀ readings t₀ left₀ binaries analogs held t left = left
 
 begun-requires : tie.Need-begun-requires Inv-loop μ-loop
 begun-requires c κs = tt
@@ -19,6 +19,9 @@ loop-holds c = tt
 
 more-requires : tie.Need-more-requires Inv-loop μ-loop
 more-requires c κs = tt
+
+ended-requires : tie.Need-ended-requires Inv-loop μ-loop
+ended-requires c κs = tt
 
 returns : tie.Need-returns Inv-loop μ-loop
 returns c = tt
@@ -41,6 +44,9 @@ loop-less c = omega arith
 loop-again : tie.Need-loop-again Inv-loop μ-loop
 loop-again c = tt
 
+ended-requires-2 : tie.Need-ended-requires-2 Inv-loop μ-loop
+ended-requires-2 c κs = tt
+
 returns-2 : tie.Need-returns-2 Inv-loop μ-loop
 returns-2 c = tt
 
@@ -53,6 +59,7 @@ taken-spec =
     begun-requires
     loop-holds
     more-requires
+    ended-requires
     returns
     mul-r
     array-copy-out-r
@@ -60,4 +67,5 @@ taken-spec =
     sub-left
     loop-less
     loop-again
+    ended-requires-2
     returns-2)
