@@ -1,3 +1,4 @@
 pub mod Outcome
 pub mod Lists
 pub mod Limits
+pub mod First
