@@ -1,6 +1,6 @@
--- Laws of the control byte, and what each way through the tests makes of a fragment.
+-- Laws of the control byte, what each way through the tests makes of a fragment, and the fault that is none.
 -- Assumes nothing.
-use mathlib.Core.Path.{_≡_}
+use mathlib.Core.Path.{_≡_, refl}
 use mathlib.Core.Bool.{Bool, true, false}
 use mathlib.Core.List.{List, [], _∷_}
 use Prim.Native.Nat.{ℕ, _/_, _%_, _≤_, _<_}
@@ -12,6 +12,9 @@ use Rattle.laws.specs.Outcome.{accepted, refused}
 use Rattle.laws.specs.Lists.{all}
 use Rattle.laws.proofs.AllLaws.{refuted, all-three}
 use Rattle.laws.specs.Limits.{fragmentMax}
+use Rattle.application.specs.declared.Fault.{Fault}
+use Rattle.application.specs.declared.Fault.the-variants.{Faultless, FunctionUnknown, ObjectUnknown, BadParameter}
+use Rattle.application.specs.Response.{isFaultless}
 use Rattle.application.specs.Fragment.{confirm, request, firOf, finOf, conOf, unsOf, sequenceOf, controlOf, functionOf, malformed, classified}
 
 -- FIR and FIN 1 and CON 0 are the three high bits 110
@@ -107,3 +110,9 @@ module _ (s : List ℕ) (least : 2 ≤ length s) (most : length s ≤ fragmentMa
           ne-eqb (unsOf (controlOf s)) 1 u,
           le-ltb 127 (functionOf s) h,
         )
+
+pub faultless-is : (f : Fault) → isFaultless f ≡ true → f ≡ Faultless
+faultless-is Faultless e = refl
+faultless-is FunctionUnknown e = cc
+faultless-is ObjectUnknown e = cc
+faultless-is BadParameter e = cc

@@ -17,6 +17,12 @@ abbrev pub weight : Bool → ℕ → ℕ
 weight true w = w
 weight false w = 0
 
+abbrev pub isFaultless : Fault → Bool
+isFaultless Faultless = true
+isFaultless FunctionUnknown = false
+isFaultless ObjectUnknown = false
+isFaultless BadParameter = false
+
 -- "IIN2.0, function unknown; 2.1, object unknown; 2.2, bad parameter"
 abbrev pub faultBits : Fault → ℕ
 faultBits Faultless = 0

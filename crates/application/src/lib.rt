@@ -5,7 +5,7 @@ ghost use lib.ListN.{length};
 ghost use Rattle.octets.specs.Bytes.{splice};
 ghost use Rattle.laws.specs.Lists.{same};
 ghost use Rattle.application.specs.Fragment.{classified, fragmentOf, nextOf};
-ghost use Rattle.application.specs.Response.{weight, faultBits, iin1Of, iin2Of, responseControl, responseOf, writeFault};
+ghost use Rattle.application.specs.Response.{weight, isFaultless, faultBits, iin1Of, iin2Of, responseControl, responseOf, writeFault};
 
 // A fragment has at most so many bytes.
 pub const FRAGMENT_MAX: usize = 2048;
@@ -111,6 +111,17 @@ fn bit(on: bool, w: u8) -> u8
     ensures { λ r. ⌜ (r ≡ weight on w) × (r ≤ w) ⌝ }
 {
     if on { w } else { 0 }
+}
+
+pub fn is_faultless(f: Fault) -> bool
+    ensures { λ r. ⌜ r ≡ isFaultless f ⌝ }
+{
+    match f {
+        Fault::Faultless => true,
+        Fault::FunctionUnknown => false,
+        Fault::ObjectUnknown => false,
+        Fault::BadParameter => false,
+    }
 }
 
 fn fault_bits(f: Fault) -> u8

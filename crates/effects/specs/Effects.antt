@@ -9,12 +9,12 @@ use Rattle.octets.specs.Bytes.{splice}
 use Rattle.control.specs.Objects.{echoMax, Holding}
 use Rattle.select.specs.Select.{latchOf}
 use Rattle.events.specs.Queue.{Queue}
-use Rattle.application.specs.Response.{writeFault}
+use Rattle.application.specs.Response.{isFaultless, writeFault}
 use Rattle.repeat.specs.Repeat.{nothing}
 use Rattle.outstation.specs.declared.Wait.{Wait}
 use Rattle.outstation.specs.declared.Wait.the-variants.{Idle}
 use Rattle.outstation.specs.World.{World}
-use Rattle.outstation.specs.Step.{Result, plainDeed, isFaultless, refusal, confirmedStep, confirmStep}
+use Rattle.outstation.specs.Step.{Result, plainDeed, refusal, confirmedStep, confirmStep}
 use Rattle.outstation.specs.Step as S
 use Rattle.effects.specs.declared.Confirmation.{Confirmation}
 use Rattle.effects.specs.declared.Confirmation.the-variants as Cs

@@ -4,8 +4,9 @@ ghost use mathlib.Core.Path.{_≡_};
 ghost use mathlib.Core.Bool.{cond, false, _||_, _&&_, not};
 ghost use Prim.Native.Nat.{_≤_};
 ghost use lib.ListN.{length};
+ghost use Rattle.laws.specs.Limits.{fragmentMax};
 ghost use Rattle.outstation.specs.Requests.{confirmed};
-ghost use Rattle.outstation.specs.Step.{plainDeed, controlDeed, deedBy, isFaultless};
+ghost use Rattle.outstation.specs.Step.{plainDeed, controlDeed, deedBy};
 ghost use Rattle.effects.specs.Effects.{WorkedWith, WorkedStill, Confirms, seenWorld, writeDeedBy};
 use application::ApplicationSequence;
 use application::Fault;
@@ -122,21 +123,10 @@ fn write_deed(restarted: bool, s: &[u8]) -> Deed
     ensures { λ r. ⌜ WorkedStill r (λ w. writeDeedBy w restarted (now (s .entry))) ⌝ }
 {
     let fault = application::write_fault(s);
-    if is_faultless(fault) {
+    if application::is_faultless(fault) {
         plain_deed(fault, false)
     } else {
         plain_deed(fault, restarted)
-    }
-}
-
-fn is_faultless(f: Fault) -> bool
-    ensures { λ r. ⌜ r ≡ isFaultless f ⌝ }
-{
-    match f {
-        Fault::Faultless => true,
-        Fault::FunctionUnknown => false,
-        Fault::ObjectUnknown => false,
-        Fault::BadParameter => false,
     }
 }
 
@@ -148,7 +138,7 @@ fn control_deed(
     s: &[u8],
     out: &mut [u8],
 ) -> Deed
-    requires { ⌜ 2048 ≤ length (now out) ⌝ }
+    requires { ⌜ fragmentMax ≤ length (now out) ⌝ }
     ensures { λ r. ⌜ WorkedWith r (now (out .entry)) (now (out .exit)) (λ k. controlDeed (seenWorld seen k) g (q .0) time (now (s .entry))) ⌝ }
 {
     let latch = seen.latch;
@@ -183,7 +173,7 @@ pub fn deed_of(
     s: &[u8],
     out: &mut [u8],
 ) -> Deed
-    requires { ⌜ 2048 ≤ length (now out) ⌝ }
+    requires { ⌜ fragmentMax ≤ length (now out) ⌝ }
     ensures { λ r. ⌜ WorkedWith r (now (out .entry)) (now (out .exit)) (λ k. deedBy (seenWorld seen k) (q .0) function time (now (s .entry))) ⌝ }
 {
     if function == 2 {

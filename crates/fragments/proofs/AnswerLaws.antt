@@ -180,7 +180,7 @@ read-objects w q time (headers hs) = refl
 read-objects w q time (fault n) = refl
 
 -- a READ's answer has at most 2,048 bytes
-pub read-most : (w : World) (q time : ℕ) (o : List ℕ) → 4 + length (readDeedBy w q time (readOf (w .shared .inputs) o) .objects) ≤ 2048
+pub read-most : (w : World) (q time : ℕ) (o : List ℕ) → 4 + length (readDeedBy w q time (readOf (w .shared .inputs) o) .objects) ≤ fragmentMax
 read-most w q time o =
     let e = ap length (read-objects w q time (readOf (w .shared .inputs) o)) in
     omega (arith, e, response-fits (w .shared .inputs) o (w .master .queue))

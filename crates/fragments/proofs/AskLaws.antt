@@ -35,15 +35,15 @@ or-right : (a b : Bool) → (a || b) ≡ false → b ≡ false
 or-right true b h = cc
 or-right false b h = h
 
-well-sized : (f : List ℕ) → F.malformed f ≡ false → (2 ≤ length f) × (length f ≤ 2048)
+well-sized : (f : List ℕ) → F.malformed f ≡ false → (2 ≤ length f) × (length f ≤ fragmentMax)
 unfolding F.malformed
 well-sized f h =
     let l = ltb-false (length f) 2 (or-left (ltb (length f) 2) _ h) in
-    let m = ltb-false 2048 (length f) (or-left (ltb 2048 (length f)) _ (or-right (ltb (length f) 2) _ h)) in
+    let m = ltb-false fragmentMax (length f) (or-left (ltb fragmentMax (length f)) _ (or-right (ltb (length f) 2) _ h)) in
     (omega arith, omega arith)
 
 pub request-sized : (f : List ℕ) (k : Fragment) (q : ApplicationSequence) (function : ℕ) → fragmentOf k ≡ classified f → k ≡ Ks.Request q function
-    → (2 ≤ length f) × (length f ≤ 2048)
+    → (2 ≤ length f) × (length f ≤ fragmentMax)
 unfolding classified
 request-sized f k q function e t = well-sized f (passed-no (F.malformed f) 31 _ _ (sym e ∙ ap fragmentOf t) .0)
 

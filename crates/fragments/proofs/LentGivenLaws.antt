@@ -8,18 +8,17 @@ use Prim.Native.Nat.{ℕ, _+_, _≤_}
 use native.Mathlib.Omega.{arith}
 use lib.Dec.{eqb}
 use lib.ListN.{length, take}
-use Rattle.laws.specs.Limits.{eventsMax}
+use Rattle.laws.specs.Limits.{eventsMax, fragmentMax}
 use Rattle.laws.specs.Lists.{some}
 use Rattle.octets.specs.Bytes.{splice}
 use Rattle.application.specs.declared.Fault.{Fault}
-use Rattle.application.specs.declared.Fault.the-variants.{FunctionUnknown}
+use Rattle.application.specs.declared.Fault.the-variants.{Faultless, FunctionUnknown}
 use Rattle.application.specs.declared.ApplicationSequence.{ApplicationSequence}
 use Rattle.application.specs.Fragment.{objectsOf}
-use Rattle.application.specs.Response.{responseOf}
+use Rattle.application.specs.Response.{responseOf, isFaultless}
+use Rattle.application.proofs.Laws.{faultless-is}
 use Rattle.events.specs.Queue.{Queue, queue, released, cleared, isCarried}
 use Rattle.request.specs.declared.Header.{Header}
-use Rattle.request.specs.declared.Verdict.{Verdict}
-use Rattle.request.specs.declared.Verdict.the-variants as Vs
 use Rattle.request.specs.Parse.{Parsed, headers, fault}
 use Rattle.request.specs.Plans.{planned}
 use Rattle.static_objects.specs.Static.{readOf}
@@ -52,7 +51,7 @@ use Rattle.repeat.specs.declared.LastLengths.{LastLengths}
 use Rattle.outstation.specs.declared.Head.{Head}
 use Rattle.outstation.specs.Lent.{Lent, HeadCounted, installedOf, statusOf, waitOf, worldOf}
 use Rattle.fragments.specs.declared.FragmentResult.{FragmentResult}
-use Rattle.fragments.specs.Given.{answerBy, sizeBy, leftWith, readDeedBy, Given, answeredBy, GivenIn, withHeld, ConfirmedDid, ConfirmDid, faultBy, conBy, ReadDid, lastLengths, withLast, RepeatDid, LeftIn, ReadLeft, OtherDid, seenIn}
+use Rattle.fragments.specs.Given.{answerBy, sizeBy, leftWith, readDeedBy, Given, answeredBy, GivenIn, withHeld, ConfirmedDid, ConfirmDid, conBy, ReadDid, lastLengths, withLast, RepeatDid, LeftIn, ReadLeft, OtherDid, seenIn}
 
 -- ---- what a part gives is what the call gives
 
@@ -162,19 +161,19 @@ module _ (w : World) (q time : ℕ) (b a : List ℕ) (k : Queue) (f : Fault) (co
   abbrev waitBy : Bool → Wait
   waitBy x = cond x (Awaiting (record { 0 = q }) time (k .overflow) false) Idle
 
-  -- what is put for a READ that is parsed as p, and what it says by the verdict v
-  abbrev WorkedBy : Verdict → Parsed → Type 0
-  WorkedBy v p =
-      f ≡ faultBy v → con ≡ conBy v carried (k .overflow) → k ≡ queueAfter (w .shared .inputs) p (w .master .queue)
+  -- what is put for a READ that is parsed as p, and what it says by the fault that the code has
+  abbrev WorkedBy : Parsed → Type 0
+  WorkedBy p =
+      con ≡ conBy f carried (k .overflow) → k ≡ queueAfter (w .shared .inputs) p (w .master .queue)
       → size ≡ 4 + length (responseObjects (w .shared .inputs) p (w .master .queue)) → a ≡ splice b 4 (responseObjects (w .shared .inputs) p (w .master .queue))
       → Worked (deedOf f con size (waitBy con) (w .master .exchange .restarted)) b a (readDeedBy w q time p)
 
-  faultless : (hs : List Header) → WorkedBy Vs.Faultless (headers hs)
+  faultless : f ≡ Faultless → (hs : List Header) → WorkedBy (headers hs)
   unfolding listOf latchOf
-  faultless hs ef ec marked sized put =
-      let c : con ≡ (some isCarried (k .held) || k .overflow) = ec ∙ ap (λ (x : Bool). x || k .overflow) is in
+  faultless e hs ec marked sized put =
+      let c : con ≡ (some isCarried (k .held) || k .overflow) = ec ∙ ap (λ (x : Fault). conBy x carried (k .overflow)) e ∙ ap (λ (x : Bool). x || k .overflow) is in
       record {
-        fault = ef;
+        fault = e;
         con = c ∙ ap (λ (x : Queue). some isCarried (x .held) || x .overflow) marked;
         size = sized;
         lent = put;
@@ -187,55 +186,42 @@ module _ (w : World) (q time : ℕ) (b a : List ℕ) (k : Queue) (f : Fault) (co
         restarted = refl;
       }
 
-  unknown : WorkedBy Vs.ObjectUnknown (fault 2)
+  faulty : isFaultless f ≡ false → WorkedBy (fault f)
   unfolding listOf latchOf
-  unknown ef ec marked sized put =
+  faulty e ec marked sized put =
+      let c : con ≡ false = ec ∙ ap (λ (x : Bool). x && (carried || k .overflow)) e in
       record {
-        fault = ef;
-        con = ec;
+        fault = refl;
+        con = c;
         size = sized;
         lent = put;
         operated = record { objects = refl; count = refl };
-        wait = ap waitBy ec;
+        wait = ap waitBy c;
         latch = refl;
         counted = omega arith;
         restarted = refl;
       }
 
-  bad : WorkedBy Vs.BadParameter (fault 4)
-  unfolding listOf latchOf
-  bad ef ec marked sized put =
-      record {
-        fault = ef;
-        con = ec;
-        size = sized;
-        lent = put;
-        operated = record { objects = refl; count = refl };
-        wait = ap waitBy ec;
-        latch = refl;
-        counted = omega arith;
-        restarted = refl;
-      }
-
-  read-worked : (v : Verdict) (hs : List Header) (p : Parsed) → planned v hs ≡ p → WorkedBy v p
-  read-worked Vs.Faultless hs p e = subst (WorkedBy Vs.Faultless) e (faultless hs)
-  read-worked Vs.ObjectUnknown hs p e = subst (WorkedBy Vs.ObjectUnknown) e unknown
-  read-worked Vs.BadParameter hs p e = subst (WorkedBy Vs.BadParameter) e bad
+  read-worked : (hs : List Header) (p : Parsed) → planned f hs ≡ p → WorkedBy p
+  read-worked hs p e = go (isFaultless f) refl
+    where
+      go : (b : Bool) → isFaultless f ≡ b → WorkedBy p
+      go true t = subst WorkedBy (sym (ap (λ (x : Bool). cond x (headers hs) (fault f)) t) ∙ e) (faultless (faultless-is f t) hs)
+      go false t = subst WorkedBy (sym (ap (λ (x : Bool). cond x (headers hs) (fault f)) t) ∙ e) (faulty t)
 
 -- the memory of a READ, by the latch's bytes
 abbrev pub memoryOf : (binaries analogs held request answer : List ℕ) → List ℕ → Lent
 memoryOf b a e p s o = record { binaries = b; analogs = a; held = e; request = p; answer = s; objects = o }
 
 -- a READ, of its reply r, the header put in front and the head that it leaves
-module _ (h : Head) (bw aw e p s : List ℕ) (q time : ℕ) (f e₁ p₁ s₁ : List ℕ) (r : Reply) (b a₁ a₂ : List ℕ) (x : Fault) (con carried : Bool) (k : LastLengths)
+module _ (h : Head) (bw aw e p s : List ℕ) (q time : ℕ) (f e₁ p₁ s₁ : List ℕ) (r : Reply) (b a₁ a₂ : List ℕ) (con carried : Bool) (k : LastLengths)
     (h₁ : Head) (none : Crobs) (hands : Holding none []) (left : ReadLeft h time (cond con (Awaiting (record { 0 = q }) time (holds (h .overflow)) false) Idle) k h₁)
-    (keeps : (lastIn p₁ s₁ k ≡ kept f []) × (k .«request_len» ≡ length f) × (k .«answer_len» ≡ 0)) (short : length f ≤ 2048) (room : 2048 ≤ length b)
-    (ex : x ≡ faultBy (r .verdict)) where
+    (keeps : (lastIn p₁ s₁ k ≡ kept f []) × (k .«request_len» ≡ length f) × (k .«answer_len» ≡ 0)) (short : length f ≤ fragmentMax) (room : fragmentMax ≤ length b) where
   -- the rest of what is known, by the status and the restart flag that the code has
   abbrev ReadBy : BufferStatus → Bool → Type 0
   ReadBy t restarted =
-      RepliedAs (inputsIn (installedOf h) bw aw) (objectsOf f) (queueIn e t) b r (queueIn e₁ t) a₁ → con ≡ conBy (r .verdict) carried (t .overflow)
-      → carried ≡ some isCarried (queueIn e₁ t .held) → a₂ ≡ splice a₁ 0 (responseOf q con (indicationsOf (queueIn e₁ t) restarted) x)
+      RepliedAs (inputsIn (installedOf h) bw aw) (objectsOf f) (queueIn e t) b r (queueIn e₁ t) a₁ → con ≡ conBy (r .fault) carried (t .overflow)
+      → carried ≡ some isCarried (queueIn e₁ t .held) → a₂ ≡ splice a₁ 0 (responseOf q con (indicationsOf (queueIn e₁ t) restarted) (r .fault))
       → ReadDid h (memoryOf bw aw e p s) q time f (record { head = h₁; answer = Fs.Answer (r .size); operated = none }) (memoryOf bw aw e₁ p₁ s₁) b a₂
 
   of-head : ReadBy (statusOf h) (holds (h .restarted))
@@ -243,8 +229,8 @@ module _ (h : Head) (bw aw e p s : List ℕ) (q time : ℕ) (f e₁ p₁ s₁ : 
   of-head g ec is put o =
       let w : World = worldOf h (memoryOf bw aw e p s o) in
       let y : Parsed = readOf (w .shared .inputs) (objectsOf f) in
-      let d : Deed = deedOf x con (r .size) (waitBy w q time b a₁ u x con carried (r .size) is con) (holds (h .restarted)) in
-      let worked : Worked d b a₁ (readDeedBy w q time y) = read-worked w q time b a₁ u x con carried (r .size) is (r .verdict) (g .asked) y (g .verdict) ex ec (g .events) (g .size) (g .bytes) in
+      let d : Deed = deedOf (r .fault) con (r .size) (waitBy w q time b a₁ u (r .fault) con carried (r .size) is con) (holds (h .restarted)) in
+      let worked : Worked d b a₁ (readDeedBy w q time y) = read-worked w q time b a₁ u (r .fault) con carried (r .size) is (g .asked) y (g .plan) ec (g .events) (g .size) (g .bytes) in
       let marked : u ≡ readDeedBy w q time y .queue = g .events ∙ sym (read-queue w q time y) in
       let fits : r .size ≤ length b = omega (arith, read-most w q time (objectsOf f), worked .size, room) in
       record {
@@ -293,7 +279,7 @@ headAt h time =
 pub repeated-in : (h : Head) (p s : List ℕ) (function time : ℕ) (none : Crobs) (b a : List ℕ) (n : ℕ) (is : FragmentAnswer) → Holding none []
     → (a ≡ cond (eqb function 6) b (splice b 0 (answerOf (lastIn p s (lastLengths h)))))
     × (n ≡ cond (eqb function 6) 0 (length (answerOf (lastIn p s (lastLengths h)))))
-    × (n ≤ answerMax) → 2048 ≤ length b → is ≡ cond (eqb function 6) Fs.Silent (Fs.Answer n)
+    × (n ≤ answerMax) → fragmentMax ≤ length b → is ≡ cond (eqb function 6) Fs.Silent (Fs.Answer n)
     → RepeatDid h p s function time (record { head = headAt h time; answer = is; operated = none }) b a
 unfolding waitOf
 repeated-in h p s function time none b a n is hands put room said m =
@@ -317,8 +303,8 @@ repeated-in h p s function time none b a n is hands put room said m =
 
 module _ (h : Head) (e p s o : List ℕ) (q function time : ℕ) (f e₁ p₁ s₁ o₁ : List ℕ) (r : Deed) (b a₁ a₂ : List ℕ) (n : ℕ) (is : FragmentAnswer)
     (k : LastLengths) (h₁ : Head) (left : LeftIn h time (r .restarted) Idle k (latchOf (r .latch)) (r .latch .len) h₁ o₁)
-    (keeps : (lastIn p₁ s₁ k ≡ kept f (take n a₂)) × (k .«request_len» ≡ length f) × (k .«answer_len» ≡ length (take n a₂))) (short : length f ≤ 2048)
-    (small : length (take n a₂) ≤ answerMax) (room : 2048 ≤ length b) (said : is ≡ cond (eqb function 6) Fs.Silent (Fs.Answer n)) where
+    (keeps : (lastIn p₁ s₁ k ≡ kept f (take n a₂)) × (k .«request_len» ≡ length f) × (k .«answer_len» ≡ length (take n a₂))) (short : length f ≤ fragmentMax)
+    (small : length (take n a₂) ≤ answerMax) (room : fragmentMax ≤ length b) (said : is ≡ cond (eqb function 6) Fs.Silent (Fs.Answer n)) where
   -- the rest of what is known, by the status and the part of the state that the code has
   abbrev OtherBy : BufferStatus → Seen → Type 0
   OtherBy t seen =

@@ -2,7 +2,7 @@
 -- Assumes nothing.
 use Prim.Native.Nat.{ℕ, _≤_}
 use mathlib.Core.Path.{_≡_}
-use mathlib.Core.Bool.{Bool, false, cond, _||_}
+use mathlib.Core.Bool.{Bool, false, cond, _&&_, _||_}
 use mathlib.Core.List.{List}
 use lib.Dec.{eqb}
 use lib.ListN.{length, take}
@@ -10,10 +10,8 @@ use Rattle.laws.specs.Limits.{fragmentMax}
 use Rattle.points.specs.Inputs.{Inputs}
 use Rattle.events.specs.Queue.{Queue}
 use Rattle.application.specs.declared.Fault.{Fault}
-use Rattle.application.specs.declared.Fault.the-variants.{Faultless, ObjectUnknown, BadParameter}
 use Rattle.application.specs.Fragment.{objectsOf}
-use Rattle.request.specs.declared.Verdict.{Verdict}
-use Rattle.request.specs.declared.Verdict.the-variants as Vs
+use Rattle.application.specs.Response.{isFaultless}
 use Rattle.request.specs.Parse.{Parsed, headers, fault}
 use Rattle.static_objects.specs.Static.{readOf}
 use Rattle.control.specs.declared.Crob.{Crob}
@@ -28,7 +26,7 @@ use Rattle.outstation.specs.declared.Head.{Head}
 use Rattle.outstation.specs.declared.Wait.{Wait}
 use Rattle.outstation.specs.World.{World, Exchange, withClock, withInputs, withQueue, withExchange, withShared, withMaster}
 use Rattle.outstation.specs.Lent.{Lent, Outstation, world, HeadCounted, Counted, statusOf, waitOf, worldOf}
-use Rattle.outstation.specs.Step.{Answer, took, answers, silent, accepts, refuses, handed, lentAfter, Result, fragment, step, readDeed, plainDeed, readFault, readStep, repeatStep, requestStep, deedBy, confirmStep, confirmedStep}
+use Rattle.outstation.specs.Step.{Answer, took, answers, silent, accepts, refuses, handed, lentAfter, Result, fragment, step, readDeed, plainDeed, readStep, repeatStep, requestStep, deedBy, confirmStep, confirmedStep}
 use Rattle.outstation.specs.Step as S
 use Rattle.effects.specs.declared.Seen.{Seen}
 use Rattle.fragments.specs.declared.FragmentAnswer.{FragmentAnswer}
@@ -115,7 +113,7 @@ leftWith w time i k x =
 -- a READ, faultless or not
 abbrev pub readDeedBy : World → ℕ → ℕ → Parsed → S.Deed
 readDeedBy w q time (headers hs) = readDeed w q time hs
-readDeedBy w q time (fault n) = plainDeed w (readFault n) (w .master .exchange .restarted)
+readDeedBy w q time (fault f) = plainDeed w f (w .master .exchange .restarted)
 
 -- a request by its function: a READ, a repeat, or another
 abbrev pub requestBy : World → ℕ → ℕ → ℕ → List ℕ → Result
@@ -143,16 +141,9 @@ ConfirmDid h e q uns time r e₁ =
 abbrev pub RequestDid : Head → Lent → (q function time : ℕ) (f : List ℕ) → FragmentResult → Lent → (before after : List ℕ) → Type 0
 RequestDid h m q function time f r m₁ before after = GivenIn h r m₁ before after (requestBy (worldOf h m) q function time f)
 
--- a READ's fault and CON, by the verdict on its plan
-abbrev pub faultBy : Verdict → Fault
-faultBy Vs.Faultless = Faultless
-faultBy Vs.ObjectUnknown = ObjectUnknown
-faultBy Vs.BadParameter = BadParameter
-
-abbrev pub conBy : Verdict → (carried overflow : Bool) → Bool
-conBy Vs.Faultless carried overflow = carried || overflow
-conBy Vs.ObjectUnknown carried overflow = false
-conBy Vs.BadParameter carried overflow = false
+-- "CON is set exactly on a faultless READ's answer with an event or IIN2.3."
+abbrev pub conBy : Fault → (carried overflow : Bool) → Bool
+conBy f carried overflow = isFaultless f && (carried || overflow)
 
 -- of a READ, whatever the latch's bytes
 abbrev pub ReadDid : Head → (List ℕ → Lent) → (q time : ℕ) (f : List ℕ) → FragmentResult → (List ℕ → Lent) → (before after : List ℕ) → Type 0

@@ -5,6 +5,7 @@ ghost use mathlib.Core.List.{[]};
 ghost use Prim.Native.Nat.{_≤_};
 ghost use lib.Dec.{eqb};
 ghost use lib.ListN.{length};
+ghost use Rattle.laws.specs.Limits.{fragmentMax};
 ghost use Rattle.octets.specs.Bytes.{splice};
 ghost use Rattle.application.specs.Response.{responseOf};
 ghost use Rattle.control.specs.Objects.{Holding, answerMax};
@@ -16,7 +17,6 @@ ghost use Rattle.words.specs.Numbers.{holds};
 ghost use Rattle.fragments.specs.Given.{
   lastLengths,
   seenIn,
-  faultBy,
   conBy,
   FragmentDid,
   ConfirmedDid,
@@ -47,7 +47,6 @@ use point_store::ANALOG_WORDS;
 use point_store::BINARY_WORDS;
 use point_store::Installed;
 use repeat::LastLengths;
-use request::Verdict;
 use select::Latch;
 
 // What a fragment comes to.
@@ -142,22 +141,14 @@ fn take_confirm(
 
 // ---- READ
 
-fn read_said(v: Verdict, carried: bool, overflow: bool) -> Said
-    ensures { λ r. ⌜ (r .fault ≡ faultBy v) × (r .con ≡ conBy v carried overflow) ⌝ }
+// CON is set exactly on a faultless READ's answer with an event or IIN2.3.
+fn con_by(f: Fault, carried: bool, overflow: bool) -> bool
+    ensures { λ r. ⌜ r ≡ conBy f carried overflow ⌝ }
 {
-    match v {
-        Verdict::Faultless => Said {
-            fault: Fault::Faultless,
-            con: effects::either(carried, overflow),
-        },
-        Verdict::ObjectUnknown => Said {
-            fault: Fault::ObjectUnknown,
-            con: false,
-        },
-        Verdict::BadParameter => Said {
-            fault: Fault::BadParameter,
-            con: false,
-        },
+    if application::is_faultless(f) {
+        effects::either(carried, overflow)
+    } else {
+        false
     }
 }
 
@@ -217,7 +208,7 @@ fn answer_read(
     f: &[u8],
     out: &mut [u8],
 ) -> FragmentResult
-    requires { ⌜ (2 ≤ length (now f)) × (length (now f) ≤ 2048) × (2048 ≤ length (now out)) ⌝ }
+    requires { ⌜ (2 ≤ length (now f)) × (length (now f) ≤ fragmentMax) × (fragmentMax ≤ length (now out)) ⌝ }
     ensures { λ r. ⌜ ReadDid h (λ o. record { binaries = now (binaries .entry); analogs = now (analogs .entry); held = now (held .entry); request = now (request .entry); answer = now (answer .entry); objects = o })
         (q .0) time (now (f .entry)) r
         (λ o. record { binaries = now (binaries .entry); analogs = now (analogs .entry); held = now (held .exit); request = now (request .exit); answer = now (answer .exit); objects = o })
@@ -229,11 +220,12 @@ fn answer_read(
     };
     let t = outstation::status_of(h);
     let reply = read::respond(out, &f[2..], binaries, analogs, n, held, t);
-    let v = reply.verdict;
-    let s = read_said(v, event_store::any_carried(held, t), t.overflow);
+    let fault = reply.fault;
+    let con = con_by(fault, event_store::any_carried(held, t), t.overflow);
+    let s = Said { fault, con };
     put_header(out, q, s, held, t, outstation::truth(h.restarted));
     let kept = repeat::remember(request, answer, f, &f[..0]);
-    let next = after_read(h, q, time, s.con, kept);
+    let next = after_read(h, q, time, con, kept);
     let a = FragmentAnswer::Answer(reply.size);
     let none = control::none();
     FragmentResult {
@@ -296,7 +288,7 @@ fn repeat_request(
     time: u64,
     out: &mut [u8],
 ) -> FragmentResult
-    requires { ⌜ 2048 ≤ length (now out) ⌝ }
+    requires { ⌜ fragmentMax ≤ length (now out) ⌝ }
     ensures { λ r. ⌜ RepeatDid h (now (request .entry)) (now (answer .entry)) function time r (now (out .entry)) (now (out .exit)) ⌝ }
 {
     let n = put_again(h, request, answer, function, out);
@@ -400,7 +392,7 @@ fn answer_request(
     f: &[u8],
     out: &mut [u8],
 ) -> FragmentResult
-    requires { ⌜ (2 ≤ length (now f)) × (length (now f) ≤ 2048) × (2048 ≤ length (now out)) ⌝ }
+    requires { ⌜ (2 ≤ length (now f)) × (length (now f) ≤ fragmentMax) × (fragmentMax ≤ length (now out)) ⌝ }
     ensures { λ r. ⌜ OtherDid h (λ b a. record { binaries = b; analogs = a; held = now (held .entry); request = now (request .entry); answer = now (answer .entry); objects = now (objects .entry) })
         (q .0) function time (now (f .entry)) r
         (λ b a. record { binaries = b; analogs = a; held = now (held .exit); request = now (request .exit); answer = now (answer .exit); objects = now (objects .exit) })
@@ -440,7 +432,7 @@ fn take_request(
     f: &[u8],
     out: &mut [u8],
 ) -> FragmentResult
-    requires { ⌜ (2 ≤ length (now f)) × (length (now f) ≤ 2048) × (2048 ≤ length (now out)) ⌝ }
+    requires { ⌜ (2 ≤ length (now f)) × (length (now f) ≤ fragmentMax) × (fragmentMax ≤ length (now out)) ⌝ }
     ensures { λ r. ⌜ RequestDid h (record { binaries = now (binaries .entry); analogs = now (analogs .entry); held = now (held .entry); request = now (request .entry); answer = now (answer .entry); objects = now (objects .entry) })
         (q .0) function time (now (f .entry)) r
         (record { binaries = now (binaries .entry); analogs = now (analogs .entry); held = now (held .exit); request = now (request .exit); answer = now (answer .exit); objects = now (objects .exit) })

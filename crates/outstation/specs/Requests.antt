@@ -5,24 +5,25 @@ use mathlib.Core.Bool.{Bool, not, cond, _&&_}
 use mathlib.Core.List.{List}
 use lib.Dec.{eqb, leb}
 use Rattle.laws.specs.Outcome.{Outcome, accepted, refused}
+use Rattle.application.specs.declared.Fault.{Fault}
 use Rattle.application.specs.Fragment.{Kind, confirm, request, classified, objectsOf}
 use Rattle.points.specs.Inputs.{Inputs}
 use Rattle.request.specs.declared.Header.{Header}
 use Rattle.request.specs.Parse.{Parsed, headers, fault}
 use Rattle.static_objects.specs.Static.{readOf}
 
--- what a fragment asks: nothing that is taken (31); a CONFIRM; a faultless READ of these headers; a READ with this fault (octet
--- IIN2); another request
+-- what a fragment asks: nothing that is taken (31); a CONFIRM; a faultless READ of these headers; a READ with this fault; another
+-- request
 pub data Ask : Type 0 where
   malformed : Ask
   confirms : (sequence : ℕ) (uns : Bool) → Ask
   reads : (sequence : ℕ) → List Header → Ask
-  misreads : (sequence fault : ℕ) → Ask
+  misreads : (sequence : ℕ) → Fault → Ask
   asks : (sequence function : ℕ) → Ask
 
 abbrev pub readAsk : ℕ → Parsed → Ask
 readAsk q (headers hs) = reads q hs
-readAsk q (fault n) = misreads q n
+readAsk q (fault e) = misreads q e
 
 -- READ is function 1
 abbrev pub kindAsk : Inputs → List ℕ → Kind → Ask

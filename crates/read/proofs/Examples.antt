@@ -12,7 +12,7 @@ use Rattle.objects.specs.Runs.{runs, objectBytes, allBytes, encoded}
 use Rattle.events.specs.declared.Shown.the-variants.{State}
 use Rattle.events.specs.Placing.{costOf, fits, packed}
 use Rattle.events.specs.Queue.{Queue, carry}
-use Rattle.request.specs.Headers.{objectOf, classHeader, headerOf}
+use Rattle.request.specs.Headers.{objectOf, classHeader, frontHeader}
 use Rattle.request.specs.Parse.{headersOf, asksFor}
 use Rattle.event_objects.specs.Events.{eventBytes, carriedEvents, carriedObjects, carriedBytes}
 use Rattle.static_objects.specs.Static.{pointBytes, pointObjects, rangeBytes, staticBytes, readOf}
@@ -23,7 +23,7 @@ abbrev four : Inputs
 four = record { binaries = noBinary ∷ noBinary ∷ noBinary ∷ noBinary ∷ []; analogs = [] }
 
 row-c : responseObjects four (readOf four (60 ∷ 2 ∷ 6 ∷ [])) (record { held = []; overflow = false }) ≡ []
-unfolding headersOf headerOf objectOf classHeader asksFor staticBytes rangeBytes pointObjects encoded runs allBytes carry carriedBytes carriedObjects carriedEvents filter
+unfolding headersOf frontHeader objectOf classHeader asksFor staticBytes rangeBytes pointObjects encoded runs allBytes carry carriedBytes carriedObjects carriedEvents filter
 row-c = refl
 
 -- row d: binary 3, class 1, on at 1,000, flags 01; 3C 02 06 gives 02 02 28 01 00 03 00 81 E8 03 00 00 00 00
@@ -35,7 +35,7 @@ one-held =
     }
 
 row-d : responseObjects four (readOf four (60 ∷ 2 ∷ 6 ∷ [])) one-held ≡ 2 ∷ 2 ∷ 40 ∷ 1 ∷ 0 ∷ 3 ∷ 0 ∷ 129 ∷ 232 ∷ 3 ∷ 0 ∷ 0 ∷ 0 ∷ 0 ∷ []
-unfolding headersOf headerOf objectOf classHeader asksFor staticBytes rangeBytes pointObjects encoded runs allBytes objectBytes carry fits packed costOf carriedBytes carriedObjects carriedEvents filter eventBytes le
+unfolding headersOf frontHeader objectOf classHeader asksFor staticBytes rangeBytes pointObjects encoded runs allBytes objectBytes carry fits packed costOf carriedBytes carriedObjects carriedEvents filter eventBytes le
 row-d = refl
 
 -- row j: one binary, on, one float point at 1.0, flags 01; 3C 01 06 gives 01 02 01 00 00 00 00 81, 1E 05 01 00 00 00 00 01 00 00 80 3F
@@ -48,5 +48,5 @@ one =
 
 row-j : responseObjects one (readOf one (60 ∷ 1 ∷ 6 ∷ [])) (record { held = []; overflow = false })
     ≡ 1 ∷ 2 ∷ 1 ∷ 0 ∷ 0 ∷ 0 ∷ 0 ∷ 129 ∷ 30 ∷ 5 ∷ 1 ∷ 0 ∷ 0 ∷ 0 ∷ 0 ∷ 1 ∷ 0 ∷ 0 ∷ 128 ∷ 63 ∷ []
-unfolding headersOf headerOf objectOf classHeader asksFor staticBytes rangeBytes pointObjects pointBytes encoded runs allBytes objectBytes carry carriedBytes carriedObjects carriedEvents filter le ofBits toBits
+unfolding headersOf frontHeader objectOf classHeader asksFor staticBytes rangeBytes pointObjects pointBytes encoded runs allBytes objectBytes carry carriedBytes carriedObjects carriedEvents filter le ofBits toBits
 row-j = refl

@@ -4,6 +4,7 @@ use mathlib.Core.Path.{_≡_}
 use Prim.Native.Nat.{ℕ, _+_, _-_}
 use mathlib.Core.List.{List, [], _++_}
 use lib.ListN.{length}
+use Rattle.laws.specs.Limits.{fragmentMax}
 use Rattle.octets.specs.Bytes.{splice}
 use Rattle.points.specs.Inputs.{Inputs}
 use Rattle.events.specs.declared.Classes.{Classes}
@@ -19,25 +20,29 @@ use Rattle.read.specs.declared.Reply.{Reply}
 abbrev pub classesOf : List Header → Classes
 classesOf hs = record { one = asksFor 1 hs; two = asksFor 2 hs; three = asksFor 3 hs }
 
--- the bytes left for events beside the static part and the four bytes in front
+-- the bytes of the objects: 2,048 less the four bytes in front of them
+abbrev pub responseObjectsMax : ℕ
+responseObjectsMax = fragmentMax - 4
+
+-- the bytes left for events beside the static part
 abbrev pub roomBeside : Inputs → List Header → ℕ
-roomBeside i hs = 2044 - length (staticBytes i hs)
+roomBeside i hs = responseObjectsMax - length (staticBytes i hs)
 
 -- the event buffer: the events that the response carries are marked; a fault carries none
 abbrev pub queueAfter : Inputs → Parsed → Queue → Queue
 queueAfter i (headers hs) q = selected (classesOf hs) (roomBeside i hs) q
-queueAfter i (fault n) q = cleared q
+queueAfter i (fault f) q = cleared q
 
 -- the objects; "A fault returns no objects"
 abbrev pub responseObjects : Inputs → Parsed → Queue → List ℕ
 responseObjects i (headers hs) q = carriedBytes (queueAfter i (headers hs) q .held) ++ staticBytes i hs
-responseObjects i (fault n) q = []
+responseObjects i (fault f) q = []
 
 -- r is the reply to the bytes s of a READ, of the inputs i and the events q, that leaves the events q₁; the lent bytes were out and are out₁
 pub record RepliedAs (i : Inputs) (s : List ℕ) (q : Queue) (out : List ℕ) (r : Reply) (q₁ : Queue) (out₁ : List ℕ) : Type 0 where
   -- the headers asked for, where there is no fault
   pub asked : List Header
-  pub verdict : planned (r .verdict) asked ≡ readOf i s
+  pub plan : planned (r .fault) asked ≡ readOf i s
   pub events : q₁ ≡ queueAfter i (readOf i s) q
   pub size : r .size ≡ 4 + length (responseObjects i (readOf i s) q)
   pub bytes : out₁ ≡ splice out 4 (responseObjects i (readOf i s) q)

@@ -4,24 +4,30 @@ ghost use mathlib.Core.Path.{_≡_};
 ghost use mathlib.Core.List.{_++_};
 ghost use Prim.Native.Nat.{_+_, _≤_};
 ghost use lib.ListN.{length, take};
+ghost use Rattle.laws.specs.Limits.{fragmentMax};
 ghost use Rattle.octets.specs.Bytes.{splice};
 ghost use Rattle.point_store.specs.PointWords.{inputsIn};
 ghost use Rattle.event_store.specs.EventWords.{queueIn};
 ghost use Rattle.event_objects.specs.Events.{carriedBytes};
 ghost use Rattle.static_objects.specs.Static.{staticBytes};
 ghost use Rattle.read.specs.Response.{classesOf, RepliedAs};
+use application::FRAGMENT_MAX;
+use application::Fault;
 use event_store::BufferStatus;
 use event_store::EVENT_WORDS;
 use events::Classes;
 use point_store::ANALOG_WORDS;
 use point_store::BINARY_WORDS;
 use point_store::Installed;
+use request::HEADERS_MAX;
 use request::Plan;
-use request::Verdict;
+
+// The bytes of a response's objects: 2,048 less the four bytes in front of them.
+const RESPONSE_OBJECTS_MAX: usize = FRAGMENT_MAX - 4;
 
 // Whether the READ is faultless or what its fault is, and the size of the response.
 pub struct Reply {
-    pub verdict: Verdict,
+    pub fault: Fault,
     pub size: usize,
 }
 
@@ -29,7 +35,7 @@ pub struct Reply {
 fn classes(plan: Plan) -> Classes
     ensures { λ r. ⌜ r ≡ classesOf (take (plan .count) (plan .headers)) ⌝ }
 {
-    let n = request::filled(plan.count);
+    let n = octets::least(plan.count, HEADERS_MAX);
     let mut one = false;
     let mut two = false;
     let mut three = false;
@@ -74,36 +80,19 @@ pub fn respond(
     held: &mut [u64; EVENT_WORDS],
     status: BufferStatus,
 ) -> Reply
-    requires { ⌜ 2048 ≤ length (now out) ⌝ }
+    requires { ⌜ fragmentMax ≤ length (now out) ⌝ }
     ensures { λ r. ⌜ RepliedAs (inputsIn n (now (binaries .entry)) (now (analogs .entry))) (now (s .entry)) (queueIn (now (held .entry)) status) (now (out .entry)) r
         (queueIn (now (held .exit)) status) (now (out .exit)) ⌝ }
 {
     let a = static_objects::asked(s, analogs, n);
     let plan = a.plan;
-    let v = plan.verdict;
-    match v {
-        Verdict::Faultless => {
-            let m = classes(plan);
-            event_store::select(held, status, m, 2044 - a.size);
-            let size = put_objects(out, plan, binaries, analogs, n, held, status);
-            Reply {
-                verdict: Verdict::Faultless,
-                size: size,
-            }
-        }
-        Verdict::ObjectUnknown => {
-            event_store::clear(held, status);
-            Reply {
-                verdict: Verdict::ObjectUnknown,
-                size: 4,
-            }
-        }
-        Verdict::BadParameter => {
-            event_store::clear(held, status);
-            Reply {
-                verdict: Verdict::BadParameter,
-                size: 4,
-            }
-        }
+    let fault = plan.fault;
+    if application::is_faultless(fault) {
+        let m = classes(plan);
+        event_store::select(held, status, m, RESPONSE_OBJECTS_MAX - a.size);
+        let size = put_objects(out, plan, binaries, analogs, n, held, status);
+        return Reply { fault, size };
     }
+    event_store::clear(held, status);
+    Reply { fault, size: 4 }
 }

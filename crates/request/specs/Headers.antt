@@ -1,14 +1,16 @@
 -- One object header of a READ: what it asks for, or its fault.
 -- Assumes nothing.
 use Prim.Native.Nat.{ℕ, _+_, _-_}
-use mathlib.Core.Bool.{Bool, true, false, cond}
-use mathlib.Core.List.{List}
-use lib.Dec.{ltb, eqb}
+use mathlib.Core.Bool.{Bool, true, false, not, _&&_, _||_}
+use mathlib.Core.List.{List, [], _∷_}
+use lib.Dec.{ltb, leb, eqb}
 use lib.ListN.{length, getD}
+use Rattle.laws.specs.First.{first, _⇒_}
 use Rattle.octets.specs.Bytes.{valueAt}
+use Rattle.application.specs.declared.Fault.the-variants.{ObjectUnknown, BadParameter}
 use Rattle.request.specs.declared.Header.{Header}
-use Rattle.request.specs.declared.Step.{Step}
-use Rattle.request.specs.declared.Step.the-variants.{Asked, ObjectUnknown, BadParameter}
+use Rattle.request.specs.declared.Front.{Front}
+use Rattle.request.specs.declared.Front.the-variants.{Asked, Faulty}
 use Rattle.request.specs.declared.Object.{Object}
 use Rattle.request.specs.declared.Object.the-variants.{Class, Binary, Analog, Unknown}
 
@@ -37,39 +39,55 @@ everyPoint nb na = record { class = 0; binary = 0; binaries = nb; analog = 0; an
 -- the object of a group and a variation; 60 var 1 is class 0, var 2 to 4 are the classes 1 to 3
 unfoldable pub objectOf : ℕ → ℕ → Object
 objectOf g v =
-    cond (eqb g 60) (cond (ltb v 1) Unknown (cond (ltb 4 v) Unknown (Class (v - 1))))
-    (cond (eqb g 1) (cond (eqb v 0) Binary (cond (eqb v 2) Binary Unknown))
-    (cond (eqb g 30) (cond (eqb v 0) Analog Unknown)
-    Unknown))
+    first
+    ((eqb g 60 && (leb 1 v && leb v 4)) ⇒ Class (v - 1)
+    ∷ (eqb g 1 && (eqb v 0 || eqb v 2)) ⇒ Binary
+    ∷ (eqb g 30 && eqb v 0) ⇒ Analog
+    ∷ [])
+    Unknown
 
 -- a class, where there are nb binaries and na analogs: qualifier 06
-unfoldable pub classHeader : ℕ → ℕ → ℕ → List ℕ → Step
+unfoldable pub classHeader : ℕ → ℕ → ℕ → List ℕ → Front
 classHeader nb na c s =
-    cond (eqb (getD s 2 0) 6) (Asked (cond (eqb c 0) (everyPoint nb na) (eventsOf c)) 3) BadParameter
+    first
+    (not (eqb (getD s 2 0) 6) ⇒ Faulty BadParameter
+    ∷ eqb c 0 ⇒ Asked (everyPoint nb na) 3
+    ∷ [])
+    (Asked (eventsOf c) 3)
 
 -- "start above stop or stop no such point 2.2", of the n points there are
-unfoldable pub rangeHeader : Bool → ℕ → ℕ → ℕ → ℕ → Step
+unfoldable pub rangeHeader : Bool → ℕ → ℕ → ℕ → ℕ → Front
 rangeHeader a n start stop size =
-    cond (ltb stop start) BadParameter
-    (cond (ltb stop n) (Asked (pointsFrom a start (stop - start + 1)) size) BadParameter)
+    first
+    (ltb stop start ⇒ Faulty BadParameter
+    ∷ leb n stop ⇒ Faulty BadParameter
+    ∷ [])
+    (Asked (pointsFrom a start (stop - start + 1)) size)
 
--- points: qualifier 06, all; 00, a start and a stop of one byte; 01, of two bytes; "range cut short .. 2.2"
-unfoldable pub pointHeader : Bool → ℕ → List ℕ → Step
+-- "range cut short .. 2.2", where the header should have so many bytes
+abbrev pub uncut : ℕ → List ℕ → Front → Front
+uncut size s f = first (ltb (length s) size ⇒ Faulty BadParameter ∷ []) f
+
+-- points: qualifier 06, all; 00, a start and a stop of one byte; 01, of two bytes; another "2.2"
+unfoldable pub pointHeader : Bool → ℕ → List ℕ → Front
 pointHeader a n s =
-    cond (eqb (getD s 2 0) 6) (Asked (pointsFrom a 0 n) 3)
-    (cond (eqb (getD s 2 0) 0)
-    (cond (ltb (length s) 5) BadParameter (rangeHeader a n (getD s 3 0) (getD s 4 0) 5))
-    (cond (eqb (getD s 2 0) 1)
-    (cond (ltb (length s) 7) BadParameter (rangeHeader a n (valueAt 2 3 s) (valueAt 2 5 s) 7))
-    BadParameter))
+    first
+    (eqb (getD s 2 0) 6 ⇒ Asked (pointsFrom a 0 n) 3
+    ∷ eqb (getD s 2 0) 0 ⇒ uncut 5 s (rangeHeader a n (getD s 3 0) (getD s 4 0) 5)
+    ∷ eqb (getD s 2 0) 1 ⇒ uncut 7 s (rangeHeader a n (valueAt 2 3 s) (valueAt 2 5 s) 7)
+    ∷ [])
+    (Faulty BadParameter)
 
-abbrev pub byObject : Object → ℕ → ℕ → List ℕ → Step
+abbrev pub byObject : Object → ℕ → ℕ → List ℕ → Front
 byObject (Class c) nb na s = classHeader nb na c s
 byObject Binary nb na s = pointHeader false nb s
 byObject Analog nb na s = pointHeader true na s
-byObject Unknown nb na s = ObjectUnknown
+byObject Unknown nb na s = Faulty ObjectUnknown
 
 -- the header at the front of the bytes: "under 3 bytes 2.2, object 2.1, qualifier 2.2, range .. 2.2"
-unfoldable pub headerOf : ℕ → ℕ → List ℕ → Step
-headerOf nb na s =
-    cond (ltb (length s) 3) BadParameter (byObject (objectOf (getD s 0 0) (getD s 1 0)) nb na s)
+unfoldable pub frontHeader : ℕ → ℕ → List ℕ → Front
+frontHeader nb na s =
+    first
+    (ltb (length s) 3 ⇒ Faulty BadParameter
+    ∷ [])
+    (byObject (objectOf (getD s 0 0) (getD s 1 0)) nb na s)

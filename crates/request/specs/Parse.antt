@@ -6,44 +6,38 @@ use mathlib.Core.List.{List, [], _∷_}
 use lib.Dec.{eqb}
 use lib.ListN.{drop}
 use Rattle.laws.specs.Lists.{some}
-use Rattle.request.specs.Headers.{headerOf}
+use Rattle.application.specs.declared.Fault.{Fault}
+use Rattle.application.specs.declared.Fault.the-variants.{BadParameter}
+use Rattle.request.specs.Headers.{frontHeader}
 use Rattle.request.specs.declared.Header.{Header}
-use Rattle.request.specs.declared.Step.{Step}
-use Rattle.request.specs.declared.Step.the-variants.{Asked, ObjectUnknown, BadParameter}
+use Rattle.request.specs.declared.Front.{Front}
+use Rattle.request.specs.declared.Front.the-variants.{Asked, Faulty}
 
 abbrev pub headersMax : ℕ
 headersMax = 16
 
--- IIN2's octet of a fault: "2.1, object unknown; 2.2, bad parameter"
-abbrev pub objectUnknown : ℕ
-objectUnknown = 2
-
-abbrev pub badParameter : ℕ
-badParameter = 4
-
--- what is asked for, or the octet IIN2 of the fault; "A fault returns no objects"
+-- what is asked for, or the fault; "A fault returns no objects"
 pub data Parsed : Type 0 where
   headers : List Header → Parsed
-  fault : ℕ → Parsed
+  fault : Fault → Parsed
 
 -- one header more, in front
 abbrev pub also : Header → Parsed → Parsed
 also h (headers hs) = headers (h ∷ hs)
-also h (fault n) = fault n
+also h (fault f) = fault f
 
 -- by what the header at the front is
-abbrev pub byStep : Step → (Header → ℕ → Parsed) → Parsed
-byStep (Asked h n) f = f h n
-byStep ObjectUnknown f = fault objectUnknown
-byStep BadParameter f = fault badParameter
+abbrev pub byFront : Front → (Header → ℕ → Parsed) → Parsed
+byFront (Asked h n) more = more h n
+byFront (Faulty f) more = fault f
 
 -- "Left to right, the first fault decides", with k headers still allowed; "any byte after 16 headers 2.2"
 unfoldable pub headersOf : ℕ → ℕ → ℕ → List ℕ → Parsed
 headersOf nb na zero [] = headers []
-headersOf nb na zero (b ∷ bs) = fault badParameter
+headersOf nb na zero (b ∷ bs) = fault BadParameter
 headersOf nb na (suc k) [] = headers []
 headersOf nb na (suc k) (b ∷ bs) =
-    byStep (headerOf nb na (b ∷ bs)) (λ h n. also h (headersOf nb na k (drop n (b ∷ bs))))
+    byFront (frontHeader nb na (b ∷ bs)) (λ h n. also h (headersOf nb na k (drop n (b ∷ bs))))
 
 -- of the bytes after control and function, where there are nb binaries and na analogs
 abbrev pub parse : ℕ → ℕ → List ℕ → Parsed

@@ -1,10 +1,11 @@
 // A READ's object headers: what they ask for, or the first fault.
 ghost use mathlib.Core.Path.{_≡_};
-ghost use Prim.Native.Nat.{min, _≤_};
+ghost use Prim.Native.Nat.{_≤_};
 ghost use lib.ListN.{length};
-ghost use Rattle.request.specs.Headers.{objectOf, pointsFrom, rangeHeader, pointHeader, classHeader, headerOf};
+ghost use Rattle.request.specs.Headers.{objectOf, pointsFrom, rangeHeader, pointHeader, classHeader, frontHeader};
 ghost use Rattle.request.specs.Parse.{headersMax, parse};
 ghost use Rattle.request.specs.Plans.{plannedOf};
+use application::Fault;
 
 // A READ has at most so many object headers.
 pub const HEADERS_MAX: usize = 16;
@@ -27,22 +28,14 @@ pub enum Object {
 }
 
 // What stands at the front of the bytes: a header and its size, or its fault.
-pub enum Step {
+pub enum Front {
     Asked(Header, usize),
-    ObjectUnknown,
-    BadParameter,
+    Faulty(Fault),
 }
 
-// What all headers come to.
-pub enum Verdict {
-    Faultless,
-    ObjectUnknown,
-    BadParameter,
-}
-
-// The headers are the first `count` of the array, where the verdict is Faultless.
+// What a READ asks for: the headers are the first `count` of the array, where there is no fault.
 pub struct Plan {
-    pub verdict: Verdict,
+    pub fault: Fault,
     pub headers: [Header; HEADERS_MAX],
     pub count: usize,
 }
@@ -99,12 +92,12 @@ fn points_from(analog: bool, start: u16, n: u16) -> Header
     }
 }
 
-fn class_header(s: &[u8], binaries: u16, analogs: u16, class: u8) -> Step
+fn class_header(s: &[u8], binaries: u16, analogs: u16, class: u8) -> Front
     requires { ⌜ 3 ≤ length (now s) ⌝ }
     ensures { λ r. ⌜ r ≡ classHeader binaries analogs class (now (s .entry)) ⌝ }
 {
     if s[2] != 6 {
-        return Step::BadParameter;
+        return Front::Faulty(Fault::BadParameter);
     }
     if class == 0 {
         let h = Header {
@@ -114,7 +107,7 @@ fn class_header(s: &[u8], binaries: u16, analogs: u16, class: u8) -> Step
             analog: 0,
             analogs: analogs,
         };
-        return Step::Asked(h, 3);
+        return Front::Asked(h, 3);
     }
     let h = Header {
         class: class,
@@ -123,59 +116,59 @@ fn class_header(s: &[u8], binaries: u16, analogs: u16, class: u8) -> Step
         analog: 0,
         analogs: 0,
     };
-    Step::Asked(h, 3)
+    Front::Asked(h, 3)
 }
 
-fn range_header(analog: bool, n: u16, start: u16, stop: u16, size: usize) -> Step
+fn range_header(analog: bool, n: u16, start: u16, stop: u16, size: usize) -> Front
     ensures { λ r. ⌜ r ≡ rangeHeader analog n start stop size ⌝ }
 {
     if stop < start {
-        return Step::BadParameter;
+        return Front::Faulty(Fault::BadParameter);
     }
-    if stop < n {
-        let h = points_from(analog, start, stop - start + 1);
-        return Step::Asked(h, size);
+    if n <= stop {
+        return Front::Faulty(Fault::BadParameter);
     }
-    Step::BadParameter
+    let h = points_from(analog, start, stop - start + 1);
+    Front::Asked(h, size)
 }
 
-fn point_header(s: &[u8], analog: bool, n: u16) -> Step
+fn point_header(s: &[u8], analog: bool, n: u16) -> Front
     requires { ⌜ 3 ≤ length (now s) ⌝ }
     ensures { λ r. ⌜ r ≡ pointHeader analog n (now (s .entry)) ⌝ }
 {
     let q = s[2];
     if q == 6 {
         let h = points_from(analog, 0, n);
-        return Step::Asked(h, 3);
+        return Front::Asked(h, 3);
     }
     if q == 0 {
         if s.len() < 5 {
-            return Step::BadParameter;
+            return Front::Faulty(Fault::BadParameter);
         }
         return range_header(analog, n, s[3] as u16, s[4] as u16, 5);
     }
     if q == 1 {
         if s.len() < 7 {
-            return Step::BadParameter;
+            return Front::Faulty(Fault::BadParameter);
         }
         return range_header(analog, n, octets::take2(s, 3), octets::take2(s, 5), 7);
     }
-    Step::BadParameter
+    Front::Faulty(Fault::BadParameter)
 }
 
 // The header at the front of the bytes.
-fn front(s: &[u8], binaries: u16, analogs: u16) -> Step
-    ensures { λ r. ⌜ r ≡ headerOf binaries analogs (now (s .entry)) ⌝ }
+fn front_header(s: &[u8], binaries: u16, analogs: u16) -> Front
+    ensures { λ r. ⌜ r ≡ frontHeader binaries analogs (now (s .entry)) ⌝ }
 {
     if s.len() < 3 {
-        return Step::BadParameter;
+        return Front::Faulty(Fault::BadParameter);
     }
     let o = object_of(s[0], s[1]);
     match o {
         Object::Class(c) => class_header(s, binaries, analogs, c),
         Object::Binary => point_header(s, false, binaries),
         Object::Analog => point_header(s, true, analogs),
-        Object::Unknown => Step::ObjectUnknown,
+        Object::Unknown => Front::Faulty(Fault::ObjectUnknown),
     }
 }
 
@@ -190,28 +183,21 @@ pub fn headers(s: &[u8], binaries: u16, analogs: u16) -> Plan
     while at < s.len() {
         if n == HEADERS_MAX {
             return Plan {
-                verdict: Verdict::BadParameter,
+                fault: Fault::BadParameter,
                 headers: list,
                 count: 0,
             };
         }
-        let step = front(&s[at..], binaries, analogs);
-        match step {
-            Step::Asked(h, size) => {
+        let next = front_header(&s[at..], binaries, analogs);
+        match next {
+            Front::Asked(h, size) => {
                 list[n] = h;
                 n += 1;
                 at += size;
             }
-            Step::ObjectUnknown => {
+            Front::Faulty(f) => {
                 return Plan {
-                    verdict: Verdict::ObjectUnknown,
-                    headers: list,
-                    count: 0,
-                };
-            }
-            Step::BadParameter => {
-                return Plan {
-                    verdict: Verdict::BadParameter,
+                    fault: f,
                     headers: list,
                     count: 0,
                 };
@@ -219,19 +205,8 @@ pub fn headers(s: &[u8], binaries: u16, analogs: u16) -> Plan
         }
     }
     Plan {
-        verdict: Verdict::Faultless,
+        fault: Fault::Faultless,
         headers: list,
         count: n,
-    }
-}
-
-// How many headers the plan has.
-pub fn filled(count: usize) -> usize
-    ensures { λ r. ⌜ r ≡ min count headersMax ⌝ }
-{
-    if count < HEADERS_MAX {
-        count
-    } else {
-        HEADERS_MAX
     }
 }

@@ -5,37 +5,34 @@ use mathlib.Core.Bool.{Bool, true, false, cond}
 use mathlib.Core.List.{List, [], _∷_, _++_}
 use Prim.Native.Nat.{ℕ, _+_, _*_, _≤_, _<_}
 use native.Mathlib.Omega.{arith}
-use borrow.Author.Tests.{lt-ltb, le-ltb}
 use lib.Dec.{ltb}
 use lib.ListN.{length, take, getD, length-append, length-take, drop-of-length-le}
 use lib.Seq.{slice}
+use Rattle.laws.specs.Limits.{fragmentMax}
 use Rattle.laws.proofs.Loops.{front}
 use Rattle.octets.specs.Bytes.{splice}
 use Rattle.octets.proofs.Splice.{splice-append, splice-nil, length-splice}
 use Rattle.points.specs.Inputs.{Inputs}
+use Rattle.application.specs.declared.Fault.{Fault}
+use Rattle.application.specs.declared.Fault.the-variants.{Faultless, FunctionUnknown, ObjectUnknown, BadParameter}
+use Rattle.application.specs.Response.{isFaultless}
 use Rattle.request.specs.declared.Header.{Header}
 use Rattle.request.specs.declared.Plan.{Plan}
-use Rattle.request.specs.declared.Verdict.{Verdict}
-use Rattle.request.specs.declared.Verdict.the-variants.{Faultless, ObjectUnknown, BadParameter}
-use Rattle.request.specs.Parse.{Parsed, headers, fault, objectUnknown, badParameter, parse}
+use Rattle.request.specs.Parse.{Parsed, headers, fault, parse}
 use Rattle.request.specs.Plans.{planned, plannedOf}
 use Rattle.request.proofs.AskLaws.{noHeader}
 use Rattle.static_objects.specs.Static.{rangeBytes, headerBytes, staticBytes, sized, fittedOf}
 
--- ---- a plan by its verdict
+-- ---- a plan by its fault
 
 module _ (q : Plan) where
-  pub plan-headers : q .verdict ≡ Faultless → plannedOf q ≡ headers (take (q .count) (q .headers))
+  pub plan-headers : isFaultless (q .fault) ≡ true → plannedOf q ≡ headers (take (q .count) (q .headers))
   unfolding plannedOf
   plan-headers h = rw h
 
-  pub plan-object : q .verdict ≡ ObjectUnknown → plannedOf q ≡ fault objectUnknown
+  pub plan-fault : isFaultless (q .fault) ≡ false → plannedOf q ≡ fault (q .fault)
   unfolding plannedOf
-  plan-object h = rw h
-
-  pub plan-parameter : q .verdict ≡ BadParameter → plannedOf q ≡ fault badParameter
-  unfolding plannedOf
-  plan-parameter h = rw h
+  plan-fault h = rw h
 
 module _ (i : Inputs) where
   static-nil : staticBytes i [] ≡ []
@@ -134,27 +131,21 @@ module _ (i : Inputs) where
 
   -- ---- "then static part plus 4 above 2,048, 2.2"
 
-  by-size : (hs : List Header) (b : Bool) → planned (cond b BadParameter Faultless) hs ≡ cond b (fault badParameter) (headers hs)
+  by-size : (hs : List Header) (b : Bool) → planned (cond b BadParameter Faultless) hs ≡ cond b (fault BadParameter) (headers hs)
   by-size hs true = refl
   by-size hs false = refl
 
-  by-verdict : (hs : List Header) (size : ℕ) → size ≡ length (staticBytes i hs) → (v : Verdict) → planned (fittedOf v size) hs ≡ sized i (planned v hs)
-  by-verdict hs size l Faultless = by-size hs (ltb 2048 (size + 4)) ∙ ap (λ (n : ℕ). cond (ltb 2048 (n + 4)) (fault badParameter) (headers hs)) l
-  by-verdict hs size l ObjectUnknown = refl
-  by-verdict hs size l BadParameter = refl
+  by-fault : (hs : List Header) (size : ℕ) → size ≡ length (staticBytes i hs) → (f : Fault) → planned (fittedOf f size) hs ≡ sized i (planned f hs)
+  by-fault hs size l Faultless = by-size hs (ltb fragmentMax (size + 4)) ∙ ap (λ (n : ℕ). cond (ltb fragmentMax (n + 4)) (fault BadParameter) (headers hs)) l
+  by-fault hs size l FunctionUnknown = refl
+  by-fault hs size l ObjectUnknown = refl
+  by-fault hs size l BadParameter = refl
 
-  pub fitted-plan : (q : Plan) (v : Verdict) (size : ℕ) → v ≡ fittedOf (q .verdict) size → size ≡ length (staticBytes i (take (q .count) (q .headers)))
-      → plannedOf (record { verdict = v; headers = q .headers; count = q .count }) ≡ sized i (plannedOf q)
+  pub fitted-plan : (q : Plan) (f : Fault) (size : ℕ) → f ≡ fittedOf (q .fault) size → size ≡ length (staticBytes i (take (q .count) (q .headers)))
+      → plannedOf (record { fault = f; headers = q .headers; count = q .count }) ≡ sized i (plannedOf q)
   unfolding plannedOf
-  fitted-plan q v size e l =
-      ap (λ (x : Verdict). planned x (take (q .count) (q .headers))) e ∙ by-verdict (take (q .count) (q .headers)) size l (q .verdict)
-
-module _ (v : Verdict) (size : ℕ) where
-  pub fitted-long : v ≡ Faultless → 2048 < size + 4 → BadParameter ≡ fittedOf v size
-  fitted-long e h = rw (e, lt-ltb 2048 (size + 4) h)
-
-  pub fitted-short : v ≡ Faultless → size + 4 ≤ 2048 → Faultless ≡ fittedOf v size
-  fitted-short e h = rw (e, le-ltb 2048 (size + 4) h)
+  fitted-plan q f size e l =
+      ap (λ (x : Fault). planned x (take (q .count) (q .headers))) e ∙ by-fault (take (q .count) (q .headers)) size l (q .fault)
 
 -- the counts of the code are those of the inputs
 pub parsed-as : (p : Plan) (s : List ℕ) (nb na mb ma : ℕ) → plannedOf p ≡ parse nb na s → nb ≡ mb → na ≡ ma → plannedOf p ≡ parse mb ma s

@@ -2,20 +2,23 @@
 -- headers".
 -- Assumes nothing.
 use Prim.Native.Nat.{ℕ, zero, suc, _+_, _-_}
-use mathlib.Core.Bool.{Bool, true, false, cond}
+use mathlib.Core.Bool.{Bool, true, false, cond, _&&_}
 use mathlib.Core.List.{List, [], _∷_, _++_}
 use lib.Dec.{ltb}
 use lib.ListN.{length, getD}
+use Rattle.laws.specs.First.{first, _⇒_}
+use Rattle.laws.specs.Limits.{fragmentMax}
 use Rattle.octets.specs.Bytes.{le}
 use Rattle.points.specs.Inputs.{Inputs, noBinary, noAnalog}
 use Rattle.points.specs.declared.Value.{Value}
 use Rattle.points.specs.declared.Value.the-variants.{Long, Short, Real}
 use Rattle.objects.specs.Values.{valueBytes, stateByte}
 use Rattle.objects.specs.Runs.{Object, Heading, encoded}
+use Rattle.application.specs.declared.Fault.{Fault}
+use Rattle.application.specs.declared.Fault.the-variants.{BadParameter}
+use Rattle.application.specs.Response.{isFaultless}
 use Rattle.request.specs.declared.Header.{Header}
-use Rattle.request.specs.declared.Verdict.{Verdict}
-use Rattle.request.specs.declared.Verdict.the-variants.{Faultless, ObjectUnknown, BadParameter}
-use Rattle.request.specs.Parse.{Parsed, headers, fault, badParameter, parse}
+use Rattle.request.specs.Parse.{Parsed, headers, fault, parse}
 use Rattle.static_objects.specs.declared.Shown.{Shown}
 use Rattle.static_objects.specs.declared.Shown.the-variants.{Binary, Analog}
 
@@ -69,14 +72,12 @@ staticBytes i (h ∷ hs) = headerBytes i h ++ staticBytes i hs
 
 -- "then static part plus 4 above 2,048, 2.2"
 abbrev pub sized : Inputs → Parsed → Parsed
-sized i (headers hs) = cond (ltb 2048 (length (staticBytes i hs) + 4)) (fault badParameter) (headers hs)
-sized i (fault n) = fault n
+sized i (headers hs) = first (ltb fragmentMax (length (staticBytes i hs) + 4) ⇒ fault BadParameter ∷ []) (headers hs)
+sized i (fault f) = fault f
 
--- the same of a verdict, where the static part has so many bytes
-abbrev pub fittedOf : Verdict → ℕ → Verdict
-fittedOf Faultless size = cond (ltb 2048 (size + 4)) BadParameter Faultless
-fittedOf ObjectUnknown size = ObjectUnknown
-fittedOf BadParameter size = BadParameter
+-- the same of a fault, where the static part has so many bytes
+abbrev pub fittedOf : Fault → ℕ → Fault
+fittedOf f size = first ((isFaultless f && ltb fragmentMax (size + 4)) ⇒ BadParameter ∷ []) f
 
 -- what a READ asks for, or its fault, of the bytes after control and function
 abbrev pub readOf : Inputs → List ℕ → Parsed

@@ -26,13 +26,15 @@ ghost use Rattle.static_objects.specs.Static.{
   readOf,
 };
 ghost use Rattle.static_objects.specs.Alone.{binariesAlone, analogsAlone};
+use application::FRAGMENT_MAX;
+use application::Fault;
 use point_store::ANALOG_WORDS;
 use point_store::BINARY_WORDS;
 use point_store::Installed;
 use points::Value;
+use request::HEADERS_MAX;
 use request::Header;
 use request::Plan;
-use request::Verdict;
 
 // What a point shows: a binary's flags with its state, or an analog's flags and value.
 enum Shown {
@@ -338,7 +340,7 @@ fn static_size(plan: Plan, analogs: &[u32; ANALOG_WORDS], n: Installed) -> usize
         ((b : List ℕ) → r ≡ length (staticBytes (inputsIn n b (now (analogs .entry))) (take (plan .count) (plan .headers))))
         × (r ≤ 25600000) ⌝ }
 {
-    let stop = request::filled(plan.count);
+    let stop = octets::least(plan.count, HEADERS_MAX);
     let mut total: usize = 0;
     let mut i: usize = 0;
     while i < stop {
@@ -363,7 +365,7 @@ pub fn put_static(
         (r ≡ at + length (staticBytes (inputsIn n (now (binaries .entry)) (now (analogs .entry))) (take (plan .count) (plan .headers))))
         × (now (out .exit) ≡ splice (now (out .entry)) at (staticBytes (inputsIn n (now (binaries .entry)) (now (analogs .entry))) (take (plan .count) (plan .headers)))) ⌝ }
 {
-    let stop = request::filled(plan.count);
+    let stop = octets::least(plan.count, HEADERS_MAX);
     let mut to = at;
     let mut i: usize = 0;
     while i < stop {
@@ -374,22 +376,17 @@ pub fn put_static(
     to
 }
 
-// The verdict of a READ whose static part has so many bytes: one that is too long is a fault.
-fn fitted(v: Verdict, size: usize) -> Verdict
+// The fault of a READ whose static part has so many bytes: one that is too long is a fault.
+fn fitted(f: Fault, size: usize) -> Fault
     requires { ⌜ size ≤ 25600000 ⌝ }
-    ensures { λ r. ⌜ r ≡ fittedOf v size ⌝ }
+    ensures { λ r. ⌜ r ≡ fittedOf f size ⌝ }
 {
-    match v {
-        Verdict::Faultless => {
-            if 2048 < size + 4 {
-                Verdict::BadParameter
-            } else {
-                Verdict::Faultless
-            }
+    if application::is_faultless(f) {
+        if FRAGMENT_MAX < size + 4 {
+            return Fault::BadParameter;
         }
-        Verdict::ObjectUnknown => Verdict::ObjectUnknown,
-        Verdict::BadParameter => Verdict::BadParameter,
     }
+    f
 }
 
 // What a READ asks for, or its fault, of the bytes after control and function.
@@ -403,11 +400,11 @@ pub fn asked(s: &[u8], analogs: &[u32; ANALOG_WORDS], n: Installed) -> SizedPlan
     let analog_count = points::installed(n.analogs) as u16;
     let plan = request::headers(s, binary_count, analog_count);
     let size = static_size(plan, analogs, n);
-    let v = plan.verdict;
-    let verdict = fitted(v, size);
+    let f = plan.fault;
+    let fault = fitted(f, size);
     let headers = plan.headers;
     let sized = Plan {
-        verdict: verdict,
+        fault: fault,
         headers: headers,
         count: plan.count,
     };

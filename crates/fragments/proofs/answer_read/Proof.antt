@@ -31,8 +31,8 @@ respond-requires c κs = search needs
 any-carried-requires : tie.Need-any-carried-requires
 any-carried-requires c κs = search needs
 
-read-said-requires : tie.Need-read-said-requires
-read-said-requires c κs = search needs
+con-by-requires : tie.Need-con-by-requires
+con-by-requires c κs = search needs
 
 truth-requires : tie.Need-truth-requires
 truth-requires c κs = search needs
@@ -62,13 +62,13 @@ returns c =
     let a = s .args in
     let re = c .before .before .before .before .before .before .before .before .before .before .before .before .before .before .before .before .before .respond in
     let t = c .before .before .before .before .before .before .before .before .before .before .before .before .before .before .before .before .before .before .before .before .before .status-of in
-    let rs = c .before .before .before .before .before .before .before .before .before .before .before .before .read-said in
+    let rs = c .before .before .before .before .before .before .before .before .before .before .before .before .con-by in
     let g =
     subst (λ (x : List ℕ). RepliedAs (inputsIn (installedOf (a .h)) (a .binaries .now) (a .analogs .now)) x (queueIn (a .held .now) (t .result)) (a .out .now) (re .result) (queueIn (re .last .1 .1 .1 .1 .1 .0) (t .result)) (re .last .0))
     (to-end (a .f .now) 2) (re .ensures) in
-    read-in (a .h) (a .binaries .now) (a .analogs .now) (a .held .now) (a .request .now) (a .answer .now) (a .q .0) (a .time) (a .f .now) _ _ _ (re .result) (a .out .now) _ _ _ _ _
+    read-in (a .h) (a .binaries .now) (a .analogs .now) (a .held .now) (a .request .now) (a .answer .now) (a .q .0) (a .time) (a .f .now) _ _ _ (re .result) (a .out .now) _ _ _ _
     (c .before .before .remember .result) (c .before .after-read .result) (c .none .result) (c .none .ensures) (c .before .after-read .ensures) (c .before .before .remember .ensures)
-    (s .pre .1) (s .pre .2) (rs .ensures .0) (t .result) _ (t .ensures) (c .before .before .before .before .before .before .before .before .before .truth .ensures) g (rs .ensures .1) (c .before .before .before .before .before .before .before .before .before .before .before .before .before .any-carried .ensures)
+    (s .pre .1) (s .pre .2) (t .result) _ (t .ensures) (c .before .before .before .before .before .before .before .before .before .truth .ensures) g (rs .ensures) (c .before .before .before .before .before .before .before .before .before .before .before .before .before .any-carried .ensures)
     (c .before .before .before .before .before .before .before .before .put-header .ensures)
 
 pub answer-read-spec : {M : Type 1} → statement M
@@ -81,7 +81,7 @@ answer-read-spec =
     part-respond-end
     respond-requires
     any-carried-requires
-    read-said-requires
+    con-by-requires
     truth-requires
     put-header-requires
     slice-aggregate-remember

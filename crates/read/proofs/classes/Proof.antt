@@ -8,7 +8,7 @@ use lib.Dec.{eqb}
 use lib.ListN.{length}
 use Rattle.laws.proofs.Loops.{long}
 use Rattle.events.proofs.SeenLaws.{Noting, noting-start, noting-more, noted}
-use Rattle.request.specs.Parse.{asksFor}
+use Rattle.request.specs.Parse.{headersMax, asksFor}
 use Rattle.request.specs.declared.Header.{Header}
 use Rattle.request.proofs.AskLaws.{noHeader, in-plan}
 use borrow.Author.Needs.{needs}
@@ -24,14 +24,14 @@ Inv-loop plan n one₀ two₀ three₀ i₀ one two three i = (Noting (of 1) (pl
 abbrev μ-loop : tie.MeasureT-loop
 μ-loop plan n one₀ two₀ three₀ i₀ one two three i = n - i
 
-filled-requires : tie.Need-filled-requires Inv-loop μ-loop
-filled-requires c κs = search needs
+least-requires : tie.Need-least-requires Inv-loop μ-loop
+least-requires c κs = search needs
 
 loop-holds : tie.Need-loop-holds Inv-loop μ-loop
 loop-holds c =
     let a = c .before .args in
-    let h : length (a .t1 .headers) ≡ 16 = search (long, needs) in
-    let fits : c .filled .result ≤ length (a .t1 .headers) = omega (arith, h, c .filled .ensures) in
+    let h : length (a .t1 .headers) ≡ headersMax = search (long, needs) in
+    let fits : c .least .result ≤ length (a .t1 .headers) = omega (arith, h, c .least .ensures) in
     (noting-start _ _ _ fits, noting-start _ _ _ fits, noting-start _ _ _ fits)
 
 mul-h : tie.Need-mul-h Inv-loop μ-loop
@@ -68,8 +68,8 @@ returns : tie.Need-returns Inv-loop μ-loop
 unfolding asksFor
 returns c =
     let a = c .before .before .before .args in
-    let h : length (a .t1 .headers) ≡ 16 = search (long, needs) in
-    let all = in-plan (a .t1) _ (c .before .before .filled .ensures) h in
+    let h : length (a .t1 .headers) ≡ headersMax = search (long, needs) in
+    let all = in-plan (a .t1) _ (c .before .before .least .ensures) h in
     let at = c .before .loop .inv in
     let over = c .loop-test .left in
     λ k.
@@ -85,7 +85,7 @@ classes-spec =
     (tie.spec
     Inv-loop
     μ-loop
-    filled-requires
+    least-requires
     loop-holds
     mul-h
     element-copy-out-h

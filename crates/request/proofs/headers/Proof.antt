@@ -4,7 +4,7 @@ use mathlib.Core.Path.{refl, sym, _∙_}
 use Prim.Native.Nat.{_-_}
 use native.Mathlib.Omega.{arith}
 use Rattle.request.specs.Plans.{plannedOf}
-use Rattle.request.proofs.ParseLaws.{Reading, begun, over, unknown, bad, asked, all, asked-small}
+use Rattle.request.proofs.ParseLaws.{Reading, begun, over, faulty, asked, all, asked-small}
 use borrow.Author.Needs.{needs}
 use Rattle.request.proofs.headers.Statement.{statement}
 use Rattle.request.proofs.headers.Tie as tie
@@ -25,20 +25,20 @@ returns : tie.Need-returns Inv-loop μ-loop
 unfolding plannedOf
 returns c = (over _ _ _ _ _ _ (c .before .before .loop .inv) (c .if1 .taken) (c .before .loop-test .taken), omega arith)
 
-sub-front : tie.Need-sub-front Inv-loop μ-loop
-sub-front c = search needs
+sub-front-header : tie.Need-sub-front-header Inv-loop μ-loop
+sub-front-header c = search needs
 
-part-front-start : tie.Need-part-front-start Inv-loop μ-loop
-part-front-start c = search needs
+part-front-header-start : tie.Need-part-front-header-start Inv-loop μ-loop
+part-front-header-start c = search needs
 
-part-front-end : tie.Need-part-front-end Inv-loop μ-loop
-part-front-end c = search needs
+part-front-header-end : tie.Need-part-front-header-end Inv-loop μ-loop
+part-front-header-end c = search needs
 
-front-requires : tie.Need-front-requires Inv-loop μ-loop
-front-requires c κs = search needs
+front-header-requires : tie.Need-front-header-requires Inv-loop μ-loop
+front-header-requires c κs = search needs
 
-enum-known-step : tie.Need-enum-known-step Inv-loop μ-loop
-enum-known-step c = search needs
+enum-known-next : tie.Need-enum-known-next Inv-loop μ-loop
+enum-known-next c = search needs
 
 mul-list : tie.Need-mul-list Inv-loop μ-loop
 mul-list c = search needs
@@ -51,32 +51,25 @@ add-n c = search needs
 
 add-at : tie.Need-add-at Inv-loop μ-loop
 add-at c =
-    let h = asked-small _ _ _ _ _ (sym (c .before .before .before .front .ensures) ∙ c .before .step .given .1) in
+    let h = asked-small _ _ _ _ _ (sym (c .before .before .before .front-header .ensures) ∙ c .before .next .given .1) in
     omega (arith, h)
 
 loop-less : tie.Need-loop-less Inv-loop μ-loop
 loop-less c = search needs
 
 loop-again : tie.Need-loop-again Inv-loop μ-loop
-loop-again c = asked _ _ _ _ _ _ (c .before .before .before .before .before .before .before .loop .inv) (c .before .before .before .before .before .if1 .left) (c .before .before .before .before .before .before .loop-test .taken) _ _ (sym (c .before .before .before .front .ensures) ∙ c .before .step .given .1)
+loop-again c = asked _ _ _ _ _ _ (c .before .before .before .before .before .before .before .loop .inv) (c .before .before .before .before .before .if1 .left) (c .before .before .before .before .before .before .loop-test .taken) _ _ (sym (c .before .before .before .front-header .ensures) ∙ c .before .next .given .1)
 
 enum-told : tie.Need-enum-told Inv-loop μ-loop
 enum-told c = search needs
 
 returns-2 : tie.Need-returns-2 Inv-loop μ-loop
 unfolding plannedOf
-returns-2 c = (unknown _ _ _ _ _ _ (c .before .before .before .before .before .before .loop .inv) (c .before .before .before .before .if1 .left) (c .before .before .before .before .before .loop-test .taken) (sym (c .before .before .front .ensures) ∙ c .enum-told .given .1), omega arith)
-
-enum-told-2 : tie.Need-enum-told-2 Inv-loop μ-loop
-enum-told-2 c = search needs
+returns-2 c = (faulty _ _ _ _ _ _ (c .before .before .before .before .before .before .loop .inv) (c .before .before .before .before .if1 .left) (c .before .before .before .before .before .loop-test .taken) _ _ (sym (c .before .before .front-header .ensures) ∙ c .enum-told .given .1), omega arith)
 
 returns-3 : tie.Need-returns-3 Inv-loop μ-loop
 unfolding plannedOf
-returns-3 c = (bad _ _ _ _ _ _ (c .before .before .before .before .before .before .loop .inv) (c .before .before .before .before .if1 .left) (c .before .before .before .before .before .loop-test .taken) (sym (c .before .before .front .ensures) ∙ c .enum-told2 .given .1), omega arith)
-
-returns-4 : tie.Need-returns-4 Inv-loop μ-loop
-unfolding plannedOf
-returns-4 c = (all _ _ _ _ _ _ (c .before .loop .inv) (c .loop-test .left), c .before .loop .inv .few)
+returns-3 c = (all _ _ _ _ _ _ (c .before .loop .inv) (c .loop-test .left), c .before .loop .inv .few)
 
 pub headers-spec : {M : Type 1} → statement M
 headers-spec =
@@ -87,11 +80,11 @@ headers-spec =
     points-from-requires
     loop-holds
     returns
-    sub-front
-    part-front-start
-    part-front-end
-    front-requires
-    enum-known-step
+    sub-front-header
+    part-front-header-start
+    part-front-header-end
+    front-header-requires
+    enum-known-next
     mul-list
     array-set-from-list
     add-n
@@ -100,6 +93,4 @@ headers-spec =
     loop-again
     enum-told
     returns-2
-    enum-told-2
-    returns-3
-    returns-4)
+    returns-3)

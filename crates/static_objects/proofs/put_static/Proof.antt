@@ -8,6 +8,7 @@ use mathlib.Core.List.{List}
 use lib.ListN.{length, take}
 use Rattle.laws.proofs.Loops.{long}
 use Rattle.octets.specs.Bytes.{splice}
+use Rattle.request.specs.Parse.{headersMax}
 use Rattle.request.specs.declared.Header.{Header}
 use Rattle.request.proofs.AskLaws.{in-plan}
 use Rattle.static_objects.specs.Static.{staticBytes}
@@ -23,18 +24,18 @@ abbrev μ-loop : tie.MeasureT-loop
 μ-loop out₀ at binaries analogs n plan stop to₀ i₀ out to i = stop - i
 
 -- the plan's array of headers
-slots : (c : tie.Start Inv-loop μ-loop) → length (c .args .t3 .headers) ≡ 16
+slots : (c : tie.Start Inv-loop μ-loop) → length (c .args .t3 .headers) ≡ headersMax
 slots c = search (long, needs)
 
-filled-requires : tie.Need-filled-requires Inv-loop μ-loop
-filled-requires c κs = search needs
+least-requires : tie.Need-least-requires Inv-loop μ-loop
+least-requires c κs = search needs
 
 loop-holds : tie.Need-loop-holds Inv-loop μ-loop
 loop-holds c =
     let a = c .before .before .args in
-    let e : take (c .filled .result) (a .t3 .headers) ≡ take (a .t3 .count) (a .t3 .headers) = in-plan (a .t3) (c .filled .result) (c .filled .ensures) (slots (c .before .before)) in
+    let e : take (c .least .result) (a .t3 .headers) ≡ take (a .t3 .count) (a .t3 .headers) = in-plan (a .t3) (c .least .result) (c .least .ensures) (slots (c .before .before)) in
     let i = inputsIn (a .n) (a .binaries .now) (a .analogs .now) in
-    let f : a .at + length (staticBytes i (take (c .filled .result) (a .t3 .headers))) ≤ length (a .out .now) = rw e (c .before .before .pre) in
+    let f : a .at + length (staticBytes i (take (c .least .result) (a .t3 .headers))) ≤ length (a .out .now) = rw e (c .before .before .pre) in
     record { ahead = refl; long = refl; room = refl; fits = f }
 
 mul-h : tie.Need-mul-h Inv-loop μ-loop
@@ -46,7 +47,7 @@ element-copy-out-h c = search needs
 put-header-requires : tie.Need-put-header-requires Inv-loop μ-loop
 put-header-requires c κs =
     let l = c .before .before in
-    room-for _ _ _ _ _ _ _ _ (l .before .loop .inv) (l .loop-test .taken) (omega (arith, slots (l .before .before .before .before), l .before .before .filled .ensures))
+    room-for _ _ _ _ _ _ _ _ (l .before .loop .inv) (l .loop-test .taken) (omega (arith, slots (l .before .before .before .before), l .before .before .least .ensures))
 
 add-i : tie.Need-add-i Inv-loop μ-loop
 add-i c = search needs
@@ -58,7 +59,7 @@ loop-again : tie.Need-loop-again Inv-loop μ-loop
 loop-again c =
     let l = c .before .before .before .before .before in
     let put = c .before .before .put-header in
-    put-more _ _ _ _ _ _ _ _ (l .before .loop .inv) (l .loop-test .taken) (omega (arith, slots (l .before .before .before .before), l .before .before .filled .ensures)) _ _ (put .ensures .0) (put .ensures .1)
+    put-more _ _ _ _ _ _ _ _ (l .before .loop .inv) (l .loop-test .taken) (omega (arith, slots (l .before .before .before .before), l .before .before .least .ensures)) _ _ (put .ensures .0) (put .ensures .1)
 
 same-length : tie.Need-same-length Inv-loop μ-loop
 same-length c = c .before .loop .inv .long
@@ -67,7 +68,7 @@ returns : tie.Need-returns Inv-loop μ-loop
 returns c =
     let a = c .before .before .before .before .args in
     let i = inputsIn (a .n) (a .binaries .now) (a .analogs .now) in
-    let e = in-plan (a .t3) (c .before .before .filled .result) (c .before .before .filled .ensures) (slots (c .before .before .before .before)) in
+    let e = in-plan (a .t3) (c .before .before .least .result) (c .before .before .least .ensures) (slots (c .before .before .before .before)) in
     let w = written _ _ _ _ _ _ _ _ (c .before .loop .inv) (c .loop-test .left) in (
       w .0 ∙ ap (λ (l : List Header). a .at + length (staticBytes i l)) e,
       w .1 ∙ ap (λ (l : List Header). splice (a .out .now) (a .at) (staticBytes i l)) e,
@@ -79,7 +80,7 @@ put-static-spec =
     (tie.spec
     Inv-loop
     μ-loop
-    filled-requires
+    least-requires
     loop-holds
     mul-h
     element-copy-out-h

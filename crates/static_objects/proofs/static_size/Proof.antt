@@ -7,6 +7,7 @@ use mathlib.Core.List.{List, []}
 use native.Mathlib.Omega.{arith}
 use lib.ListN.{length}
 use Rattle.laws.proofs.Loops.{long}
+use Rattle.request.specs.Parse.{headersMax}
 use Rattle.request.specs.declared.Header.{Header}
 use Rattle.request.proofs.AskLaws.{in-plan}
 use Rattle.static_objects.specs.Static.{staticBytes}
@@ -22,11 +23,11 @@ abbrev μ-loop : tie.MeasureT-loop
 μ-loop analogs n plan stop total₀ i₀ total i = stop - i
 
 -- the plan's array of headers
-slots : (c : tie.Start Inv-loop μ-loop) → length (c .args .t1 .headers) ≡ 16
+slots : (c : tie.Start Inv-loop μ-loop) → length (c .args .t1 .headers) ≡ headersMax
 slots c = search (long, needs)
 
-filled-requires : tie.Need-filled-requires Inv-loop μ-loop
-filled-requires c κs = search needs
+least-requires : tie.Need-least-requires Inv-loop μ-loop
+least-requires c κs = search needs
 
 loop-holds : tie.Need-loop-holds Inv-loop μ-loop
 loop-holds c = λ b. record { ahead = omega arith; small = omega arith; read = omega arith }
@@ -43,7 +44,7 @@ header-size-requires c κs = search needs
 add-total : tie.Need-add-total Inv-loop μ-loop
 add-total c =
     let g = c .before .before .before .loop .inv [] in
-    omega (arith, g .small, g .read, c .before .before .before .before .filled .ensures, c .header-size .ensures .1)
+    omega (arith, g .small, g .read, c .before .before .before .before .least .ensures, c .header-size .ensures .1)
 
 add-i : tie.Need-add-i Inv-loop μ-loop
 add-i c = search needs
@@ -54,7 +55,7 @@ loop-less c = search needs
 loop-again : tie.Need-loop-again Inv-loop μ-loop
 loop-again c =
     λ b.
-    sum-more _ _ _ _ _ (c .before .before .before .loop .inv b) (c .before .before .loop-test .taken) (omega (arith, slots (c .before .before .before .before .before), c .before .before .before .before .filled .ensures)) _ (c .header-size .ensures .0 b) (c .header-size .ensures .1)
+    sum-more _ _ _ _ _ (c .before .before .before .loop .inv b) (c .before .before .loop-test .taken) (omega (arith, slots (c .before .before .before .before .before), c .before .before .before .before .least .ensures)) _ (c .header-size .ensures .0 b) (c .header-size .ensures .1)
 
 returns : tie.Need-returns Inv-loop μ-loop
 returns c =
@@ -62,8 +63,8 @@ returns c =
     let g = c .before .loop .inv in (
       λ b.
           summed _ _ _ _ _ (g b) (c .loop-test .left)
-          ∙ ap (λ (l : List Header). length (staticBytes (inputsIn (a .n) b (a .analogs .now)) l)) (in-plan (a .t1) _ (c .before .before .filled .ensures) (slots (c .before .before .before))),
-      omega (arith, g [] .small, g [] .read, c .before .before .filled .ensures),
+          ∙ ap (λ (l : List Header). length (staticBytes (inputsIn (a .n) b (a .analogs .now)) l)) (in-plan (a .t1) _ (c .before .before .least .ensures) (slots (c .before .before .before))),
+      omega (arith, g [] .small, g [] .read, c .before .before .least .ensures),
     )
 
 pub static-size-spec : {M : Type 1} → statement M
@@ -72,7 +73,7 @@ static-size-spec =
     (tie.spec
     Inv-loop
     μ-loop
-    filled-requires
+    least-requires
     loop-holds
     mul-h
     element-copy-out-h

@@ -1,14 +1,14 @@
--- `request::front` meets its contract.
+-- `request::front_header` meets its contract.
 -- Assumes nothing.
 use borrow.Author.Tests.{lt-ltb, le-ltb}
 use mathlib.Core.Path.{sym, _∙_}
-use Rattle.request.specs.Headers.{headerOf}
+use Rattle.request.specs.Headers.{frontHeader}
 use borrow.Author.Needs.{needs}
-use Rattle.request.proofs.front.Statement.{statement}
-use Rattle.request.proofs.front.Tie as tie
+use Rattle.request.proofs.front_header.Statement.{statement}
+use Rattle.request.proofs.front_header.Tie as tie
 
 returns : tie.Need-returns
-unfolding headerOf
+unfolding frontHeader
 returns c = rw (lt-ltb _ _ (c .if1 .taken))
 
 shared-slice-read-object-of : tie.Need-shared-slice-read-object-of
@@ -42,23 +42,23 @@ enum-told-3 : tie.Need-enum-told-3
 enum-told-3 c = search needs
 
 returns-2 : tie.Need-returns-2
-unfolding headerOf
+unfolding frontHeader
 returns-2 c = rw (le-ltb _ _ (c .before .before .before .before .before .before .before .if1 .left), sym (c .before .before .before .before .object-of .ensures) ∙ c .before .before .o .given .1) (c .class-header .ensures)
 
 returns-3 : tie.Need-returns-3
-unfolding headerOf
+unfolding frontHeader
 returns-3 c = rw (le-ltb _ _ (c .before .before .before .before .before .before .if1 .left), sym (c .before .before .before .object-of .ensures) ∙ c .before .enum-told .given .1) (c .point-header .ensures)
 
 returns-4 : tie.Need-returns-4
-unfolding headerOf
+unfolding frontHeader
 returns-4 c = rw (le-ltb _ _ (c .before .before .before .before .before .before .if1 .left), sym (c .before .before .before .object-of .ensures) ∙ c .before .enum-told2 .given .1) (c .point-header2 .ensures)
 
 returns-5 : tie.Need-returns-5
-unfolding headerOf
+unfolding frontHeader
 returns-5 c = rw (le-ltb _ _ (c .before .before .before .before .before .if1 .left), sym (c .before .before .object-of .ensures) ∙ c .enum-told3 .given .1)
 
-pub front-spec : {M : Type 1} → statement M
-front-spec =
+pub front-header-spec : {M : Type 1} → statement M
+front-header-spec =
     tie.close
     (tie.spec
     returns
