@@ -60,12 +60,12 @@ loop-less c = search needs
 loop-again : tie.Need-loop-again Inv-loop μ-loop
 loop-again c = asked _ _ _ _ _ _ (c .before .before .before .before .before .before .before .loop .inv) (c .before .before .before .before .before .if1 .left) (c .before .before .before .before .before .before .loop-test .taken) _ _ (sym (c .before .before .before .front-header .ensures) ∙ c .before .next .given .1)
 
-enum-told : tie.Need-enum-told Inv-loop μ-loop
-enum-told c = search needs
+enum-known-next-2 : tie.Need-enum-known-next-2 Inv-loop μ-loop
+enum-known-next-2 c = search needs
 
 returns-2 : tie.Need-returns-2 Inv-loop μ-loop
 unfolding plannedOf
-returns-2 c = (faulty _ _ _ _ _ _ (c .before .before .before .before .before .before .loop .inv) (c .before .before .before .before .if1 .left) (c .before .before .before .before .before .loop-test .taken) _ _ (sym (c .before .before .front-header .ensures) ∙ c .enum-told .given .1), omega arith)
+returns-2 c = (faulty _ _ _ _ _ _ (c .before .before .before .before .before .before .before .loop .inv) (c .before .before .before .before .before .if1 .left) (c .before .before .before .before .before .before .loop-test .taken) _ _ (sym (c .before .before .before .front-header .ensures) ∙ c .before .next2 .given .1), omega arith)
 
 returns-3 : tie.Need-returns-3 Inv-loop μ-loop
 unfolding plannedOf
@@ -91,6 +91,6 @@ headers-spec =
     add-at
     loop-less
     loop-again
-    enum-told
+    enum-known-next-2
     returns-2
     returns-3)
