@@ -3,10 +3,11 @@
 use mathlib.Core.Path.{sym, _∙_}
 use Prim.Native.Nat.{_+_, _≤_}
 use native.Mathlib.Omega.{arith}
-use mathlib.Core.List.{[]}
 use lib.ListN.{length, take}
+use Rattle.laws.specs.Limits.{fragmentMax}
 use Rattle.request.specs.Parse.{parse}
-use Rattle.static_objects.proofs.HeaderLaws.{plan-headers, plan-object, plan-parameter}
+use Rattle.request.specs.Plans.{plannedOf}
+use Rattle.static_objects.proofs.HeaderLaws.{plan-headers, plan-fault}
 use Rattle.read.proofs.ResponseLaws.{fitting, beside, answered, refused, chosen}
 use Rattle.event_store.specs.EventWords.{queueIn}
 use Rattle.point_store.specs.PointWords.{inputsIn}
@@ -15,19 +16,19 @@ use Rattle.read.proofs.respond.Statement.{statement}
 use Rattle.read.proofs.respond.Tie as tie
 
 -- of a faultless READ, the static part fits
-fits : (c : tie.After-enum-told) → c .before .before .before .asked .result .size + 4 ≤ 2048
+fits : (c : tie.Then1) → c .before .before .before .asked .result .size + 4 ≤ fragmentMax
 fits c =
     let q = c .before .before .before in
     let a = q .before .before .before .args in
     let i = inputsIn (a .n) (a .binaries .now) (a .analogs .now) in
-    let e = sym (plan-headers (q .asked .result .plan) (c .enum-told .given .1)) ∙ q .asked .ensures .0 (a .binaries .now) in
+    let e = sym (plan-headers (q .asked .result .plan) (sym (c .before .is-faultless .ensures) ∙ c .if1 .taken)) ∙ q .asked .ensures .0 (a .binaries .now) in
     omega (arith, fitting i (parse (length (i .binaries)) (length (i .analogs)) (a .s .now)) _ e, q .asked .ensures .1 (a .binaries .now))
 
 asked-requires : tie.Need-asked-requires
 asked-requires c κs = search needs
 
-enum-told : tie.Need-enum-told
-enum-told c = search needs
+is-faultless-requires : tie.Need-is-faultless-requires
+is-faultless-requires c κs = search needs
 
 classes-requires : tie.Need-classes-requires
 classes-requires c κs = search needs
@@ -46,64 +47,46 @@ put-objects-requires c κs =
     let a = s .args in
     omega (arith, beside (m .classes .result) (q .asked .result .size) (queueIn (a .held .now) (a .status)) _ (fits (m .before)) (c .before .before .select .ensures), q .asked .ensures .1 (a .binaries .now), s .pre)
 
-enum-told-2 : tie.Need-enum-told-2
-enum-told-2 c = search needs
-
 clear-requires : tie.Need-clear-requires
 clear-requires c κs = search needs
-
-enum-told-3 : tie.Need-enum-told-3
-enum-told-3 c = search needs
-
-clear-requires-2 : tie.Need-clear-requires-2
-clear-requires-2 c κs = search needs
 
 same-length : tie.Need-same-length
 same-length c = search needs
 
 returns : tie.Need-returns
+unfolding plannedOf
 returns c =
     let put = c .before .before .put-objects in
     let m = c .before .before .before .before .before .before .before .before in
     let q = m .before .before .before .before in
     let a = q .before .before .before .args in
     let p = q .asked .result .plan in
-    let e = sym (plan-headers p (m .before .enum-told .given .1)) ∙ q .asked .ensures .0 (a .binaries .now) in
+    let e = sym (plan-headers p (sym (m .before .before .is-faultless .ensures) ∙ m .before .if1 .taken)) ∙ q .asked .ensures .0 (a .binaries .now) in
     let k = c .before .before .before .before .before .select .ensures ∙ chosen (queueIn (a .held .now) (a .status)) (m .classes .ensures) (q .asked .ensures .1 (a .binaries .now)) in
     let w = answered _ _ _ _ _ _ _ _ e k (put .ensures .0) (put .ensures .1) in
-    record { asked = take (p .count) (p .headers); verdict = e; events = w .0; size = w .1; bytes = w .2 }
+    record { asked = take (p .count) (p .headers); plan = q .asked .ensures .0 (a .binaries .now); events = w .0; size = w .1; bytes = w .2 }
 
 returns-2 : tie.Need-returns-2
+unfolding plannedOf
 returns-2 c =
     let q = c .before .before .before .before .before in
     let a = q .before .before .before .args in
-    let e = sym (plan-object (q .asked .result .plan) (c .before .before .enum-told2 .given .1)) ∙ q .asked .ensures .0 (a .binaries .now) in
-    let w = refused _ _ _ _ (a .out .now) 2 e (c .clear .ensures) in
-    record { asked = []; verdict = e; events = w .0; size = w .1; bytes = w .2 }
-
-returns-3 : tie.Need-returns-3
-returns-3 c =
-    let q = c .before .before .before .before .before in
-    let a = q .before .before .before .args in
-    let e = sym (plan-parameter (q .asked .result .plan) (c .before .before .enum-told3 .given .1)) ∙ q .asked .ensures .0 (a .binaries .now) in
-    let w = refused _ _ _ _ (a .out .now) 4 e (c .clear2 .ensures) in
-    record { asked = []; verdict = e; events = w .0; size = w .1; bytes = w .2 }
+    let p = q .asked .result .plan in
+    let e = sym (plan-fault p (sym (c .before .before .before .is-faultless .ensures) ∙ c .before .before .if1 .left)) ∙ q .asked .ensures .0 (a .binaries .now) in
+    let w = refused _ _ _ _ (a .out .now) _ e (c .clear .ensures) in
+    record { asked = take (p .count) (p .headers); plan = q .asked .ensures .0 (a .binaries .now); events = w .0; size = w .1; bytes = w .2 }
 
 pub respond-spec : {M : Type 1} → statement M
 respond-spec =
     tie.close
     (tie.spec
     asked-requires
-    enum-told
+    is-faultless-requires
     classes-requires
     sub-select
     select-requires
     put-objects-requires
-    enum-told-2
-    clear-requires
-    enum-told-3
-    clear-requires-2
     same-length
     returns
-    returns-2
-    returns-3)
+    clear-requires
+    returns-2)
