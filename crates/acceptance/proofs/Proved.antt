@@ -31,7 +31,7 @@ pub acceptance : Acceptance
 unfolding restarted U.setupOk U.binaryClasses U.analogSetups freshAnalog
     S.step S.readingStep S.takenWith S.raise S.fragmentStep S.readStep S.requestStep S.confirmStep S.confirmedStep
     R.hear R.badTime P.binaryReading P.floatReading P.reports P.raises limitedTo X.ofBits X.toBits X.mul X.add
-    Q.ask Q.confirmed F.classified F.malformed A.headersOf H.headerOf H.objectOf H.classHeader A.asksFor
+    Q.ask Q.confirmed F.classified F.malformed A.headersOf H.frontHeader H.objectOf H.classHeader A.asksFor
     K.pushed K.carry E.fits E.packed E.costOf filter
     staticBytes rangeBytes pointObjects pointBytes encoded runs allBytes objectBytes O.le O.value
     eventBytes carriedEvents carriedObjects carriedBytes

@@ -68,6 +68,6 @@ run :
     × (historyAfter calls (opened oneBinary) [] ≡ confirmed! 0 ∷ built! 0 (0 ∷ []) ∷ hold! 0 ∷ [])
 unfolding B.opened B.enter B.readingEntry B.enterReading B.readingNews B.enterEvent B.full B.fragmentEntry B.readEntry B.confirmEntry B.confirmedEntry
     U.binaryClasses U.analogSetups R.hear R.badTime P.binaryReading P.reports P.raises
-    Q.ask Q.confirmed F.classified F.malformed A.headersOf H.headerOf H.objectOf H.classHeader A.asksFor
+    Q.ask Q.confirmed F.classified F.malformed A.headersOf H.frontHeader H.objectOf H.classHeader A.asksFor
     E.fits E.packed E.costOf staticBytes rangeBytes pointObjects encoded runs allBytes
 run = (refl, refl, refl)

@@ -106,7 +106,7 @@ read-function i f =
 pub reads-function : (i : Inputs) (f : List ℕ) (q : ℕ) (hs : List Header) → ask i f ≡ reads q hs → eqb (functionOf f) 1 ≡ true
 reads-function i f q hs e = read-function i f (rw e (λ z. z))
 
-pub misreads-function : (i : Inputs) (f : List ℕ) (q n : ℕ) → ask i f ≡ misreads q n → eqb (functionOf f) 1 ≡ true
+pub misreads-function : (i : Inputs) (f : List ℕ) (q : ℕ) (n : Fault) → ask i f ≡ misreads q n → eqb (functionOf f) 1 ≡ true
 misreads-function i f q n e = read-function i f (rw e (λ z. z))
 
 -- a repeat is of a request that was kept

@@ -278,11 +278,11 @@ abbrev pub points : Inputs
 points = stateAt 0 [] false (exchangeWith true Idle nothing) .shared .inputs
 
 pub asks₁ : Q.ask points (read 0xC1) ≡ Q.reads 1 (eventsOf 1 ∷ [])
-unfolding Q.ask F.classified F.malformed A.headersOf H.headerOf H.objectOf H.classHeader A.asksFor staticBytes rangeBytes pointObjects encoded runs allBytes
+unfolding Q.ask F.classified F.malformed A.headersOf H.frontHeader H.objectOf H.classHeader A.asksFor staticBytes rangeBytes pointObjects encoded runs allBytes
 asks₁ = refl
 
 pub asks₂ : Q.ask points (read 0xC2) ≡ Q.reads 2 (eventsOf 1 ∷ [])
-unfolding Q.ask F.classified F.malformed A.headersOf H.headerOf H.objectOf H.classHeader A.asksFor staticBytes rangeBytes pointObjects encoded runs allBytes
+unfolding Q.ask F.classified F.malformed A.headersOf H.frontHeader H.objectOf H.classHeader A.asksFor staticBytes rangeBytes pointObjects encoded runs allBytes
 asks₂ = refl
 
 pub in-time : (R.badTime 257 2000 ≡ false) × (R.badTime 2000 8000 ≡ false)

@@ -419,7 +419,7 @@ module _ (h : List Happening) (last : Answer) (b : Book) (x : Extra) (i : Fits b
   ask-ok (confirms q uns) time f e = confirm-ok h last q uns time b x (b .master .wait) refl i
   ask-ok (reads q hs) time f e = read-ok q time hs b x h last f (reads-function (b .shared .inputs) f q hs e) p
   ask-ok (misreads q n) time f e =
-      misread-ok h last q time f b x (S.plainDeed (view b x) (S.readFault n) (x .restarted)) (record { queue = refl; wait = refl }) p refl
+      misread-ok h last q time f b x (S.plainDeed (view b x) n (x .restarted)) (record { queue = refl; wait = refl }) p refl
       (misreads-function (b .shared .inputs) f q n e)
   ask-ok (asks q function) time f e =
       let a = asks-inverse (b .shared .inputs) f q function e in

@@ -279,7 +279,7 @@ module _ (outputs arm : ℕ) where
     reads-ok e q (headers hs) =
         read-ok h x k time in-time f (S.readDeed (view h x) q time hs) (read-new (after outputs arm h .last) f e) q (eqb-true (functionOf f) 1 e) refl
     reads-ok e q (fault n) =
-        read-ok h x k time in-time f (S.plainDeed (view h x) (S.readFault n) (x .restarted)) (read-new (after outputs arm h .last) f e) q
+        read-ok h x k time in-time f (S.plainDeed (view h x) n (x .restarted)) (read-new (after outputs arm h .last) f e) q
         (eqb-true (functionOf f) 1 e) refl
 
     abbrev deed : Deed
