@@ -76,7 +76,7 @@ unfolding headersOf frontHeader objectOf pointHeader rangeHeader
 start-above = refl
 
 cut-short : parse 4 3 (30 ∷ 0 ∷ 1 ∷ 0 ∷ 0 ∷ 2 ∷ []) ≡ fault BadParameter
-unfolding headersOf frontHeader objectOf pointHeader
+unfolding headersOf frontHeader objectOf pointHeader rangeHeader
 cut-short = refl
 
 -- ---- "object" is group and variation: 1 var 1; 30 var 1, 2, 5; 60 var 0 and 5; 2 var 0; 32 var 0

@@ -36,25 +36,24 @@ small-cond false a b p q = q
 abbrev bad : Front
 bad = Faulty BadParameter
 
-small-range : (a : Bool) (n start stop size : ℕ) → size ≤ 7 → Small (rangeHeader a n start stop size)
+small-range : (a : Bool) (n left size start stop : ℕ) → size ≤ 7 → Small (rangeHeader a n left size start stop)
 unfolding rangeHeader
-small-range a n start stop size h =
+small-range a n left size start stop h =
     let asked : Front = Asked (pointsFrom a start (stop - start + 1)) size in
-    small-cond (ltb stop start) bad (cond (leb n stop) bad asked) refl (small-cond (leb n stop) bad asked refl h)
+    let inside : Front = cond (leb n stop) bad asked in
+    small-cond (ltb left size) bad (cond (ltb stop start) bad inside) refl
+    (small-cond (ltb stop start) bad inside refl (small-cond (leb n stop) bad asked refl h))
 
 small-point : (a : Bool) (n : ℕ) (s : List ℕ) → Small (pointHeader a n s)
 unfolding pointHeader
 small-point a n s =
-    let r5 : Front = rangeHeader a n (getD s 3 0) (getD s 4 0) 5 in
-    let r7 : Front = rangeHeader a n (valueAt 2 3 s) (valueAt 2 5 s) 7 in
-    let p5 : Front = cond (ltb (length s) 5) bad r5 in
-    let p7 : Front = cond (ltb (length s) 7) bad r7 in
     let all : Front = Asked (pointsFrom a 0 n) 3 in
-    small-cond (eqb (getD s 2 0) 6) all (cond (eqb (getD s 2 0) 0) p5 (cond (eqb (getD s 2 0) 1) p7 bad)) (omega arith)
-    (small-cond (eqb (getD s 2 0) 0) p5 (cond (eqb (getD s 2 0) 1) p7 bad)
-    (small-cond (ltb (length s) 5) bad r5 refl (small-range a n (getD s 3 0) (getD s 4 0) 5 (omega arith)))
-    (small-cond (eqb (getD s 2 0) 1) p7 bad
-    (small-cond (ltb (length s) 7) bad r7 refl (small-range a n (valueAt 2 3 s) (valueAt 2 5 s) 7 (omega arith))) refl))
+    let bytes : Front = rangeHeader a n (length s) 5 (getD s 3 0) (getD s 4 0) in
+    let pairs : Front = rangeHeader a n (length s) 7 (valueAt 2 3 s) (valueAt 2 5 s) in
+    let by-two : Front = cond (eqb (getD s 2 0) 1) pairs bad in
+    small-cond (eqb (getD s 2 0) 6) all (cond (eqb (getD s 2 0) 0) bytes by-two) (omega arith)
+    (small-cond (eqb (getD s 2 0) 0) bytes by-two (small-range a n (length s) 5 (getD s 3 0) (getD s 4 0) (omega arith))
+    (small-cond (eqb (getD s 2 0) 1) pairs bad (small-range a n (length s) 7 (valueAt 2 3 s) (valueAt 2 5 s) (omega arith)) refl))
 
 small-object : (o : Object) (nb na : ℕ) (s : List ℕ) → Small (byObject o nb na s)
 unfolding classHeader

@@ -55,26 +55,23 @@ classHeader nb na c s =
     ∷ [])
     (Asked (eventsOf c) 3)
 
--- "start above stop or stop no such point 2.2", of the n points there are
-unfoldable pub rangeHeader : Bool → ℕ → ℕ → ℕ → ℕ → Front
-rangeHeader a n start stop size =
+-- "range cut short, start above stop or stop no such point 2.2": of the n points there are, the header having `size` of the bytes left
+unfoldable pub rangeHeader : Bool → ℕ → (left size start stop : ℕ) → Front
+rangeHeader a n left size start stop =
     first
-    (ltb stop start ⇒ Faulty BadParameter
+    (ltb left size ⇒ Faulty BadParameter
+    ∷ ltb stop start ⇒ Faulty BadParameter
     ∷ leb n stop ⇒ Faulty BadParameter
     ∷ [])
     (Asked (pointsFrom a start (stop - start + 1)) size)
-
--- "range cut short .. 2.2", where the header should have so many bytes
-abbrev pub uncut : ℕ → List ℕ → Front → Front
-uncut size s f = first (ltb (length s) size ⇒ Faulty BadParameter ∷ []) f
 
 -- points: qualifier 06, all; 00, a start and a stop of one byte; 01, of two bytes; another "2.2"
 unfoldable pub pointHeader : Bool → ℕ → List ℕ → Front
 pointHeader a n s =
     first
     (eqb (getD s 2 0) 6 ⇒ Asked (pointsFrom a 0 n) 3
-    ∷ eqb (getD s 2 0) 0 ⇒ uncut 5 s (rangeHeader a n (getD s 3 0) (getD s 4 0) 5)
-    ∷ eqb (getD s 2 0) 1 ⇒ uncut 7 s (rangeHeader a n (valueAt 2 3 s) (valueAt 2 5 s) 7)
+    ∷ eqb (getD s 2 0) 0 ⇒ rangeHeader a n (length s) 5 (getD s 3 0) (getD s 4 0)
+    ∷ eqb (getD s 2 0) 1 ⇒ rangeHeader a n (length s) 7 (valueAt 2 3 s) (valueAt 2 5 s)
     ∷ [])
     (Faulty BadParameter)
 

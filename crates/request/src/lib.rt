@@ -119,8 +119,9 @@ fn class_header(s: &[u8], binaries: u16, analogs: u16, class: u8) -> Front
     Front::Asked(h, 3)
 }
 
-fn range_header(analog: bool, n: u16, start: u16, stop: u16, size: usize) -> Front
-    ensures { λ r. ⌜ r ≡ rangeHeader analog n start stop size ⌝ }
+// A range that is not cut short.
+fn range_header(analog: bool, n: u16, size: usize, start: u16, stop: u16) -> Front
+    ensures { λ r. ⌜ r ≡ rangeHeader analog n size size start stop ⌝ }
 {
     if stop < start {
         return Front::Faulty(Fault::BadParameter);
@@ -145,13 +146,13 @@ fn point_header(s: &[u8], analog: bool, n: u16) -> Front
         if s.len() < 5 {
             return Front::Faulty(Fault::BadParameter);
         }
-        return range_header(analog, n, s[3] as u16, s[4] as u16, 5);
+        return range_header(analog, n, 5, s[3] as u16, s[4] as u16);
     }
     if q == 1 {
         if s.len() < 7 {
             return Front::Faulty(Fault::BadParameter);
         }
-        return range_header(analog, n, octets::take2(s, 3), octets::take2(s, 5), 7);
+        return range_header(analog, n, 7, octets::take2(s, 3), octets::take2(s, 5));
     }
     Front::Faulty(Fault::BadParameter)
 }

@@ -3,6 +3,7 @@
 use mathlib.Core.Path.{refl, sym, _∙_}
 use Prim.Native.Nat.{_-_}
 use native.Mathlib.Omega.{arith}
+use Rattle.request.specs.Parse.{headersMax}
 use Rattle.request.specs.Plans.{plannedOf}
 use Rattle.request.proofs.ParseLaws.{Reading, begun, over, faulty, asked, all, asked-small}
 use borrow.Author.Needs.{needs}
@@ -13,7 +14,7 @@ abbrev Inv-loop : tie.InvT-loop
 Inv-loop s binaries analogs list₀ n₀ at₀ list n at = Reading binaries analogs s list n at
 
 abbrev μ-loop : tie.MeasureT-loop
-μ-loop s binaries analogs list₀ n₀ at₀ list n at = 16 - n
+μ-loop s binaries analogs list₀ n₀ at₀ list n at = headersMax - n
 
 points-from-requires : tie.Need-points-from-requires Inv-loop μ-loop
 points-from-requires c κs = search needs
