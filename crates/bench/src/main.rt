@@ -42,28 +42,28 @@ fn nothing(count: u64) -> u64 {
 }
 
 fn work_of(w: &[u8]) -> Work {
-    if text::same(w, b"nothing") {
+    if octets::equal(w, b"nothing") {
         return Work::Nothing;
     }
-    if text::same(w, b"frame-write") {
+    if octets::equal(w, b"frame-write") {
         return Work::FrameWrite;
     }
-    if text::same(w, b"frame-read") {
+    if octets::equal(w, b"frame-read") {
         return Work::FrameRead;
     }
-    if text::same(w, b"reading") {
+    if octets::equal(w, b"reading") {
         return Work::Reading;
     }
-    if text::same(w, b"class-0") {
+    if octets::equal(w, b"class-0") {
         return Work::ClassZero;
     }
-    if text::same(w, b"outstation-reading") {
+    if octets::equal(w, b"outstation-reading") {
         return Work::OutstationReading;
     }
-    if text::same(w, b"held-reading") {
+    if octets::equal(w, b"held-reading") {
         return Work::HeldReading;
     }
-    if text::same(w, b"event-read") {
+    if octets::equal(w, b"event-read") {
         return Work::EventRead;
     }
     Work::Unknown

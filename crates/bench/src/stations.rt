@@ -1,6 +1,7 @@
 // The whole outstation in lent memory: one reading, by the points installed and by the events held.
 ghost use mathlib.Core.Path.{_≡_};
 ghost use Prim.Native.Nat.{_≤_};
+ghost use Rattle.laws.specs.Limits.{pointsMax};
 use crate::sums::digest;
 use crate::sums::fold;
 use crate::sums::plus;
@@ -47,9 +48,9 @@ fn added(first: Going, n: usize, analogs: &mut [u32; ANALOG_WORDS]) -> Going {
 
 // A size as a number of points.
 fn points_of(n: u16) -> usize
-    ensures { λ r. ⌜ r ≤ 64 ⌝ }
+    ensures { λ r. ⌜ r ≤ pointsMax ⌝ }
 {
-    if n < 64 { n as usize } else { POINTS_MAX }
+    octets::least(n as usize, POINTS_MAX)
 }
 
 // So many points of each kind, none read yet.

@@ -20,9 +20,9 @@ use Rattle.select.proofs.Laws.{effect-wrong, effect-objects}
 use Rattle.select.proofs.control.Statement.{statement}
 use Rattle.select.proofs.control.Tie as tie
 
--- as many objects as a faultless form says
-held-count : {c : Crobs} {x : Form} (w n : ℕ) (o : List ℕ) → x ≡ Objects w n → Holding c (crobsBy x o) → c .count ≡ n
-held-count w n o e h = h .count ∙ ap (λ (y : Form). length (crobsBy y o)) e ∙ crobs-length w n (drop (3 + w) o)
+-- as many objects as the header says
+held-count : {c : Crobs} (w n : ℕ) (b : List ℕ) → Holding c (crobs w n b) → c .count ≡ n
+held-count w n b h = h .count ∙ crobs-length w n b
 
 header-requires : tie.Need-header-requires
 header-requires c κs = search needs
