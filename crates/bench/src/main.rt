@@ -90,10 +90,10 @@ fn extent_of(w: Work) -> Extent {
         Work::FrameWrite => Extent::UpTo(0),
         Work::FrameRead => Extent::UpTo(0),
         Work::Reading => Extent::UpTo(0),
-        Work::ClassZero => Extent::UpTo(64),
-        Work::OutstationReading => Extent::UpTo(64),
-        Work::HeldReading => Extent::UpTo(255),
-        Work::EventRead => Extent::UpTo(256),
+        Work::ClassZero => Extent::UpTo(stations::POINTS),
+        Work::OutstationReading => Extent::UpTo(stations::POINTS),
+        Work::HeldReading => Extent::UpTo(stations::EVENTS - 1),
+        Work::EventRead => Extent::UpTo(stations::EVENTS),
         Work::Unknown => Extent::Unknown,
     }
 }
