@@ -1,20 +1,15 @@
-// Frames with as many user bytes as there may be.
+// Frames of 250 user bytes, 292 bytes in all.
 use crate::sums::byte_at;
 use crate::sums::fill;
 use crate::sums::fold;
 use crate::sums::plus;
 use crate::sums::poke;
 use crate::sums::wide;
-use frame::FRAME_MAX;
 use frame::Read;
-use frame::USER_MAX;
 use frame::Wrote;
 
-// The user bytes of a frame, of which a checksum takes one.
-const USERS: u64 = USER_MAX as u64;
-
 fn write_once(sum: u64, out: &mut [u8], user: &mut [u8]) -> u64 {
-    let k = (sum % USERS) as usize;
+    let k = (sum % 250) as usize;
     poke(user, k, (sum % 256) as u8);
     let r = frame::write_frame(out, 68, 1, 10, user);
     match r {
@@ -35,14 +30,14 @@ fn write_frames(count: u64, out: &mut [u8], user: &mut [u8]) -> u64 {
 }
 
 pub fn frame_write(count: u64) -> u64 {
-    let mut out = [0u8; FRAME_MAX];
-    let mut user = [0u8; USER_MAX];
+    let mut out = [0u8; 292];
+    let mut user = [0u8; 250];
     fill(&mut user, 1);
     write_frames(count, &mut out, &mut user)
 }
 
 fn read_once(sum: u64, s: &[u8], out: &mut [u8]) -> u64 {
-    let k = (sum % USERS) as usize;
+    let k = (sum % 250) as usize;
     let r = frame::read_frame(s, out);
     match r {
         Read::Frame {
@@ -79,10 +74,10 @@ fn read_frames(count: u64, one: &[u8], other: &[u8], out: &mut [u8]) -> u64 {
 }
 
 pub fn frame_read(count: u64) -> u64 {
-    let mut user = [0u8; USER_MAX];
-    let mut one = [0u8; FRAME_MAX];
-    let mut other = [0u8; FRAME_MAX];
-    let mut out = [0u8; USER_MAX];
+    let mut user = [0u8; 250];
+    let mut one = [0u8; 292];
+    let mut other = [0u8; 292];
+    let mut out = [0u8; 250];
     fill(&mut user, 1);
     frame::write_frame(&mut one, 68, 1, 10, &user);
     fill(&mut user, 2);
