@@ -1,10 +1,11 @@
 -- What a fragment is: refused, a CONFIRM, or a request.
 -- Assumes nothing.
 use Prim.Native.Nat.{ℕ, _+_, _/_, _%_}
-use mathlib.Core.Bool.{Bool, cond, not}
+use mathlib.Core.Bool.{Bool, not}
 use mathlib.Core.List.{List, [], _∷_}
 use lib.ListN.{length, getD, drop}
 use lib.Dec.{ltb, eqb}
+use Rattle.laws.specs.First.{first, _⇒_}
 use Rattle.laws.specs.Limits.{fragmentMax}
 use Rattle.laws.specs.Outcome.{Outcome, accepted, refused}
 use Rattle.laws.specs.Lists.{any, all}
@@ -66,11 +67,11 @@ pub data Kind : Type 0 where
 
 unfoldable pub classified : List ℕ → Outcome Kind
 classified s =
-    cond (malformed s) (refused 31)
-    (accepted
-    (cond (isConfirm s)
-    (confirm (sequenceOf (controlOf s)) (eqb (unsOf (controlOf s)) 1))
-    (request (sequenceOf (controlOf s)) (functionOf s))))
+    first
+    (malformed s ⇒ refused 31
+    ∷ isConfirm s ⇒ accepted (confirm (sequenceOf (controlOf s)) (eqb (unsOf (controlOf s)) 1))
+    ∷ [])
+    (accepted (request (sequenceOf (controlOf s)) (functionOf s)))
 
 -- the number and the values of each case of the code's answer
 abbrev pub fragmentOf : Fragment → Outcome Kind

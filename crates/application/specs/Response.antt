@@ -1,10 +1,11 @@
 -- The response header with its indications, and WRITE.
 -- Assumes nothing.
 use Prim.Native.Nat.{ℕ, _+_, _%_}
-use mathlib.Core.Bool.{Bool, true, false, cond}
+use mathlib.Core.Bool.{Bool, true, false, not}
 use mathlib.Core.List.{List, [], _∷_}
 use lib.ListN.{length, getD}
 use lib.Dec.{ltb, eqb}
+use Rattle.laws.specs.First.{first, _⇒_}
 use Rattle.laws.specs.Lists.{all, same}
 use Rattle.application.specs.declared.Fault.{Fault}
 use Rattle.application.specs.declared.Fault.the-variants.{Faultless, FunctionUnknown, ObjectUnknown, BadParameter}
@@ -57,5 +58,9 @@ clearRestart = 80 ∷ 1 ∷ 0 ∷ 7 ∷ 7 ∷ 0 ∷ []
 
 unfoldable pub writeFault : List ℕ → Fault
 writeFault o =
-    cond (ltb (length o) 3) BadParameter
-    (cond (isObject 80 1 o) (cond (same o clearRestart) Faultless BadParameter) ObjectUnknown)
+    first
+    (ltb (length o) 3 ⇒ BadParameter
+    ∷ not (isObject 80 1 o) ⇒ ObjectUnknown
+    ∷ same o clearRestart ⇒ Faultless
+    ∷ [])
+    BadParameter

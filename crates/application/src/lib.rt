@@ -1,9 +1,8 @@
 // Application fragments: what a fragment is, the response header, and the WRITE that clears the restart indication.
 ghost use mathlib.Core.Path.{_≡_};
-ghost use Prim.Native.Nat.{_+_, _≤_, _<_};
+ghost use Prim.Native.Nat.{_+_, _-_, _≤_, _<_};
 ghost use lib.ListN.{length};
 ghost use Rattle.octets.specs.Bytes.{splice};
-ghost use Rattle.laws.specs.Lists.{same};
 ghost use Rattle.application.specs.Fragment.{classified, fragmentOf, nextOf};
 ghost use Rattle.application.specs.Response.{weight, isFaultless, faultBits, iin1Of, iin2Of, responseControl, responseOf, writeFault};
 
@@ -47,21 +46,11 @@ pub struct Indications {
     pub dropped: bool,
 }
 
-// The two byte strings are equal.
-pub fn equal(a: &[u8], b: &[u8]) -> bool
-    ensures { λ r. ⌜ r ≡ same (now (a .entry)) (now (b .entry)) ⌝ }
+// The time from one fragment to another, 0 where the other is earlier.
+pub fn elapsed(from: u64, to: u64) -> u64
+    ensures { λ r. ⌜ r ≡ to - from ⌝ }
 {
-    if a.len() != b.len() {
-        return false;
-    }
-    let mut i = 0;
-    while i < a.len() {
-        if a[i] != b[i] {
-            return false;
-        }
-        i += 1;
-    }
-    true
+    if from < to { to - from } else { 0 }
 }
 
 // The next number, modulo 16.
@@ -180,7 +169,7 @@ pub fn write_fault(objects: &[u8]) -> Fault
         return Fault::ObjectUnknown;
     }
     let clear: [u8; 6] = [80, 1, 0, 7, 7, 0];
-    if equal(objects, &clear) {
+    if octets::equal(objects, &clear) {
         return Fault::Faultless;
     }
     Fault::BadParameter

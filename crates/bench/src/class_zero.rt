@@ -1,9 +1,11 @@
 // The objects of a class 0 response: binaries, and analogs whose kinds take turns.
+use crate::stations::POINTS;
 use crate::sums::byte_at;
 use crate::sums::digest;
 use crate::sums::fold;
 use crate::sums::fold_all;
 use crate::sums::plus;
+use application::FRAGMENT_MAX;
 use event_store::BufferStatus;
 use event_store::EVENT_WORDS;
 use point_store::ANALOG_WORDS;
@@ -83,7 +85,7 @@ fn respond(
     out: &mut [u8],
     s: &[u8],
 ) -> u64 {
-    if out.len() < 2048 {
+    if out.len() < FRAGMENT_MAX {
         return 0;
     }
     let none = BufferStatus {
@@ -93,7 +95,7 @@ fn respond(
     let mut sum: u64 = 1;
     let mut left = count;
     while 0 < left {
-        let k = (left % 64) as usize;
+        let k = (left % POINTS) as usize;
         point_store::store_binary(binaries, k, binary_of(left % 3 == 0, 1));
         let r = read::respond(out, s, binaries, analogs, n, held, none);
         let i = (sum % 1024) as usize;
@@ -108,7 +110,7 @@ pub fn class_zero(count: u64, n: usize) -> u64 {
     let mut binaries = [0u32; BINARY_WORDS];
     let mut analogs = [0u32; ANALOG_WORDS];
     let mut held = [0u64; EVENT_WORDS];
-    let mut out = [0u8; 2048];
+    let mut out = [0u8; FRAGMENT_MAX];
     let s = [60u8, 1, 6];
     install(&mut binaries, &mut analogs);
     let installed = Installed {

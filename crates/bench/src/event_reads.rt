@@ -145,7 +145,7 @@ pub fn event_read(count: u64, n: u64) -> u64 {
     let mut objects = [0u8; ECHO_MAX];
     let mut ask = [192u8, 1, 60, 2, 6, 60, 3, 6, 60, 4, 6];
     let mut confirm = [192u8, 0];
-    let mut out = [0u8; 2048];
+    let mut out = [0u8; FRAGMENT_MAX];
     let full = stations::holding(n, &mut binaries, &mut analogs, &mut held);
     let sum = exchanges(
         count,

@@ -42,28 +42,28 @@ fn nothing(count: u64) -> u64 {
 }
 
 fn work_of(w: &[u8]) -> Work {
-    if text::same(w, b"nothing") {
+    if octets::equal(w, b"nothing") {
         return Work::Nothing;
     }
-    if text::same(w, b"frame-write") {
+    if octets::equal(w, b"frame-write") {
         return Work::FrameWrite;
     }
-    if text::same(w, b"frame-read") {
+    if octets::equal(w, b"frame-read") {
         return Work::FrameRead;
     }
-    if text::same(w, b"reading") {
+    if octets::equal(w, b"reading") {
         return Work::Reading;
     }
-    if text::same(w, b"class-0") {
+    if octets::equal(w, b"class-0") {
         return Work::ClassZero;
     }
-    if text::same(w, b"outstation-reading") {
+    if octets::equal(w, b"outstation-reading") {
         return Work::OutstationReading;
     }
-    if text::same(w, b"held-reading") {
+    if octets::equal(w, b"held-reading") {
         return Work::HeldReading;
     }
-    if text::same(w, b"event-read") {
+    if octets::equal(w, b"event-read") {
         return Work::EventRead;
     }
     Work::Unknown
@@ -90,10 +90,10 @@ fn extent_of(w: Work) -> Extent {
         Work::FrameWrite => Extent::UpTo(0),
         Work::FrameRead => Extent::UpTo(0),
         Work::Reading => Extent::UpTo(0),
-        Work::ClassZero => Extent::UpTo(64),
-        Work::OutstationReading => Extent::UpTo(64),
-        Work::HeldReading => Extent::UpTo(255),
-        Work::EventRead => Extent::UpTo(256),
+        Work::ClassZero => Extent::UpTo(stations::POINTS),
+        Work::OutstationReading => Extent::UpTo(stations::POINTS),
+        Work::HeldReading => Extent::UpTo(stations::EVENTS - 1),
+        Work::EventRead => Extent::UpTo(stations::EVENTS),
         Work::Unknown => Extent::Unknown,
     }
 }

@@ -1,11 +1,13 @@
 // The whole outstation in lent memory: one reading, by the points installed and by the events held.
 ghost use mathlib.Core.Path.{_≡_};
 ghost use Prim.Native.Nat.{_≤_};
+ghost use Rattle.laws.specs.Limits.{pointsMax};
 use crate::sums::digest;
 use crate::sums::fold;
 use crate::sums::plus;
 use event_store::BufferStatus;
 use event_store::EVENT_WORDS;
+use events::CAPACITY;
 use events::Event;
 use events::Shown;
 use outstation::Head;
@@ -19,6 +21,13 @@ use points::Value;
 use restart::AnalogSetupWords;
 use restart::Going;
 use restart::SetupWords;
+
+// The most points of a kind and the most events, in the types that they are counted in here.
+pub const POINTS: u64 = POINTS_MAX as u64;
+
+const POINTS_END: u16 = POINTS_MAX as u16;
+
+pub const EVENTS: u64 = CAPACITY as u64;
 
 // Adds n analogs, all alike.
 fn added(first: Going, n: usize, analogs: &mut [u32; ANALOG_WORDS]) -> Going {
@@ -47,9 +56,9 @@ fn added(first: Going, n: usize, analogs: &mut [u32; ANALOG_WORDS]) -> Going {
 
 // A size as a number of points.
 fn points_of(n: u16) -> usize
-    ensures { λ r. ⌜ r ≤ 64 ⌝ }
+    ensures { λ r. ⌜ r ≤ pointsMax ⌝ }
 {
-    if n < 64 { n as usize } else { POINTS_MAX }
+    octets::least(n as usize, POINTS_MAX)
 }
 
 // So many points of each kind, none read yet.
@@ -125,7 +134,7 @@ fn read_all(
     let mut sum: u64 = 1;
     let mut left = count;
     while 0 < left {
-        if left % 256 == 0 {
+        if left % EVENTS == 0 {
             h = with_events(h, 0);
         }
         let t = state_reading(h, binaries, analogs, held, count - left, point, state);
@@ -174,7 +183,7 @@ fn event_at(i: u64) -> Event
     Event {
         time: i,
         shown: s,
-        point: (i % 64) as u16,
+        point: (i % POINTS) as u16,
         flags: 1,
         class: (i % 3 + 1) as u8,
     }
@@ -188,7 +197,7 @@ fn hold(n: u64, held: &mut [u64; EVENT_WORDS]) -> usize {
     };
     let mut i: u64 = 0;
     while i < n {
-        if 256 <= i {
+        if EVENTS <= i {
             return t.count;
         }
         t = event_store::push(held, t, event_at(i));
@@ -197,16 +206,16 @@ fn hold(n: u64, held: &mut [u64; EVENT_WORDS]) -> usize {
     t.count
 }
 
-// 64 points of each kind, the binaries read once, so that a changed state raises an event; n events are held.
+// All points of each kind, the binaries read once, so that a changed state raises an event; n events are held.
 pub fn holding(
     n: u64,
     binaries: &mut [u32; BINARY_WORDS],
     analogs: &mut [u32; ANALOG_WORDS],
     held: &mut [u64; EVENT_WORDS],
 ) -> Head {
-    let mut h = fresh(64, binaries, analogs);
+    let mut h = fresh(POINTS_END, binaries, analogs);
     let mut point: u16 = 0;
-    while point < 64 {
+    while point < POINTS_END {
         let t = state_reading(h, binaries, analogs, held, 0, point, false);
         let next = t.head;
         h = next;
@@ -234,7 +243,7 @@ fn read_held(
     let mut sum: u64 = 1;
     let mut left = count;
     while 0 < left {
-        let point = (left % 64) as u16;
+        let point = (left % POINTS) as u16;
         let t = state_reading(full, binaries, analogs, held, left, point, true);
         sum = fold(sum, plus(accepted(t.refusal), clock_and_count(t.head)));
         set_back(binaries, point as usize, word);

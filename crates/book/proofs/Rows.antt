@@ -67,22 +67,22 @@ collect-skip w ws i (r ∷ rs) h = rw (ne-eqb i w (λ e. omega arith), collect-s
 pub picks-above : (m : Classes) (k : Pack) (j i : ℕ) (rows : List Row) → j < i → member j (picks m k i rows) ≡ false
 picks-above m k j i [] h = refl
 picks-above m k j i (r ∷ rs) h =
-    split (λ l. member j l ≡ false) (rowHeld r && asked m (r .event .class))
-    (λ _. split (λ l. member j l ≡ false) (fits k (r .event))
-    (λ _. rw (ne-eqb j i (λ e. omega arith)) (picks-above m (packed k (r .event)) j (suc i) rs (omega arith)))
-    (λ _. refl))
+    split (λ l. member j l ≡ false) (not (rowHeld r && asked m (r .event .class)))
     (λ _. picks-above m k j (suc i) rs (omega arith))
+    (λ _. split (λ l. member j l ≡ false) (not (fits k (r .event)))
+    (λ _. refl)
+    (λ _. rw (ne-eqb j i (λ e. omega arith)) (picks-above m (packed k (r .event)) j (suc i) rs (omega arith))))
 
 pub picks-below : (m : Classes) (k : Pack) (j i : ℕ) (rows : List Row) → member j (picks m k i rows) ≡ true → j < i + length rows
 picks-below m k j i [] = λ h. let z : _≡_ {A = ℕ} 0 1 = cc in omega arith
 picks-below m k j i (r ∷ rs) =
-    split (λ l. member j l ≡ true → j < i + suc (length rs)) (rowHeld r && asked m (r .event .class))
-    (λ _. split (λ l. member j l ≡ true → j < i + suc (length rs)) (fits k (r .event))
+    split (λ l. member j l ≡ true → j < i + suc (length rs)) (not (rowHeld r && asked m (r .event .class)))
+    (λ _ h. omega (arith, picks-below m k j (suc i) rs h))
+    (λ _. split (λ l. member j l ≡ true → j < i + suc (length rs)) (not (fits k (r .event)))
+    (λ _ h. let z : _≡_ {A = ℕ} 0 1 = cc in omega arith)
     (λ _ h. by (eqb j i)
     (λ e. omega (arith, eqb-true j i e))
-    (λ e. omega (arith, picks-below m (packed k (r .event)) j (suc i) rs (rw e at h))))
-    (λ _ h. let z : _≡_ {A = ℕ} 0 1 = cc in omega arith))
-    (λ _ h. omega (arith, picks-below m k j (suc i) rs h))
+    (λ e. omega (arith, picks-below m (packed k (r .event)) j (suc i) rs (rw e at h)))))
 
 -- the marks that the outstation sets are the book's picks
 pub carry-collect : (m : Classes) (k : Pack) (i : ℕ) (rows : List Row) → carry m k (collect [] i rows) ≡ collect (picks m k i rows) i rows

@@ -5,6 +5,7 @@ use mathlib.Core.Bool.{Bool, true, false, not, cond, _&&_, _||_}
 use mathlib.Core.List.{List, [], _∷_, _++_, map}
 use lib.ListN.{length, drop}
 use lib.Dec.{eqb, ltb}
+use Rattle.laws.specs.First.{first, _⇒_}
 use Rattle.laws.specs.Limits.{fragmentMax, eventsMax}
 use Rattle.laws.specs.Lists.{some, count, isNil, member, same}
 use Rattle.application.specs.Fragment.{objectsOf}
@@ -192,9 +193,11 @@ tableFrom (r ∷ rs) k ns b =
 abbrev pub picks : Classes → Pack → ℕ → List Row → List ℕ
 picks m k i [] = []
 picks m k i (r ∷ rs) =
-    cond (rowHeld r && asked m (r .event .class))
-    (cond (fits k (r .event)) (i ∷ picks m (packed k (r .event)) (suc i) rs) [])
-    (picks m k (suc i) rs)
+    first
+    (not (rowHeld r && asked m (r .event .class)) ⇒ picks m k (suc i) rs
+    ∷ not (fits k (r .event)) ⇒ []
+    ∷ [])
+    (i ∷ picks m (packed k (r .event)) (suc i) rs)
 
 abbrev pub picked : Book → List Header → List ℕ
 picked b hs = picks (classesOf hs) (emptyPack (roomBeside (b .shared .inputs) hs)) 0 (b .master .rows)
@@ -215,7 +218,7 @@ readEntry b q time f hs =
 -- a request that is no READ and no repeat, by its function: "Function 6 is never answered"; the answer to 3 to 5 "echoes header and
 -- objects with status"
 unfoldable pub saidOf : (function : ℕ) (objects : List ℕ) → Said
-saidOf function o = cond (eqb function 6) unanswered (cond (member function (3 ∷ 4 ∷ 5 ∷ [])) (echoes o) plain)
+saidOf function o = first (eqb function 6 ⇒ unanswered ∷ member function (3 ∷ 4 ∷ 5 ∷ []) ⇒ echoes o ∷ []) plain
 
 -- a request that is no faultless READ and no repeat, and what is said of it; answered: it has a response
 unfoldable pub otherEntry : Book → (answered : Bool) → Said → ℕ → List ℕ → Entry
@@ -273,8 +276,11 @@ askEntry (asks q function) b time f =
 
 unfoldable pub fragmentEntry : (time : ℕ) (bytes : List ℕ) (room : ℕ) → Book → Entry
 fragmentEntry time f room b =
-    cond (badTime (b .shared .clock) time) (refusedEntry 1 b)
-    (cond (ltb room fragmentMax) (refusedEntry 33 b) (askEntry (ask (b .shared .inputs) f) b time f))
+    first
+    (badTime (b .shared .clock) time ⇒ refusedEntry 1 b
+    ∷ ltb room fragmentMax ⇒ refusedEntry 33 b
+    ∷ [])
+    (askEntry (ask (b .shared .inputs) f) b time f)
 
 unfoldable pub enter : Call → Book → Entry
 enter (reading r) b = readingEntry r b

@@ -83,7 +83,7 @@ pub fn restart(
     if !s.have {
         return unit::told_all(u, out, at, b"none");
     }
-    let n = answers::least(u.setup_len, setup.len());
+    let n = octets::least(u.setup_len, setup.len());
     let name = text::word(&setup[0..n], text::start(), 32);
     let mut classes = [0u8; POINTS_MAX];
     let t = setup::set_up(&setup[0..n], name.next, &mut classes, binaries, analogs);

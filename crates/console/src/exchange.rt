@@ -78,8 +78,8 @@ fn lend(
     lent: &mut [u8],
     size: usize,
 ) -> FragmentResult {
-    let len = answers::least(n, bytes.len());
-    let room = answers::least(size, lent.len());
+    let len = octets::least(n, bytes.len());
+    let room = octets::least(size, lent.len());
     answered(
         h,
         binaries,
@@ -131,7 +131,7 @@ fn tell(
     out: &mut [u8],
     at: usize,
 ) -> usize {
-    let room = answers::least(size, lent.len());
+    let room = octets::least(size, lent.len());
     let o = outcome_of(a);
     let b = put_answer(a, o, operated, &lent[0..room], out, at);
     answers::ended_past(o.used, &lent[0..room], out, b)

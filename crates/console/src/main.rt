@@ -194,7 +194,7 @@ fn line_at(l: Looked, reader: Reader, from: usize, to: usize) -> Line
 fn last_line(r: Reader, t: &[u8], out: &[u8]) -> Line
     ensures { λ p. ⌜ (p .from ≤ p .to) × (p .to ≤ length (now (t .entry))) ⌝ }
 {
-    let to = answers::least(r.filled, t.len());
+    let to = octets::least(r.filled, t.len());
     let l = look(&t[0..to], r.skipping, 0, out);
     line_at(l, r, 0, to)
 }
@@ -224,7 +224,7 @@ fn next_line(r: Reader, at: usize, t: &mut [u8], out: &mut [u8]) -> Line
     ensures { λ p. ⌜ (p .from ≤ p .to) × (p .to ≤ length (now (t .exit))) ⌝ }
 {
     let from = r.from;
-    let end = answers::least(r.filled, t.len());
+    let end = octets::least(r.filled, t.len());
     let to = text::until(&t[0..end], from, 10);
     if to < end {
         let l = look(&t[from..to], r.skipping, at, out);

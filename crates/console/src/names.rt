@@ -14,28 +14,28 @@ pub enum Command {
 }
 
 pub fn command_of(w: &[u8]) -> Command {
-    if text::same(w, b"bin") {
+    if octets::equal(w, b"bin") {
         return Command::Reading(b'b');
     }
-    if text::same(w, b"ana") {
+    if octets::equal(w, b"ana") {
         return Command::Reading(b'a');
     }
-    if text::same(w, b"flt") {
+    if octets::equal(w, b"flt") {
         return Command::Reading(b'f');
     }
-    if text::same(w, b"table") {
+    if octets::equal(w, b"table") {
         return Command::Table;
     }
-    if text::same(w, b"frag") {
+    if octets::equal(w, b"frag") {
         return Command::Frag;
     }
-    if text::same(w, b"held") {
+    if octets::equal(w, b"held") {
         return Command::Held;
     }
-    if text::same(w, b"setup") {
+    if octets::equal(w, b"setup") {
         return Command::Setup;
     }
-    if text::same(w, b"restart") {
+    if octets::equal(w, b"restart") {
         return Command::Restart;
     }
     Command::Line(lines::line_call_of(w))

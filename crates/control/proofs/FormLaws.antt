@@ -5,7 +5,7 @@ use mathlib.Core.Bool.{Bool, true, false, cond, not}
 use mathlib.Core.List.{List, [], _∷_}
 use Prim.Native.Nat.{ℕ, zero, suc, _+_, _-_, _*_, _≤_}
 use native.Mathlib.Omega.{arith}
-use borrow.Author.Tests.{eqb-true, leb-true}
+use borrow.Author.Tests.{eqb-true, leb-true, not-false}
 use lib.Dec.{eqb, leb, ltb}
 use lib.ListN.{length, getD, take, drop, length-append, length-drop}
 use lib.Seq.{length-take-le}
@@ -22,13 +22,10 @@ use Rattle.control.specs.Objects.{objectsMax, echoMax, widthOf, span, co
 use Rattle.control.specs.Status.{echoed, echoOf}
 use Rattle.control.proofs.ObjectLaws.{span-one, span-two}
 
-yes-then : (t : Bool) (f : Fault) (x : Form) (w n : ℕ) → cond t x (Wrong f) ≡ Objects w n → (t ≡ true) × (x ≡ Objects w n)
-yes-then true f x w n e = (refl, e)
-yes-then false f x w n e = let z : _≡_ {A = ℕ} 0 1 = cc in absurd (omega arith)
-
-no-then : (t : Bool) (f : Fault) (x : Form) (w n : ℕ) → cond t (Wrong f) x ≡ Objects w n → x ≡ Objects w n
-no-then true f x w n e = let z : _≡_ {A = ℕ} 0 1 = cc in absurd (omega arith)
-no-then false f x w n e = e
+-- a test that would have refused has not held
+passed : (t : Bool) (f : Fault) (x : Form) (w n : ℕ) → cond t (Wrong f) x ≡ Objects w n → (t ≡ false) × (x ≡ Objects w n)
+passed true f x w n e = let z : _≡_ {A = ℕ} 0 1 = cc in absurd (omega arith)
+passed false f x w n e = (refl, e)
 
 pub record Fitting (w n : ℕ) (o : List ℕ) : Type 0 where
   pub narrow : w ≤ 2
@@ -69,12 +66,12 @@ exact-fits w o h e =
 pub formed-fits : (o : List ℕ) (w n : ℕ) → formed o ≡ Objects w n → Fitting w n o
 unfolding formed
 formed-fits o w n e =
-    let e1 = no-then (ltb (length o) 3) BadParameter _ w n e in
-    let e2 = yes-then (isObject 12 1 o) ObjectUnknown _ w n e1 in
-    let e3 = yes-then (exact (widthOf (getD o 2 0)) o) BadParameter _ w n (e2 .1) in
+    let e1 = passed (ltb (length o) 3) BadParameter _ w n e in
+    let e2 = passed (not (isObject 12 1 o)) ObjectUnknown _ w n (e1 .1) in
+    let e3 = passed (not (exact (widthOf (getD o 2 0)) o)) BadParameter _ w n (e2 .1) in
     let ew : widthOf (getD o 2 0) ≡ w = cc (e3 .1) in
     let en : countOf (widthOf (getD o 2 0)) o ≡ n = cc (e3 .1) in
-    let x : exact w o ≡ true = ap (λ (k : ℕ). exact k o) (sym ew) ∙ e3 .0 in
+    let x : exact w o ≡ true = ap (λ (k : ℕ). exact k o) (sym ew) ∙ not-false _ (e3 .0) in
     let m : countOf w o ≡ n = ap (λ (k : ℕ). countOf k o) (sym ew) ∙ en in
     let narrow : w ≤ 2 = rw (← ew) (width-most (getD o 2 0)) in
     rw (← m) (exact-fits w o narrow x)

@@ -2,11 +2,12 @@
 -- Assumes nothing.
 use mathlib.Core.Path.{_≡_}
 use Prim.Native.Nat.{ℕ, zero, suc, _+_}
-use mathlib.Core.Bool.{Bool, cond, not}
+use mathlib.Core.Bool.{Bool, not}
 use mathlib.Core.List.{List, [], _∷_}
 use lib.ListN.{length, getD, take, drop}
 use lib.Dec.{ltb, leb, eqb}
 use Rattle.octets.specs.Bytes.{valueAt}
+use Rattle.laws.specs.First.{first, _⇒_}
 use Rattle.laws.specs.Lists.{all}
 use Rattle.application.specs.Response.{isObject}
 use Rattle.application.specs.declared.Fault.the-variants.{ObjectUnknown, BadParameter}
@@ -27,7 +28,7 @@ answerMax = 113
 
 -- qualifier 17: count and index of one byte; 28: of two; 0 for any other
 unfoldable pub widthOf : ℕ → ℕ
-widthOf qualifier = cond (eqb qualifier 0x17) 1 (cond (eqb qualifier 0x28) 2 0)
+widthOf qualifier = first (eqb qualifier 0x17 ⇒ 1 ∷ eqb qualifier 0x28 ⇒ 2 ∷ []) 0
 
 -- the bytes of n objects, each an index and 11 bytes
 unfoldable pub span : ℕ → ℕ → ℕ
@@ -51,12 +52,16 @@ exact w o =
 -- "Under 3 object bytes 2.2, here and for controls"; "Another object 2.1, else 2.2"
 unfoldable pub formed : List ℕ → Form
 formed o =
-    cond (ltb (length o) 3) (Wrong BadParameter)
-    (cond (isObject 12 1 o)
-    (cond (exact (widthOf (getD o 2 0)) o)
+    first
+    (ltb (length o) 3 ⇒ Wrong BadParameter
+    ∷ not (isObject 12 1 o) ⇒ Wrong ObjectUnknown
+    ∷ not (exact (widthOf (getD o 2 0)) o) ⇒ Wrong BadParameter
+    ∷ [])
     (Objects (widthOf (getD o 2 0)) (countOf (widthOf (getD o 2 0)) o))
-    (Wrong BadParameter))
-    (Wrong ObjectUnknown))
+
+-- the header says n objects, their indices of w bytes
+abbrev pub HasObjects : ℕ → ℕ → List ℕ → Type 0
+HasObjects w n o = formed o ≡ Objects w n
 
 -- ---- the objects
 

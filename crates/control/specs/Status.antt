@@ -1,10 +1,11 @@
 -- The status of each object of SELECT and direct operation, the echo, and the objects that are carried out.
 -- Assumes nothing.
 use Prim.Native.Nat.{ℕ, _+_}
-use mathlib.Core.Bool.{Bool, true, cond, _&&_}
+use mathlib.Core.Bool.{Bool, true, not, cond, _&&_}
 use mathlib.Core.List.{List, [], _∷_, _++_}
 use lib.ListN.{take, drop}
 use lib.Dec.{ltb, eqb}
+use Rattle.laws.specs.First.{first, _⇒_}
 use Rattle.laws.specs.Lists.{member}
 use Rattle.control.specs.declared.Crob.{Crob}
 use Rattle.control.specs.declared.Form.{Form}
@@ -18,15 +19,14 @@ knownCode code = member code (0x01 ∷ 0x03 ∷ 0x04 ∷ 0x41 ∷ 0x81 ∷ [])
 -- count not 1, 4; index already in this request, 8 (house); else 0"
 unfoldable pub statusOf : ℕ → Bool → Crob → ℕ
 statusOf outputs again c =
-    cond (eqb (c .status) 0)
-    (cond (ltb (c .index) outputs)
-    (cond (knownCode (c .code))
-    (cond (eqb (c .count) 1)
-    (cond again 8 0)
-    4)
-    4)
-    4)
-    3
+    first
+    (not (eqb (c .status) 0) ⇒ 3
+    ∷ not (ltb (c .index) outputs) ⇒ 4
+    ∷ not (knownCode (c .code)) ⇒ 4
+    ∷ not (eqb (c .count) 1) ⇒ 4
+    ∷ again ⇒ 8
+    ∷ [])
+    0
 
 -- each in its turn, given the indices of the objects before it in the request
 unfoldable pub statuses : ℕ → List ℕ → List Crob → List ℕ

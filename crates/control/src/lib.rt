@@ -2,11 +2,11 @@
 ghost use mathlib.Core.Path.{_≡_};
 ghost use mathlib.Core.List.{[]};
 ghost use Prim.Native.Nat.{_+_, _≤_, _<_, min};
-ghost use lib.ListN.{length, take};
+ghost use lib.ListN.{length, take, drop};
 ghost use Rattle.octets.specs.Bytes.{splice, valueAt};
 ghost use Rattle.laws.specs.Lists.{member};
-ghost use Rattle.control.specs.Objects.{objectsMax, answerMax, widthOf, span, formed, crobAt, crobs, crobsBy, listOf, Holding, earlierOf};
-ghost use Rattle.control.specs.Status.{knownCode, statusOf, statuses, allZero, echoed, echoWith, chosen};
+ghost use Rattle.control.specs.Objects.{objectsMax, answerMax, widthOf, span, formed, HasObjects, crobAt, crobs, listOf, Holding, earlierOf};
+ghost use Rattle.control.specs.Status.{knownCode, statusOf, statuses, allZero, echoed, echoOf, chosen};
 use application::Fault;
 
 // A control request has at most so many objects.
@@ -159,28 +159,20 @@ fn taken(b: &[u8], w: usize, n: usize) -> Crobs
     next
 }
 
-// The objects of a control request; none where the header is wrong.
-pub fn objects(o: &[u8]) -> Crobs
-    ensures { λ r. ⌜ Holding r (crobsBy (formed (now (o .entry))) (now (o .entry))) ⌝ }
+// The n objects of a control request with this header.
+pub fn objects(o: &[u8], w: usize, n: usize) -> Crobs
+    requires { ⌜ HasObjects w n (now o) ⌝ }
+    ensures { λ r. ⌜ Holding r (crobs w n (drop (3 + w) (now (o .entry)))) ⌝ }
 {
-    match header(o) {
-        Form::Wrong(_) => none(),
-        Form::Objects { width, count } => {
-            let h = 3 + width;
-            taken(&o[h..], width, count)
-        }
-    }
+    let h = 3 + w;
+    taken(&o[h..], w, n)
 }
 
 // How many objects there are.
 fn filled(count: usize) -> usize
     ensures { λ r. ⌜ r ≡ min count objectsMax ⌝ }
 {
-    if count < OBJECTS_MAX {
-        count
-    } else {
-        OBJECTS_MAX
-    }
+    octets::least(count, OBJECTS_MAX)
 }
 
 // The index is that of one of the first n objects.
@@ -304,20 +296,15 @@ fn put_objects(out: &mut [u8], at: usize, b: &[u8], w: usize, ss: &[u8], n: usiz
     }
 }
 
-// Puts the header and the objects with these statuses at 4, and says how many bytes; none where the header is wrong.
-pub fn put_echo(out: &mut [u8], o: &[u8], ss: [u8; OBJECTS_MAX]) -> usize
-    requires { ⌜ answerMax ≤ length (now out) ⌝ }
+// Puts the header and its n objects with these statuses at 4, and says how many bytes.
+pub fn put_echo(out: &mut [u8], o: &[u8], w: usize, n: usize, ss: [u8; OBJECTS_MAX]) -> usize
+    requires { ⌜ (answerMax ≤ length (now out)) × HasObjects w n (now o) ⌝ }
     ensures { λ r. ⌜
-        (now (out .exit) ≡ splice (now (out .entry)) 4 (echoWith (formed (now (o .entry))) ss (now (o .entry))))
-        × (r ≡ length (echoWith (formed (now (o .entry))) ss (now (o .entry)))) ⌝ }
+        (now (out .exit) ≡ splice (now (out .entry)) 4 (echoOf w (take n ss) (now (o .entry))))
+        × (r ≡ length (echoOf w (take n ss) (now (o .entry)))) ⌝ }
 {
-    match header(o) {
-        Form::Wrong(_) => 0,
-        Form::Objects { width, count } => {
-            let h = 3 + width;
-            octets::copy(out, 4, &o[..h]);
-            put_objects(out, 4 + h, &o[h..], width, &ss, count);
-            o.len()
-        }
-    }
+    let h = 3 + w;
+    octets::copy(out, 4, &o[..h]);
+    put_objects(out, 4 + h, &o[h..], w, &ss, n);
+    o.len()
 }

@@ -57,7 +57,7 @@ fn in_time(
         return false;
     }
     if q.0 == awaited.0 {
-        return select::elapsed(sent, time) <= confirm_time;
+        return application::elapsed(sent, time) <= confirm_time;
     }
     false
 }

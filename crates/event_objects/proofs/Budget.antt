@@ -1,7 +1,7 @@
 -- The selection and the encoding agree: what a selection carries takes exactly the room that it counts.
 -- Assumes nothing.
 use mathlib.Core.Path.{_≡_, refl, ap, _∙_}
-use mathlib.Core.Bool.{Bool, true, false, cond}
+use mathlib.Core.Bool.{Bool, true, false, not, cond}
 use mathlib.Core.List.{List, [], _∷_, map}
 use Prim.Native.Nat.{ℕ, _+_, _≤_}
 use native.Mathlib.Omega.{arith}
@@ -47,7 +47,7 @@ module _ (m : Classes) (k : Pack) (h : Held) (us : List Held) (unmarked : carrie
     (passed : sizeAfter 5 (k .kind) (carriedObjects (carry m k us)) + spare m k us ≡ k .left)
     (taken : sizeAfter 5 (packed k (h .event) .kind) (carriedObjects (carry m (packed k (h .event)) us)) + spare m (packed k (h .event)) us ≡ packed k (h .event) .left) where
   turn : (a f : Bool) → fits k (h .event) ≡ f
-      → sizeAfter 5 (k .kind) (carriedObjects (cond a (cond f (marked true h ∷ carry m (packed k (h .event)) us) (marked false h ∷ us)) (marked false h ∷ carry m k us)))
+      → sizeAfter 5 (k .kind) (carriedObjects (cond (not a) (marked false h ∷ carry m k us) (cond (not f) (marked false h ∷ us) (marked true h ∷ carry m (packed k (h .event)) us))))
       + cond a (cond f (spare m (packed k (h .event)) us) (k .left)) (spare m k us)
       ≡ k .left
   unfolding fits packed

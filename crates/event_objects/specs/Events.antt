@@ -5,6 +5,7 @@ use Prim.Native.Nat.{ℕ, suc}
 use mathlib.Core.Bool.{cond}
 use mathlib.Core.List.{List, [], _∷_, _++_, map}
 use lib.Dec.{eqb}
+use Rattle.laws.specs.First.{first, _⇒_}
 use Rattle.laws.specs.Lists.{filter}
 use Rattle.octets.specs.Bytes.{le}
 use Rattle.objects.specs.Values.{valueBytes, stateByte}
@@ -21,7 +22,7 @@ abbrev pub groupOf : ℕ → ℕ
 groupOf k = cond (eqb k 1) 2 32
 
 abbrev pub variationOf : ℕ → ℕ
-variationOf k = cond (eqb k 1) 2 (cond (eqb k 2) 3 (cond (eqb k 3) 4 7))
+variationOf k = first (eqb k 1 ⇒ 2 ∷ eqb k 2 ⇒ 3 ∷ eqb k 3 ⇒ 4 ∷ []) 7
 
 -- group, variation, qualifier 28, the number of objects in two bytes
 abbrev pub eventHeading : Heading
@@ -67,4 +68,4 @@ carriedKind h = cond (h .carried) (kindOf (h .event)) 0
 -- how many of the kind stand in front, those that are not carried passed over
 unfoldable pub leadKind : ℕ → List ℕ → ℕ
 leadKind k [] = 0
-leadKind k (x ∷ xs) = cond (eqb x 0) (leadKind k xs) (cond (eqb x k) (suc (leadKind k xs)) 0)
+leadKind k (x ∷ xs) = first (eqb x 0 ⇒ leadKind k xs ∷ eqb x k ⇒ suc (leadKind k xs) ∷ []) 0

@@ -9,37 +9,38 @@ use native.Mathlib.Omega.{arith}
 use borrow.Author.Tests.{lt-ltb}
 use lib.ListN.{length, take, getD, set, length-take, length-set}
 use lib.Seq.{slice, slice-empty, take-suc-set}
+use Rattle.laws.specs.Limits.{eventsMax}
 use Rattle.laws.proofs.Loops.{take-slice, put, skip, keep, done}
 use Rattle.laws.proofs.Filling.{clamped}
 use Rattle.events.specs.Queue.{Buffer, queue, noHeld, newly, edited, pushed}
 use Rattle.events.specs.declared.Event.{Event}
 use Rattle.events.specs.declared.Held.{Held}
 
-module _ (b : Buffer) (e : Event) (long : length (b .held) ≡ 256) where
-  pub pushed-in : b .count < 256 → queue (record { held = set (b .held) (b .count) (newly e); count = b .count + 1; overflow = b .overflow }) ≡ pushed e (queue b)
+module _ (b : Buffer) (e : Event) (long : length (b .held) ≡ eventsMax) where
+  pub pushed-in : b .count < eventsMax → queue (record { held = set (b .held) (b .count) (newly e); count = b .count + 1; overflow = b .overflow }) ≡ pushed e (queue b)
   unfolding pushed queue
   pushed-in h =
       let n : length (take (b .count) (b .held)) ≡ b .count = length-take (b .count) (b .held) ∙ omega arith in
       let s : take (b .count + 1) (set (b .held) (b .count) (newly e)) ≡ take (b .count) (b .held) ++ (newly e ∷ []) =
       rw add-one (take-suc-set (b .held) (b .count) (newly e) (omega arith)) in
-      rw (n, lt-ltb (b .count) 256 h, s)
+      rw (n, lt-ltb (b .count) eventsMax h, s)
 
-  pub pushed-out : 256 ≤ b .count → queue (record { held = b .held; count = b .count; overflow = true }) ≡ pushed e (queue b)
+  pub pushed-out : eventsMax ≤ b .count → queue (record { held = b .held; count = b .count; overflow = true }) ≡ pushed e (queue b)
   unfolding pushed queue
   pushed-out h =
-      let n : length (take (b .count) (b .held)) ≡ 256 = length-take (b .count) (b .held) ∙ omega arith in
+      let n : length (take (b .count) (b .held)) ≡ eventsMax = length-take (b .count) (b .held) ∙ omega arith in
       rw n
 
 -- what a loop over the first n slots knows: `next` is the buffer as it is, `from` as it was; i slots are read and j written
 pub record Going (G H : List Held → List Held) (n : ℕ) (from next : Buffer) (i j : ℕ) : Type 0 where
   pub read : i ≤ n
   pub written : j ≤ i
-  pub slots : length (next .held) ≡ 256
+  pub slots : length (next .held) ≡ eventsMax
   pub count : next .count ≡ from .count
   pub overflow : next .overflow ≡ from .overflow
   pub rest : take j (next .held) ++ H (slice i n (next .held)) ≡ G (take n (from .held))
 
-module _ (G H K : List Held → List Held) (n : ℕ) (from next : Buffer) (i j : ℕ) (short : n ≤ 256) (below : i < n) (g : Going G H n from next i j) where
+module _ (G H K : List Held → List Held) (n : ℕ) (from next : Buffer) (i j : ℕ) (short : n ≤ eventsMax) (below : i < n) (g : Going G H n from next i j) where
   -- a turn that stores v
   pub stores : (v : Held) → H (getD (next .held) i noHeld ∷ slice (i + 1) n (next .held)) ≡ v ∷ K (slice (i + 1) n (next .held))
       → Going G K n from (record { held = set (next .held) j v; count = next .count; overflow = next .overflow }) (i + 1) (j + 1)
@@ -82,7 +83,7 @@ module _ (G H K : List Held → List Held) (n : ℕ) (from next : Buffer) (i j :
       }
 
 -- where the count is set to the slots written
-pub shortened : (G H : List Held → List Held) (n : ℕ) (from next : Buffer) (i j : ℕ) → length (from .held) ≡ 256 → n ≡ min (from .count) 256
+pub shortened : (G H : List Held → List Held) (n : ℕ) (from next : Buffer) (i j : ℕ) → length (from .held) ≡ eventsMax → n ≡ min (from .count) eventsMax
     → n ≤ i → H [] ≡ [] → Going G H n from next i j
     → queue (record { held = next .held; count = j; overflow = next .overflow }) ≡ edited G (queue from)
 unfolding queue
@@ -92,24 +93,24 @@ shortened G H n from next i j slots least over none g =
       held =
           (sym (done H n i j (next .held) (g .read) over none)
           ∙ g .rest
-          ∙ ap G (clamped (from .held) 256 (from .count) n slots least)) k;
+          ∙ ap G (clamped (from .held) eventsMax (from .count) n slots least)) k;
       overflow = g .overflow k;
     }
 
-module _ (G H : List Held → List Held) (n : ℕ) (from next : Buffer) (i : ℕ) (slots : length (from .held) ≡ 256) (least : n ≡ min (from .count) 256) (g : Going G H n from next i i) where
+module _ (G H : List Held → List Held) (n : ℕ) (from next : Buffer) (i : ℕ) (slots : length (from .held) ≡ eventsMax) (least : n ≡ min (from .count) eventsMax) (g : Going G H n from next i i) where
   -- where the count stays, and the specification leaves what is to come
   pub halted : H (slice i n (next .held)) ≡ slice i n (next .held) → queue next ≡ edited G (queue from)
   unfolding queue
   halted e =
-      let m : n ≡ min (next .count) 256 = omega (arith, g .count) in
+      let m : n ≡ min (next .count) eventsMax = omega (arith, g .count) in
       λ k.
       record {
         held =
-            (sym (clamped (next .held) 256 (next .count) n (g .slots) m)
+            (sym (clamped (next .held) eventsMax (next .count) n (g .slots) m)
             ∙ sym (take-slice n i (next .held) (g .read))
             ∙ ap (λ (r : List Held). take i (next .held) ++ r) (sym e)
             ∙ g .rest
-            ∙ ap G (clamped (from .held) 256 (from .count) n slots least)) k;
+            ∙ ap G (clamped (from .held) eventsMax (from .count) n slots least)) k;
         overflow = g .overflow k;
       }
 

@@ -1,7 +1,7 @@
 -- Laws of the selection: a turn's three answers, and what each makes of the rest.
 -- Assumes nothing.
 use mathlib.Core.Path.{_≡_, refl, ap, _∙_}
-use mathlib.Core.Bool.{Bool, true, false, cond}
+use mathlib.Core.Bool.{Bool, true, false, not, cond}
 use mathlib.Core.List.{List, [], _∷_}
 use Prim.Native.Nat.{ℕ, _-_, _≤_, _<_}
 use borrow.Author.Tests.{le-leb, lt-leb}
@@ -30,17 +30,17 @@ module _ (m : Classes) (k : Pack) (e : Event) where
 
 -- a turn tells its two tests, so it tells any choice by the same two
 module _ {X : Type 0} (p : Pack) (x y z : X) where
-  by-pass : (a f : Bool) → cond a (cond f (Carry p) Stop) Pass ≡ Pass → cond a (cond f x y) z ≡ z
+  by-pass : (a f : Bool) → cond (not a) Pass (cond (not f) Stop (Carry p)) ≡ Pass → cond (not a) z (cond (not f) y x) ≡ z
   by-pass false f e = refl
   by-pass true true e = cc
   by-pass true false e = cc
 
-  by-stop : (a f : Bool) → cond a (cond f (Carry p) Stop) Pass ≡ Stop → cond a (cond f x y) z ≡ y
+  by-stop : (a f : Bool) → cond (not a) Pass (cond (not f) Stop (Carry p)) ≡ Stop → cond (not a) z (cond (not f) y x) ≡ y
   by-stop false f e = cc
   by-stop true true e = cc
   by-stop true false e = refl
 
-  by-carry : (q : Pack) (a f : Bool) → cond a (cond f (Carry p) Stop) Pass ≡ Carry q → (cond a (cond f x y) z ≡ x) × (p ≡ q)
+  by-carry : (q : Pack) (a f : Bool) → cond (not a) Pass (cond (not f) Stop (Carry p)) ≡ Carry q → (cond (not a) z (cond (not f) y x) ≡ x) × (p ≡ q)
   by-carry q false f e = (cc, cc)
   by-carry q true true e = (refl, cc)
   by-carry q true false e = (cc, cc)

@@ -1,8 +1,10 @@
 -- Which events are asked for, and whether one fits into a response (document 01, READ). Said once over all kinds of events.
 -- Assumes nothing.
 use Prim.Native.Nat.{ℕ, _+_, _-_}
-use mathlib.Core.Bool.{Bool, false, cond}
+use mathlib.Core.Bool.{Bool, false, not, cond}
+use mathlib.Core.List.{[], _∷_}
 use lib.Dec.{leb, eqb}
+use Rattle.laws.specs.First.{first, _⇒_}
 use Rattle.points.specs.declared.Value.{Value}
 use Rattle.points.specs.declared.Value.the-variants.{Long, Short, Real}
 use Rattle.events.specs.declared.Shown.{Shown}
@@ -15,7 +17,7 @@ use Rattle.events.specs.declared.Turn.the-variants.{Pass, Stop, Carry}
 
 -- the class is one of those asked for
 abbrev pub asked : Classes → ℕ → Bool
-asked m c = cond (eqb c 1) (m .one) (cond (eqb c 2) (m .two) (cond (eqb c 3) (m .three) false))
+asked m c = first (eqb c 1 ⇒ m .one ∷ eqb c 2 ⇒ m .two ∷ eqb c 3 ⇒ m .three ∷ []) false
 
 -- the kind of an event's object: 1 is 2 var 2, 2 is 32 var 3 (32-bit), 3 is 32 var 4 (16-bit), 4 is 32 var 7 (float)
 abbrev pub valueKind : Value → ℕ
@@ -32,7 +34,7 @@ kindOf e = shownKind (e .shown)
 
 -- the bytes of an object with its index: index 2, flags 1, value 0, 4 or 2, time 6
 abbrev pub sizeOf : ℕ → ℕ
-sizeOf k = cond (eqb k 1) 9 (cond (eqb k 3) 11 13)
+sizeOf k = first (eqb k 1 ⇒ 9 ∷ eqb k 3 ⇒ 11 ∷ []) 13
 
 -- a response with so many bytes left for events, and none yet
 abbrev pub emptyPack : ℕ → Pack
@@ -51,4 +53,4 @@ packed k e = record { left = k .left - costOf k (kindOf e); kind = kindOf e }
 
 -- what the selection does with an event: "oldest first, each once, up to the first that would not fit beside the static part"
 unfoldable pub turnOf : Classes → Pack → Event → Turn
-turnOf m k e = cond (asked m (e .class)) (cond (fits k e) (Carry (packed k e)) Stop) Pass
+turnOf m k e = first (not (asked m (e .class)) ⇒ Pass ∷ not (fits k e) ⇒ Stop ∷ []) (Carry (packed k e))

@@ -5,6 +5,8 @@ use mathlib.Core.Bool.{Bool, true, false, cond, not, _&&_}
 use mathlib.Core.List.{List, [], _∷_, _++_, map}
 use lib.Dec.{ltb, eqb}
 use lib.ListN.{length, take}
+use Rattle.laws.specs.First.{first, _⇒_}
+use Rattle.laws.specs.Limits.{eventsMax}
 use Rattle.laws.specs.Lists.{filter, some}
 use Rattle.events.specs.declared.Event.{Event}
 use Rattle.events.specs.declared.Held.{Held}
@@ -46,7 +48,7 @@ edited G q = record { held = G (q .held); overflow = q .overflow }
 -- "An event raised while 256 are held is dropped; otherwise it is held."
 unfoldable pub pushed : Event → Queue → Queue
 pushed e q =
-    cond (ltb (length (q .held)) 256)
+    cond (ltb (length (q .held)) eventsMax)
     (record { held = q .held ++ (newly e ∷ []); overflow = q .overflow })
     (record { held = q .held; overflow = true })
 
@@ -58,9 +60,11 @@ cleared = edited (map (marked false))
 unfoldable pub carry : Classes → Pack → List Held → List Held
 carry m k [] = []
 carry m k (h ∷ hs) =
-    cond (asked m (h .event .class))
-    (cond (fits k (h .event)) (marked true h ∷ carry m (packed k (h .event)) hs) (h ∷ hs))
-    (h ∷ carry m k hs)
+    first
+    (not (asked m (h .event .class)) ⇒ (h ∷ carry m k hs)
+    ∷ not (fits k (h .event)) ⇒ (h ∷ hs)
+    ∷ [])
+    (marked true h ∷ carry m (packed k (h .event)) hs)
 
 -- a response with so many bytes left for events
 abbrev pub selected : Classes → ℕ → Queue → Queue

@@ -3,6 +3,7 @@ ghost use mathlib.Core.Path.{_≡_};
 ghost use mathlib.Core.Bool.{_||_};
 ghost use Prim.Native.Nat.{min, _≤_};
 ghost use lib.Dec.{eqb};
+ghost use Rattle.laws.specs.Limits.{eventsMax};
 ghost use Rattle.events.specs.Placing.{kindOf, sizeOf, asked, costOf, turnOf};
 use points::Value;
 
@@ -45,9 +46,9 @@ pub struct Pack {
 
 // How many slots hold an event.
 pub fn filled(count: usize) -> usize
-    ensures { λ r. ⌜ r ≡ min count 256 ⌝ }
+    ensures { λ r. ⌜ r ≡ min count eventsMax ⌝ }
 {
-    if count < CAPACITY { count } else { CAPACITY }
+    octets::least(count, CAPACITY)
 }
 
 // Whether events of the class are asked for.

@@ -66,7 +66,7 @@ fn put_refusal(n: u8, out: &mut [u8], at: usize) -> usize {
 // The words and the bytes used, or `no N`.
 pub fn put_outcome(o: Outcome, words: &[u8], lent: &[u8], out: &mut [u8], at: usize) -> usize {
     if o.refusal == 0 {
-        let used = least(o.used, lent.len());
+        let used = octets::least(o.used, lent.len());
         let a = text::put_bytes(out, at, words);
         return text::put_run(out, a, &lent[0..used]);
     }
@@ -84,7 +84,7 @@ pub fn ended(spoilt: bool, out: &mut [u8], at: usize) -> usize {
 
 // The same, where the lent bytes past those used are as they were filled.
 pub fn ended_past(used: usize, lent: &[u8], out: &mut [u8], at: usize) -> usize {
-    let from = least(used, lent.len());
+    let from = octets::least(used, lent.len());
     ended(changed(&lent[from..]), out, at)
 }
 
@@ -107,12 +107,6 @@ pub fn taken(refusal: u8, out: &mut [u8], at: usize) -> usize {
 pub fn number(out: &mut [u8], at: usize, mark: u8, n: u16) -> usize {
     let a = text::put(out, at, mark);
     text::put_decimal(out, a, n as u64)
-}
-
-pub fn least(a: usize, b: usize) -> usize
-    ensures { λ r. ⌜ (r ≤ a) × (r ≤ b) ⌝ }
-{
-    if a < b { a } else { b }
 }
 
 pub fn fill(s: &mut [u8]) {

@@ -63,7 +63,7 @@ pub fn frame_write(
     if !text::finished(f.next) {
         return answers::answer(out, at, b"fault");
     }
-    let room = answers::least(f.size, lent.len());
+    let room = octets::least(f.size, lent.len());
     let n = f.len;
     let o = written(f, &bytes[0..n], &mut lent[0..room]);
     answers::tell(o, b"frame ", &lent[0..room], out, at)

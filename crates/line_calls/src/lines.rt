@@ -26,25 +26,25 @@ pub enum LineCall {
 
 // The call of this name.
 pub fn line_call_of(w: &[u8]) -> LineCall {
-    if text::same(w, b"station") {
+    if octets::equal(w, b"station") {
         return LineCall::Lent(LentCall::Station);
     }
-    if text::same(w, b"record") {
+    if octets::equal(w, b"record") {
         return LineCall::Record;
     }
-    if text::same(w, b"seg") {
+    if octets::equal(w, b"seg") {
         return LineCall::Lent(LentCall::Seg);
     }
-    if text::same(w, b"send") {
+    if octets::equal(w, b"send") {
         return LineCall::Lent(LentCall::Send);
     }
-    if text::same(w, b"frame-write") {
+    if octets::equal(w, b"frame-write") {
         return LineCall::FrameWrite;
     }
-    if text::same(w, b"frame-read") {
+    if octets::equal(w, b"frame-read") {
         return LineCall::Lent(LentCall::FrameRead);
     }
-    if text::same(w, b"crc") {
+    if octets::equal(w, b"crc") {
         return LineCall::Crc;
     }
     LineCall::Unknown
@@ -95,7 +95,7 @@ fn lent_call(
         return session::told(s, out, at, b"none");
     }
     let n = a.len;
-    let room = answers::least(a.size, lent.len());
+    let room = octets::least(a.size, lent.len());
     given_call(k, s, &bytes[0..n], &mut lent[0..room], heard, out, at)
 }
 

@@ -19,7 +19,7 @@ pub fn seg(
     out: &mut [u8],
     at: usize,
 ) -> Session {
-    let room = answers::least(before.len(), heard.len());
+    let room = octets::least(before.len(), heard.len());
     hear(
         s,
         segment,
@@ -75,7 +75,7 @@ fn put_received(a: Received, o: Outcome, lent: &[u8], out: &mut [u8], at: usize)
 
 // Some byte past those used is not as it was before.
 fn differ_past(used: usize, lent: &[u8], before: &[u8]) -> bool {
-    let from = answers::least(answers::least(used, lent.len()), before.len());
+    let from = octets::least(octets::least(used, lent.len()), before.len());
     answers::differ(&lent[from..], &before[from..])
 }
 
@@ -138,7 +138,7 @@ fn sent_one(
     let a = r.answer;
     let o = sent_outcome(a);
     let from = if o.refusal == 0 { now.at } else { begin };
-    let used = answers::least(o.used, lent.len());
+    let used = octets::least(o.used, lent.len());
     Progress {
         sender,
         at: answers::put_outcome(o, b" ", lent, out, from),

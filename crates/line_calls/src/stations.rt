@@ -131,6 +131,6 @@ fn put_reply(control: u8, st: link::Station, out: &mut [u8], at: usize) -> usize
     let frame::Wrote::Size(n) = r else {
         return c;
     };
-    let k = answers::least(n, 292);
+    let k = octets::least(n, 292);
     text::put_hex(out, c, &f[0..k])
 }

@@ -1,7 +1,8 @@
-// Numbers of several bytes, lowest byte first, put into and taken from bytes at an offset.
+// Numbers of several bytes, lowest byte first, put into and taken from bytes at an offset; byte strings copied and compared.
 ghost use mathlib.Core.Path.{_≡_};
 ghost use Prim.Native.Nat.{_+_, _^_, _≤_, _<_, min};
 ghost use lib.ListN.{length};
+ghost use Rattle.laws.specs.Lists.{same};
 ghost use Rattle.octets.specs.Bytes.{splice, le, valueAt};
 
 // Puts the n low bytes of v at the offset.
@@ -18,13 +19,6 @@ pub fn put(b: &mut [u8], at: usize, n: usize, v: u64)
         to += 1;
         left -= 1;
     }
-}
-
-pub fn put1(b: &mut [u8], at: usize, v: u8)
-    requires { ⌜ at + 1 ≤ length (now b) ⌝ }
-    ensures { λ _. ⌜ now (b .exit) ≡ splice (now (b .entry)) at (le 1 v) ⌝ }
-{
-    put(b, at, 1, v as u64)
 }
 
 pub fn put2(b: &mut [u8], at: usize, v: u16)
@@ -48,13 +42,6 @@ pub fn put6(b: &mut [u8], at: usize, v: u64)
     put(b, at, 6, v)
 }
 
-pub fn put8(b: &mut [u8], at: usize, v: u64)
-    requires { ⌜ at + 8 ≤ length (now b) ⌝ }
-    ensures { λ _. ⌜ now (b .exit) ≡ splice (now (b .entry)) at (le 8 v) ⌝ }
-{
-    put(b, at, 8, v)
-}
-
 // The number of n bytes at the offset, n at most 8.
 pub fn take(s: &[u8], at: usize, n: usize) -> u64
     requires { ⌜ (at + n ≤ length (now s)) × (n ≤ 8) ⌝ }
@@ -75,13 +62,6 @@ fn wide(x: u8) -> u64
     x as u64
 }
 
-pub fn take1(s: &[u8], at: usize) -> u8
-    requires { ⌜ at + 1 ≤ length (now s) ⌝ }
-    ensures { λ r. ⌜ r ≡ valueAt 1 at (now (s .entry)) ⌝ }
-{
-    take(s, at, 1) as u8
-}
-
 pub fn take2(s: &[u8], at: usize) -> u16
     requires { ⌜ at + 2 ≤ length (now s) ⌝ }
     ensures { λ r. ⌜ r ≡ valueAt 2 at (now (s .entry)) ⌝ }
@@ -96,25 +76,28 @@ pub fn take4(s: &[u8], at: usize) -> u32
     take(s, at, 4) as u32
 }
 
-pub fn take6(s: &[u8], at: usize) -> u64
-    requires { ⌜ at + 6 ≤ length (now s) ⌝ }
-    ensures { λ r. ⌜ r ≡ valueAt 6 at (now (s .entry)) ⌝ }
-{
-    take(s, at, 6)
-}
-
-pub fn take8(s: &[u8], at: usize) -> u64
-    requires { ⌜ at + 8 ≤ length (now s) ⌝ }
-    ensures { λ r. ⌜ r ≡ valueAt 8 at (now (s .entry)) ⌝ }
-{
-    take(s, at, 8)
-}
-
 // The smaller of two.
 pub fn least(a: usize, b: usize) -> usize
     ensures { λ r. ⌜ r ≡ min a b ⌝ }
 {
     if a < b { a } else { b }
+}
+
+// The two byte strings are equal.
+pub fn equal(a: &[u8], b: &[u8]) -> bool
+    ensures { λ r. ⌜ r ≡ same (now (a .entry)) (now (b .entry)) ⌝ }
+{
+    if a.len() != b.len() {
+        return false;
+    }
+    let mut i = 0;
+    while i < a.len() {
+        if a[i] != b[i] {
+            return false;
+        }
+        i += 1;
+    }
+    true
 }
 
 // Copies s to the offset.

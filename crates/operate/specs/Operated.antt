@@ -6,6 +6,7 @@ use mathlib.Core.Bool.{Bool, true, false, cond}
 use mathlib.Core.List.{List, [], _∷_, _++_}
 use lib.Dec.{eqb, ltb}
 use lib.ListN.{length, drop}
+use Rattle.laws.specs.First.{first, _⇒_}
 use Rattle.laws.specs.Limits.{fragmentMax}
 use Rattle.application.specs.Fragment.{objectsOf}
 use Rattle.control.specs.declared.Crob.{Crob}
@@ -44,9 +45,11 @@ unfoldable pub requestOf : Call → World → List Request
 requestOf (reading r) w = []
 requestOf (table rs) w = []
 requestOf (fragment time f room) w =
-    cond (badTime (w .shared .clock) time) []
-    (cond (ltb room fragmentMax) []
-    (requestBy (ask (w .shared .inputs) f) w time f))
+    first
+    (badTime (w .shared .clock) time ⇒ []
+    ∷ ltb room fragmentMax ⇒ []
+    ∷ [])
+    (requestBy (ask (w .shared .inputs) f) w time f)
 
 -- the accepted requests of a list of calls, the latest first, those of h before them
 abbrev pub requestsAfter : List Call → World → List Request → List Request

@@ -8,6 +8,7 @@ use native.Mathlib.Omega.{arith}
 use borrow.Author.Tests.{le-leb, leb-true, ne-eqb, eq-eqb}
 use lib.Dec.{leb, eqb}
 use lib.ListN.{take}
+use Rattle.laws.specs.Limits.{pointsMax}
 use Rattle.laws.specs.Lists.{all}
 use Rattle.laws.proofs.AllLaws.{refuted}
 use Rattle.points.specs.Setup.{classOk, analogOk}
@@ -15,8 +16,8 @@ use Rattle.outstation.specs.Setup.{Setup, binaryClasses, analogSetups, s
 
 -- the limits that are tests of numbers
 pub record Bounds (u : Setup) : Type 0 where
-  pub binaries : u .«binary_count» ≤ 64
-  pub analogs : u .«analog_count» ≤ 64
+  pub binaries : u .«binary_count» ≤ pointsMax
+  pub analogs : u .«analog_count» ≤ pointsMax
   pub outputs : u .outputs ≤ 16
   pub own : u .own ≤ 65519
   pub master : u .master ≤ 65519
@@ -38,8 +39,8 @@ unlike a b h e =
 pub bounds : (u : Setup) → setupOk u ≡ true → Bounds u
 unfolding setupOk
 bounds u h =
-    let a = first (leb (u .«binary_count») 64) _ h in
-    let b = first (leb (u .«analog_count») 64) _ (a .1) in
+    let a = first (leb (u .«binary_count») pointsMax) _ h in
+    let b = first (leb (u .«analog_count») pointsMax) _ (a .1) in
     let d = first (leb (u .outputs) 16) _ (b .1) in
     let e = first (leb (u .own) 65519) _ (d .1) in
     let f = first (leb (u .master) 65519) _ (e .1) in

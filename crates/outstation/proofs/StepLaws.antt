@@ -2,7 +2,7 @@
 -- that is refused.
 -- Assumes nothing.
 use mathlib.Core.Path.{_≡_, refl, sym, ap, _∙_, subst}
-use mathlib.Core.Bool.{Bool, true, false, cond}
+use mathlib.Core.Bool.{Bool, true, false, not, cond}
 use mathlib.Core.List.{List, [], _∷_}
 use Prim.Native.Nat.{ℕ, suc, _+_, _<_, zero-le, suc-le-suc}
 use native.Mathlib.Nat.{suc-add, add-suc, add-zero, le-of-suc-le-suc}
@@ -82,7 +82,7 @@ whole-by (Ks.Real t) p z flags = no _ 2 (omega arith)
 float-by : (m : Measure) (p : AnalogPoint) (x : Float) (flags : ℕ) → Numbered (floatBy m p x flags)
 float-by (Ks.Long t) p x flags = no _ 2 (omega arith)
 float-by (Ks.Short t) p x flags = no _ 2 (omega arith)
-float-by (Ks.Real t) p x flags = either (finite x) _ _ (by-flags (flagsAbove flags) _) (no _ 3 (omega arith))
+float-by (Ks.Real t) p x flags = either (not (finite x)) _ _ (no _ 3 (omega arith)) (by-flags (flagsAbove flags) _)
 
 whole-numbered : (p : AnalogPoint) (z : ℤ) (flags : ℕ) → Numbered (wholeReading p z flags)
 unfolding wholeReading

@@ -3,10 +3,12 @@
 use mathlib.Core.Path.{_≡_}
 use Prim.Native.Nat.{ℕ}
 use mathlib.Core.Bool.{cond}
+use mathlib.Core.List.{[], _∷_}
 use lib.Dec.{eqb}
 use lib.Ieee.{binary32, ofBits}
 use mir.Syntax.{w32}
 use mir.Val.{toZ}
+use Rattle.laws.specs.First.{first, _⇒_}
 use Rattle.words.specs.Numbers.{holds}
 use Rattle.outstation.specs.declared.Head.{Head}
 use Rattle.outstation.specs.declared.Reading.{Reading}
@@ -34,7 +36,7 @@ ReadingDid h w r n h₁ w₁ = (m : Lent) → Did (on h w m) (reading r) (tookBy
 -- ---- a reading as numbers; kind 0: a binary's state; 1: a whole reading; any other: a float's
 
 abbrev pub measuredOf : (kind bits : ℕ) → Measured
-measuredOf kind bits = cond (eqb kind 0) (Ms.State (holds bits)) (cond (eqb kind 1) (Ms.Whole (toZ w32 bits)) (Ms.Real (ofBits binary32 bits)))
+measuredOf kind bits = first (eqb kind 0 ⇒ Ms.State (holds bits) ∷ eqb kind 1 ⇒ Ms.Whole (toZ w32 bits) ∷ []) (Ms.Real (ofBits binary32 bits))
 
 abbrev pub readingOf : ReadingWords → Reading
 readingOf w = record { time = w .time; point = w .point; measured = measuredOf (w .kind) (w .bits); flags = w .flags }

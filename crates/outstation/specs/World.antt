@@ -3,6 +3,7 @@
 use Prim.Native.Nat.{ℕ}
 use mathlib.Core.Bool.{Bool, true, false}
 use mathlib.Core.List.{[], map}
+use Rattle.laws.specs.Limits.{pointsMax}
 use Rattle.points.specs.Inputs.{Inputs}
 use lib.ListN.{replicate}
 use Rattle.points.specs.Setup.{freshBinary, freshAnalog}
@@ -91,6 +92,6 @@ bareSetup =
       outputs = 0;
       «binary_count» = 0;
       «analog_count» = 0;
-      classes = replicate 64 0;
-      analogs = replicate 64 (record { class = 0; kind = Ks.Long W.Never });
+      classes = replicate pointsMax 0;
+      analogs = replicate pointsMax (record { class = 0; kind = Ks.Long W.Never });
     }

@@ -255,7 +255,7 @@ fn count_of(w: &[u8], c: text::Cursor) -> Count {
 
 // How many words are given for so many points.
 fn given(n: u8) -> usize {
-    if n < 64 { n as usize } else { POINTS_MAX }
+    octets::least(n as usize, POINTS_MAX)
 }
 
 // OWN MASTER ARM CONFIRM NB NA NO BINARY.. ANALOG..
@@ -321,7 +321,7 @@ fn restarted_with(
     binaries: &mut [u32; BINARY_WORDS],
     analogs: &mut [u32; ANALOG_WORDS],
 ) -> Restarted {
-    let n = line_calls::answers::least(t.binaries, classes.len());
+    let n = octets::least(t.binaries, classes.len());
     restarted(t, w, &classes[0..n], binaries, analogs)
 }
 

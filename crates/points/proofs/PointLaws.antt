@@ -136,7 +136,7 @@ unfolding floatReading
 float-reading-ok p x flags h = go (p .measure) (h .measure)
   where
     real : (t : FloatTrack) (f : ℕ) → TrackOk t → (a b : Bool) → finite x ≡ a →
-        AnalogAfterOk (cond a (cond b (refused 4) (accepted (realAfter p t (shownOf (t .scale) x .value) f))) (refused 3))
+        AnalogAfterOk (cond (not a) (refused 3) (cond b (refused 4) (accepted (realAfter p t (shownOf (t .scale) x .value) f))))
     real t f k false b e = tt
     real t f k true true e = tt
     real t f k true false e =

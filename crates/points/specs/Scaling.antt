@@ -1,10 +1,12 @@
 -- The value that a point shows (document 01, "Readings").
 -- Assumes nothing.
-use mathlib.Core.Bool.{Bool, true, false, cond}
+use mathlib.Core.Bool.{Bool, true, false}
+use mathlib.Core.List.{[], _∷_}
 use Prim.Native.Nat.{zero, suc}
 use lib.IntN.{ℤ, pos, negsuc}
 use lib.Signed.{ltZ}
 use lib.Ieee.{Float, nan, inf, fin, binary32, mul, add}
+use Rattle.laws.specs.First.{first, _⇒_}
 use Rattle.points.specs.declared.Scale.{Scale}
 use Rattle.points.specs.declared.Scaled.{Scaled}
 use Rattle.points.specs.declared.Clamped.{Clamped}
@@ -30,9 +32,11 @@ shownOf s x = limitedTo (scaled x (s .gain) (s .offset))
 -- "A 16-bit point outside −32,768 to 32,767 shows the nearer end with over-range."
 unfoldable pub clampedTo : ℤ → Clamped
 clampedTo z =
-    cond (ltZ (pos 32767) z) (record { value = pos 32767; over = true })
-    (cond (ltZ z (negsuc 32767)) (record { value = negsuc 32767; over = true })
-    (record { value = z; over = false }))
+    first
+    (ltZ (pos 32767) z ⇒ record { value = pos 32767; over = true }
+    ∷ ltZ z (negsuc 32767) ⇒ record { value = negsuc 32767; over = true }
+    ∷ [])
+    (record { value = z; over = false })
 
 -- ---- for the theorem "Gain 1 and offset plus zero give back the reading's own bits, but minus zero gives plus zero."
 

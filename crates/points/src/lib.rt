@@ -6,6 +6,7 @@ ghost use lib.IntN.{natAbs, _-ℤ_};
 ghost use Rattle.points.specs.Scaling.{shownOf, limitedTo, clampedTo};
 ghost use Rattle.points.specs.Gate.{distanceOf, floatGated, wholeGated};
 ghost use mathlib.Core.Bool.{cond};
+ghost use Rattle.laws.specs.Limits.{pointsMax};
 ghost use Rattle.laws.specs.Outcome.{accepted};
 ghost use Rattle.points.specs.Reading.{
   overRange,
@@ -129,13 +130,9 @@ pub const POINTS_MAX: usize = 64;
 
 // How many points of a kind are installed: a count past the array has all of it.
 pub fn installed(count: usize) -> usize
-    ensures { λ r. ⌜ r ≡ min count 64 ⌝ }
+    ensures { λ r. ⌜ r ≡ min count pointsMax ⌝ }
 {
-    if count < POINTS_MAX {
-        count
-    } else {
-        POINTS_MAX
-    }
+    octets::least(count, POINTS_MAX)
 }
 
 // What a binary reading comes to: the point's new record and whether an event is raised, or refusal 4.

@@ -12,7 +12,7 @@ use lib.ListN.{length, drop, replicate}
 use Rattle.laws.specs.Lists.{all, same}
 use Rattle.application.specs.Fragment.{nextOf}
 use Rattle.laws.proofs.SameLaws.{same-eq, same-refl}
-use Rattle.laws.proofs.AllLaws.{all-two}
+use Rattle.laws.proofs.AllLaws.{all-three}
 use Rattle.control.specs.declared.Crob.{Crob}
 use Rattle.control.specs.declared.Form.{Form}
 use Rattle.control.specs.declared.Form.the-variants.{Wrong, Objects}
@@ -60,20 +60,20 @@ pub operate-zero : (arm : ℕ) (l : Selection) (sequence time : ℕ) (o : List �
 unfolding operateStatus
 operate-zero arm noSelect sequence time o h = absurd (omega arith)
 operate-zero arm (selected q t s) sequence time o h =
-    go (all (same o s ∷ eqb sequence (nextOf q) ∷ [])) (leb (time - t) arm) refl refl h where
-      go : (x y : Bool) → all (same o s ∷ eqb sequence (nextOf q) ∷ []) ≡ x → leb (time - t) arm ≡ y → _≡_ {A = ℕ} (cond x (cond y 0 1) 2) 0
+    go (all (same o s ∷ eqb sequence (nextOf q) ∷ leb (time - t) arm ∷ [])) (all (same o s ∷ eqb sequence (nextOf q) ∷ [])) refl h where
+      go : (x y : Bool) → all (same o s ∷ eqb sequence (nextOf q) ∷ leb (time - t) arm ∷ []) ≡ x → _≡_ {A = ℕ} (cond x 0 (cond y 1 2)) 0
           → Armed arm (selected q t s) sequence time o
-      go true true e k z =
-          let b = all-two (same o s) (eqb sequence (nextOf q)) e in
+      go true y e z =
+          let b = all-three (same o s) (eqb sequence (nextOf q)) (leb (time - t) arm) e in
           record {
             selectSequence = q;
             selectTime = t;
             latched = ap (selected q t) (sym (same-eq o s (b .0)));
             next = eqb-true sequence (nextOf q) (b .1);
-            timely = leb-true (time - t) arm k;
+            timely = leb-true (time - t) arm (b .2);
           }
-      go true false e k z = absurd (omega arith)
-      go false y e k z = absurd (omega arith)
+      go false true e z = absurd (omega arith)
+      go false false e z = absurd (omega arith)
 
 -- ---- a request that leaves the latch armed is a SELECT with all statuses 0, and leaves it armed with its own sequence, time and objects
 

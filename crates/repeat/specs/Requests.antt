@@ -4,6 +4,7 @@ use Prim.Native.Nat.{ℕ, _≤_}
 use mathlib.Core.Bool.{Bool, cond}
 use mathlib.Core.List.{List, [], _∷_, _++_}
 use lib.Dec.{eqb}
+use Rattle.laws.specs.First.{first, _⇒_}
 use Rattle.application.specs.Fragment.{controlOf, sequenceOf, functionOf, objectsOf}
 use Rattle.control.specs.declared.Crob.{Crob}
 use Rattle.select.specs.declared.ControlFunction.{ControlFunction}
@@ -54,11 +55,13 @@ module _ (outputs arm : ℕ) where
   -- functions 3 to 6 are controls; every other request hands over nothing and empties the latch
   abbrev pub byFunction : ℕ → Selection → Request → Acted
   byFunction n l r =
-      cond (eqb n 3) (controls Select l r)
-      (cond (eqb n 4) (controls Operate l r)
-      (cond (eqb n 5) (controls DirectOperate l r)
-      (cond (eqb n 6) (controls DirectOperateNoResponse l r)
-      (record { carried = []; latch = noSelect }))))
+      first
+      (eqb n 3 ⇒ controls Select l r
+      ∷ eqb n 4 ⇒ controls Operate l r
+      ∷ eqb n 5 ⇒ controls DirectOperate l r
+      ∷ eqb n 6 ⇒ controls DirectOperateNoResponse l r
+      ∷ [])
+      (record { carried = []; latch = noSelect })
 
   unfoldable pub acted : Selection → Request → Acted
   acted l r = byFunction (functionIn r) l r

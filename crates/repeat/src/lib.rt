@@ -57,7 +57,7 @@ pub fn repeats(
     }
     let n = octets::least(lengths.request_len, FRAGMENT_MAX);
     let whole = &request[..];
-    application::equal(f, &whole[..n])
+    octets::equal(f, &whole[..n])
 }
 
 // Puts the kept answer at the front of the lent bytes, and says its length.

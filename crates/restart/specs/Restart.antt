@@ -3,10 +3,11 @@
 use Prim.Native.Nat.{ℕ, _+_}
 use mathlib.Core.Path.{_≡_}
 use mathlib.Core.Bool.{Bool, true, false, cond}
-use mathlib.Core.List.{List, [], map}
+use mathlib.Core.List.{List, [], _∷_, map}
 use lib.Dec.{eqb, ltb}
 use lib.Ieee.{binary32, ofBits}
 use lib.ListN.{length}
+use Rattle.laws.specs.First.{first, _⇒_}
 use Rattle.points.specs.declared.AnalogKind.{AnalogKind}
 use Rattle.points.specs.declared.AnalogKind.the-variants as Ks
 use Rattle.points.specs.declared.AnalogSetup.{AnalogSetup}
@@ -24,9 +25,11 @@ use Rattle.restart.specs.declared.Restarted.{Restarted}
 -- kind 0: a 32-bit point; 1: a 16-bit point; any other: a float point
 abbrev pub analogKindOf : AnalogSetupWords → AnalogKind
 analogKindOf w =
-    cond (eqb (w .kind) 0) (Ks.Long (wholeGateOf (w .gate) (w .limit)))
-    (cond (eqb (w .kind) 1) (Ks.Short (wholeGateOf (w .gate) (w .limit)))
-    (Ks.Real (floatGateOf (w .gate) (w .limit)) (record { gain = ofBits binary32 (w .gain); offset = ofBits binary32 (w .offset) })))
+    first
+    (eqb (w .kind) 0 ⇒ Ks.Long (wholeGateOf (w .gate) (w .limit))
+    ∷ eqb (w .kind) 1 ⇒ Ks.Short (wholeGateOf (w .gate) (w .limit))
+    ∷ [])
+    (Ks.Real (floatGateOf (w .gate) (w .limit)) (record { gain = ofBits binary32 (w .gain); offset = ofBits binary32 (w .offset) }))
 
 unfoldable pub analogSetupOf : AnalogSetupWords → AnalogSetup
 analogSetupOf w = record { class = w .class; kind = analogKindOf w }

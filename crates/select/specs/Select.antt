@@ -7,6 +7,7 @@ use mathlib.Core.List.{List, [], _∷_}
 use lib.ListN.{length, take, drop, replicate}
 use lib.Dec.{leb, eqb}
 use Rattle.octets.specs.Bytes.{splice}
+use Rattle.laws.specs.First.{first, _⇒_}
 use Rattle.laws.specs.Lists.{all, same}
 use Rattle.application.specs.Fragment.{nextOf}
 use Rattle.application.specs.declared.Fault.{Fault}
@@ -57,7 +58,11 @@ latchOf l = cond (l .armed) (selected (l .sequence .0) (l .time) (take (l .len) 
 unfoldable pub operateStatus : ℕ → Selection → ℕ → ℕ → List ℕ → ℕ
 operateStatus arm noSelect sequence time o = 2
 operateStatus arm (selected q t s) sequence time o =
-    cond (all (same o s ∷ eqb sequence (nextOf q) ∷ [])) (cond (leb (time - t) arm) 0 1) 2
+    first
+    (all (same o s ∷ eqb sequence (nextOf q) ∷ leb (time - t) arm ∷ []) ⇒ 0
+    ∷ all (same o s ∷ eqb sequence (nextOf q) ∷ []) ⇒ 1
+    ∷ [])
+    2
 
 -- ---- what a request does
 

@@ -1,10 +1,10 @@
 // The select latch, and what a control request does to it, to the answer and to the outputs.
 ghost use mathlib.Core.Path.{_≡_};
-ghost use Prim.Native.Nat.{_-_, _≤_, _<_};
+ghost use Prim.Native.Nat.{_≤_, _<_};
 ghost use lib.ListN.{length, take};
 ghost use Rattle.octets.specs.Bytes.{splice};
-ghost use Rattle.control.specs.Objects.{objectsMax, echoMax, answerMax, formed, listOf, Holding};
-ghost use Rattle.control.specs.Status.{echoWith};
+ghost use Rattle.control.specs.Objects.{objectsMax, echoMax, answerMax, HasObjects, listOf, Holding};
+ghost use Rattle.control.specs.Status.{echoOf};
 ghost use Rattle.select.specs.Select.{
   noSelect,
   selected,
@@ -52,13 +52,6 @@ pub struct Controlled {
     pub latch: Latch,
 }
 
-// The time from one to the other, 0 where the other is earlier.
-pub fn elapsed(from: u64, to: u64) -> u64
-    ensures { λ r. ⌜ r ≡ to - from ⌝ }
-{
-    if from < to { to - from } else { 0 }
-}
-
 // No select.
 pub fn empty() -> Latch
     ensures { λ r. ⌜ (latchOf r ≡ noSelect) × (r .len ≤ echoMax) ⌝ }
@@ -104,14 +97,14 @@ pub fn operate(
     }
     let objects = latch.objects;
     let n = octets::least(latch.len, ECHO_MAX);
-    if !application::equal(o, &objects[..n]) {
+    if !octets::equal(o, &objects[..n]) {
         return 2;
     }
     let expected = application::next(latch.sequence);
     if sequence.0 != expected.0 {
         return 2;
     }
-    if arm_time < elapsed(latch.time, time) {
+    if arm_time < application::elapsed(latch.time, time) {
         1
     } else {
         0
@@ -198,17 +191,24 @@ fn latch_after(
     }
 }
 
-// Puts the echo, where the function is answered, and says its length.
-fn answer(f: ControlFunction, out: &mut [u8], o: &[u8], ss: [u8; OBJECTS_MAX]) -> usize
-    requires { ⌜ answerMax ≤ length (now out) ⌝ }
+// Puts the echo of n objects, where the function is answered, and says its length.
+fn answer(
+    f: ControlFunction,
+    out: &mut [u8],
+    o: &[u8],
+    w: usize,
+    n: usize,
+    ss: [u8; OBJECTS_MAX],
+) -> usize
+    requires { ⌜ (answerMax ≤ length (now out)) × HasObjects w n (now o) ⌝ }
     ensures { λ r. ⌜
-        (now (out .exit) ≡ splice (now (out .entry)) 4 (echoBy f (echoWith (formed (now (o .entry))) ss (now (o .entry)))))
-        × (r ≡ length (echoBy f (echoWith (formed (now (o .entry))) ss (now (o .entry))))) ⌝ }
+        (now (out .exit) ≡ splice (now (out .entry)) 4 (echoBy f (echoOf w (take n ss) (now (o .entry)))))
+        × (r ≡ length (echoBy f (echoOf w (take n ss) (now (o .entry))))) ⌝ }
 {
     if is_unanswered(f) {
         0
     } else {
-        control::put_echo(out, o, ss)
+        control::put_echo(out, o, w, n, ss)
     }
 }
 
@@ -233,11 +233,11 @@ pub fn control(
             carried: control::none(),
             latch: empty(),
         },
-        Form::Objects { width: _, count } => {
-            let cs = control::objects(o);
+        Form::Objects { width, count } => {
+            let cs = control::objects(o, width, count);
             let s = operate(latch, arm_time, sequence, time, o);
             let ss = statuses(f, cs, outputs, s);
-            let len = answer(f, out, o, ss);
+            let len = answer(f, out, o, width, count, ss);
             Controlled {
                 fault: Fault::Faultless,
                 len: len,

@@ -5,7 +5,6 @@ ghost use Prim.Native.Nat.{_+_, _*_, _/_, _%_, _≤_, _<_, max};
 ghost use lib.ListN.{length, set, drop};
 ghost use lib.Ieee.{binary32, ofBits};
 ghost use Rattle.octets.specs.Bytes.{splice};
-ghost use Rattle.laws.specs.Lists.{same as sameBytes};
 ghost use Rattle.text.specs.Words.{
   wholeOf,
   judged,
@@ -110,23 +109,6 @@ pub fn word(s: &[u8], c: Cursor, mark: u8) -> Place
             ok: if c.more { c.ok } else { false },
         },
     }
-}
-
-// Two slices hold the same bytes.
-pub fn same(a: &[u8], b: &[u8]) -> bool
-    ensures { λ r. ⌜ r ≡ sameBytes (now (a .entry)) (now (b .entry)) ⌝ }
-{
-    if a.len() != b.len() {
-        return false;
-    }
-    let mut i = 0;
-    while i < a.len() {
-        if a[i] != b[i] {
-            return false;
-        }
-        i += 1;
-    }
-    true
 }
 
 // ---- numbers

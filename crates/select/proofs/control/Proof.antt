@@ -2,17 +2,15 @@
 -- Assumes nothing.
 use mathlib.Core.Path.{_≡_, refl, sym, ap, ap₂, _∙_}
 use mathlib.Core.List.{List}
-use Prim.Native.Nat.{ℕ, _+_}
+use Prim.Native.Nat.{ℕ}
 use native.Mathlib.Omega.{arith}
 use borrow.Author.Needs.{needs}
-use lib.ListN.{length, take, drop}
+use lib.ListN.{length, take}
 use Rattle.octets.specs.Bytes.{splice}
 use Rattle.octets.proofs.Splice.{splice-nil}
 use Rattle.control.specs.declared.Crobs.{Crobs}
-use Rattle.control.specs.declared.Form.{Form}
-use Rattle.control.specs.declared.Form.the-variants.{Objects}
-use Rattle.control.specs.Objects.{Holding, crobsBy}
-use Rattle.control.specs.Status.{echoOf, echoWith}
+use Rattle.control.specs.Objects.{HasObjects, Holding, crobs}
+use Rattle.control.specs.Status.{echoOf}
 use Rattle.control.proofs.FormLaws.{formed-fits}
 use Rattle.control.proofs.ObjectLaws.{crobs-length}
 use Rattle.select.specs.Select.{latchOf, statusesBy, echoBy, carriedBy, latchBy}
@@ -20,9 +18,13 @@ use Rattle.select.proofs.Laws.{effect-wrong, effect-objects}
 use Rattle.select.proofs.control.Statement.{statement}
 use Rattle.select.proofs.control.Tie as tie
 
--- as many objects as a faultless form says
-held-count : {c : Crobs} {x : Form} (w n : ℕ) (o : List ℕ) → x ≡ Objects w n → Holding c (crobsBy x o) → c .count ≡ n
-held-count w n o e h = h .count ∙ ap (λ (y : Form). length (crobsBy y o)) e ∙ crobs-length w n (drop (3 + w) o)
+-- what the header says, where it is right
+told : (m : tie.After-width) → HasObjects (m .width .given .0 .0) (m .width .given .0 .1 .0) (m .before .before .before .before .before .args .o .now)
+told m = sym (m .before .before .header .ensures) ∙ m .width .given .1
+
+-- as many objects as the header says
+held-count : {c : Crobs} (w n : ℕ) (b : List ℕ) → Holding c (crobs w n b) → c .count ≡ n
+held-count w n b h = h .count ∙ crobs-length w n b
 
 header-requires : tie.Need-header-requires
 header-requires c κs = search needs
@@ -36,11 +38,11 @@ none-requires c κs = search needs
 empty-requires : tie.Need-empty-requires
 empty-requires c κs = search needs
 
-enum-known-count : tie.Need-enum-known-count
-enum-known-count c = search needs
+enum-known-width : tie.Need-enum-known-width
+enum-known-width c = search needs
 
 objects-requires : tie.Need-objects-requires
-objects-requires c κs = search needs
+objects-requires c κs = told (c .before)
 
 operate-requires : tie.Need-operate-requires
 operate-requires c κs = search needs
@@ -48,18 +50,14 @@ operate-requires c κs = search needs
 statuses-requires : tie.Need-statuses-requires
 statuses-requires c κs =
     let wd = c .before .before .before in
-    let hd = wd .before .before in
-    let s = hd .before .before .before in
-    let a = s .args in
-    let form = sym (hd .header .ensures) ∙ wd .count .given .1 in
-    let w = wd .count .given .0 .0 in
-    let n = wd .count .given .0 .1 .0 in
-    let fit = formed-fits (a .o .now) w n form in
-    let count = held-count w n (a .o .now) form (c .before .objects .ensures) in
+    let w = wd .width .given .0 .0 in
+    let n = wd .width .given .0 .1 .0 in
+    let fit = formed-fits _ w n (told wd) in
+    let count = held-count w n _ (c .before .objects .ensures) in
     omega (arith, count, fit .few)
 
 answer-requires : tie.Need-answer-requires
-answer-requires c κs = c .before .before .before .before .before .before .before .before .before .before .pre
+answer-requires c κs = (c .before .before .before .before .before .before .before .before .before .before .pre, told (c .before .before .before .before .before))
 
 carry-requires : tie.Need-carry-requires
 carry-requires c κs = search needs
@@ -67,12 +65,7 @@ carry-requires c κs = search needs
 latch-after-requires : tie.Need-latch-after-requires
 latch-after-requires c κs =
     let wd = c .before .before .before .before .before .before .before .before .before in
-    let hd = wd .before .before in
-    let s = hd .before .before .before in
-    let a = s .args in
-    let form = sym (hd .header .ensures) ∙ wd .count .given .1 in
-    let fit = formed-fits (a .o .now) (wd .count .given .0 .0) (wd .count .given .0 .1 .0) form in
-    fit .short
+    formed-fits _ _ _ (told wd) .short
 
 returns : tie.Need-returns
 returns c =
@@ -94,23 +87,17 @@ returns-2 c =
     let op = c .before .before .before .before .before .before .before .operate in
     let ob = c .before .before .before .before .before .before .before .before .objects in
     let wd = c .before .before .before .before .before .before .before .before .before .before in
-    let hd = wd .before .before in
-    let a = hd .before .before .before .args in
-    let w = wd .count .given .0 .0 in
-    let n = wd .count .given .0 .1 .0 in
-    let form = sym (hd .header .ensures) ∙ wd .count .given .1 in
-    let cs = ob .ensures .objects ∙ ap (λ (x : Form). crobsBy x (a .o .now)) form in
+    let a = wd .before .before .before .before .before .args in
+    let w = wd .width .given .0 .0 in
+    let n = wd .width .given .0 .1 .0 in
+    let cs = ob .ensures .objects in
     let by = st .ensures .0 ∙ ap₂ (statusesBy (a .f) (a .outputs)) (op .ensures) cs in
-    let ss = ap (λ (k : ℕ). take k (st .result)) (sym (held-count w n (a .o .now) form (ob .ensures))) ∙ by in
-    rw (effect-objects (a .outputs) (a .arm-time) (latchOf (a .latch)) (a .f) (a .sequence .0) (a .time) (a .o .now) w n form)
+    let ss = ap (λ (k : ℕ). take k (st .result)) (sym (held-count w n _ (ob .ensures))) ∙ by in
+    rw (effect-objects (a .outputs) (a .arm-time) (latchOf (a .latch)) (a .f) (a .sequence .0) (a .time) (a .o .now) w n (told wd))
     (record {
       fault = refl;
-      len =
-          an .ensures .1 ∙ ap (λ (x : Form). length (echoBy (a .f) (echoWith x (st .result) (a .o .now)))) form
-          ∙ ap (λ (x : List ℕ). length (echoBy (a .f) (echoOf w x (a .o .now)))) ss;
-      lent =
-          an .ensures .0 ∙ ap (λ (x : Form). splice (a .out .now) 4 (echoBy (a .f) (echoWith x (st .result) (a .o .now)))) form
-          ∙ ap (λ (x : List ℕ). splice (a .out .now) 4 (echoBy (a .f) (echoOf w x (a .o .now)))) ss;
+      len = an .ensures .1 ∙ ap (λ (x : List ℕ). length (echoBy (a .f) (echoOf w x (a .o .now)))) ss;
+      lent = an .ensures .0 ∙ ap (λ (x : List ℕ). splice (a .out .now) 4 (echoBy (a .f) (echoOf w x (a .o .now)))) ss;
       carried = rw (← ap₂ (carriedBy (a .f)) cs by) (c .before .carry .ensures);
       latch = c .latch-after .ensures .0 ∙ ap (λ (x : List ℕ). latchBy (a .f) x (a .sequence .0) (a .time) (a .o .now)) ss;
       counted = c .latch-after .ensures .1;
@@ -124,7 +111,7 @@ control-spec =
     enum-known-fault
     none-requires
     empty-requires
-    enum-known-count
+    enum-known-width
     objects-requires
     operate-requires
     statuses-requires

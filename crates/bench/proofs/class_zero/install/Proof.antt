@@ -3,6 +3,7 @@
 use Prim.Native.Nat.{_-_}
 use borrow.Author.Needs.{needs}
 use native.Mathlib.Omega.{arith}
+use Rattle.laws.specs.Limits.{pointsMax}
 use Rattle.bench.proofs.class_zero.install.Statement.{statement}
 use Rattle.bench.proofs.class_zero.install.Tie as tie
 
@@ -10,7 +11,7 @@ abbrev Inv-loop : tie.InvT-loop
 Inv-loop binaries₀ analogs₀ i₀ binaries analogs i = Unit {0}
 
 abbrev μ-loop : tie.MeasureT-loop
-μ-loop binaries₀ analogs₀ i₀ binaries analogs i = 64 - i
+μ-loop binaries₀ analogs₀ i₀ binaries analogs i = pointsMax - i
 
 loop-holds : tie.Need-loop-holds Inv-loop μ-loop
 loop-holds c = tt

@@ -5,11 +5,12 @@ use Prim.Native.Nat.{_≤_}
 use lib.ListN.{length}
 use borrow.Author.Needs.{needs}
 use native.Mathlib.Omega.{arith}
+use Rattle.laws.specs.Limits.{fragmentMax}
 use Rattle.bench.proofs.class_zero.respond.Statement.{statement}
 use Rattle.bench.proofs.class_zero.respond.Tie as tie
 
 abbrev Inv-loop : tie.InvT-loop
-Inv-loop count n binaries₀ analogs held₀ out₀ s none sum₀ left₀ binaries held out sum left = (length out ≡ length out₀) × (2048 ≤ length out)
+Inv-loop count n binaries₀ analogs held₀ out₀ s none sum₀ left₀ binaries held out sum left = (length out ≡ length out₀) × (fragmentMax ≤ length out)
 
 abbrev μ-loop : tie.MeasureT-loop
 μ-loop count n binaries₀ analogs held₀ out₀ s none sum₀ left₀ binaries held out sum left = left

@@ -3,6 +3,7 @@
 use Prim.Native.Nat.{_-_}
 use borrow.Author.Needs.{needs}
 use native.Mathlib.Omega.{arith}
+use Rattle.laws.specs.Limits.{pointsMax}
 use Rattle.bench.proofs.stations.holding.Statement.{statement}
 use Rattle.bench.proofs.stations.holding.Tie as tie
 
@@ -10,7 +11,7 @@ abbrev Inv-loop : tie.InvT-loop
 Inv-loop n binaries₀ analogs₀ held₀ h₀ point₀ binaries analogs held h point = Unit {0}
 
 abbrev μ-loop : tie.MeasureT-loop
-μ-loop n binaries₀ analogs₀ held₀ h₀ point₀ binaries analogs held h point = 64 - point
+μ-loop n binaries₀ analogs₀ held₀ h₀ point₀ binaries analogs held h point = pointsMax - point
 
 fresh-requires : tie.Need-fresh-requires Inv-loop μ-loop
 fresh-requires c κs = tt

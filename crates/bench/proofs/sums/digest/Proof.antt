@@ -3,6 +3,7 @@
 use Prim.Native.Nat.{_-_}
 use borrow.Author.Needs.{needs}
 use native.Mathlib.Omega.{arith}
+use Rattle.laws.specs.Limits.{eventsMax}
 use Rattle.bench.proofs.sums.digest.Statement.{statement}
 use Rattle.bench.proofs.sums.digest.Tie as tie
 
@@ -10,7 +11,7 @@ abbrev Inv-loop : tie.InvT-loop
 Inv-loop sum held all₀ i₀ all i = Unit {0}
 
 abbrev μ-loop : tie.MeasureT-loop
-μ-loop sum held all₀ i₀ all i = 256 - i
+μ-loop sum held all₀ i₀ all i = eventsMax - i
 
 loop-holds : tie.Need-loop-holds Inv-loop μ-loop
 loop-holds c = tt
