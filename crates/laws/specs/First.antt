@@ -4,7 +4,6 @@ use mathlib.Core.Bool.{Bool, cond}
 use mathlib.Core.List.{List, [], _∷_}
 
 infix 68 _⇒_
-
 -- a test, and what is given where it is the first that holds
 pub data Guard (A : Type 0) : Type 0 where
   _⇒_ : Bool → A → Guard A
