@@ -2,8 +2,10 @@
 ghost use mathlib.Core.Path.{_≡_};
 ghost use Prim.Native.Nat.{_+_, _-_, _≤_, _<_, _%_};
 ghost use lib.ListN.{length};
+ghost use Rattle.laws.specs.Limits.{segmentDataMax, fragmentMax};
+ghost use Rattle.laws.specs.Outcome.{numberOf};
 ghost use Rattle.octets.specs.Bytes.{splice};
-ghost use Rattle.transport.specs.Segment.{bitOf, headerOf, nextOf};
+ghost use Rattle.transport.specs.Segment.{bitOf, transportHeader, nextSequence};
 ghost use Rattle.transport.specs.Receive.{
   idle,
   places,
@@ -55,7 +57,21 @@ pub enum Received {
     // 23: fragment would pass 2,048. The unfinished fragment is forgotten.
     FragmentTooLong,
     // 33: under 2,048 lent bytes.
-    AssemblyLent,
+    OutputTooSmall,
+}
+
+// Document 01's number of a refusal; 0 for a segment that was taken.
+pub fn received_number(x: Received) -> u8
+    ensures { λ r. ⌜ r ≡ numberOf (receivedOf x) ⌝ }
+{
+    match x {
+        Received::More => 0,
+        Received::Fragment(_) => 0,
+        Received::SegmentLength => 21,
+        Received::OutOfSequence => 22,
+        Received::FragmentTooLong => 23,
+        Received::OutputTooSmall => 33,
+    }
 }
 
 pub struct Reception {
@@ -82,21 +98,21 @@ pub fn nothing_begun() -> Assembly
 }
 
 // The sequence after this one.
-pub fn next(q: TransportSequence) -> TransportSequence
-    ensures { λ r. ⌜ r ≡ nextOf q ⌝ }
+pub fn next_sequence(q: TransportSequence) -> TransportSequence
+    ensures { λ r. ⌜ r ≡ nextSequence q ⌝ }
 {
     TransportSequence((q.0 % 64 + 1) % 64)
 }
 
 // Where the data of a segment without FIR goes, n bytes of it.
 fn placed(a: Assembly, sequence: u8, n: usize) -> Place
-    requires { ⌜ (0 < n) × (n ≤ 249) ⌝ }
+    requires { ⌜ (0 < n) × (n ≤ segmentDataMax) ⌝ }
     ensures { λ r. ⌜ placeOf r ≡ places a sequence n ⌝ }
 {
     if !a.begun {
         return Place::NotNext;
     }
-    let q = next(a.last);
+    let q = next_sequence(a.last);
     if sequence != q.0 {
         return Place::NotNext;
     }
@@ -133,7 +149,7 @@ pub fn receive(a: Assembly, segment: &[u8], out: &mut [u8]) -> Reception
 {
     if out.len() < FRAGMENT_MAX {
         return Reception {
-            answer: Received::AssemblyLent,
+            answer: Received::OutputTooSmall,
             assembly: a,
         };
     }
@@ -185,7 +201,18 @@ pub enum Sent {
     // 16: a fragment of 0 or over 2,048 bytes.
     FragmentLength,
     // 33: under 250 lent bytes.
-    SegmentLent,
+    OutputTooSmall,
+}
+
+// Document 01's number of a refusal; 0 for a segment that was written.
+pub fn sent_number(x: Sent) -> u8
+    ensures { λ r. ⌜ r ≡ numberOf (sentOf x) ⌝ }
+{
+    match x {
+        Sent::Segment { size: _, last: _ } => 0,
+        Sent::FragmentLength => 16,
+        Sent::OutputTooSmall => 33,
+    }
 }
 
 pub struct Sending {
@@ -210,8 +237,8 @@ fn bit(b: bool) -> u8
 }
 
 // The transport byte.
-fn header(first: bool, last: bool, q: TransportSequence) -> u8
-    ensures { λ r. ⌜ r ≡ headerOf first last (q .0) ⌝ }
+fn transport_header(first: bool, last: bool, q: TransportSequence) -> u8
+    ensures { λ r. ⌜ r ≡ transportHeader first last (q .0) ⌝ }
 {
     128 * bit(last) + 64 * bit(first) + q.0 % 64
 }
@@ -238,7 +265,7 @@ fn after(at: usize, n: usize) -> usize
 
 // Writes the next segment of a fragment that may be sent.
 fn write_segment(p: Sender, fragment: &[u8], out: &mut [u8]) -> Sending
-    requires { ⌜ (250 ≤ length (now out)) × (0 < length (now fragment)) × (length (now fragment) ≤ 2048) ⌝ }
+    requires { ⌜ (segmentDataMax + 1 ≤ length (now out)) × (0 < length (now fragment)) × (length (now fragment) ≤ fragmentMax) ⌝ }
     ensures { λ r. ⌜
         (sentOf (r .answer) ≡ writtenOf (nextSegment p (now (fragment .entry))))
         × (r .sender ≡ nextSender p (now (fragment .entry)))
@@ -248,7 +275,7 @@ fn write_segment(p: Sender, fragment: &[u8], out: &mut [u8]) -> Sending
     let at = from(p.at, n);
     let e = octets::least(at + SEGMENT_DATA_MAX, n);
     let last = n <= at + SEGMENT_DATA_MAX;
-    let h = header(at == 0, last, p.next);
+    let h = transport_header(at == 0, last, p.next);
     out[0] = h;
     octets::copy(out, 1, &fragment[at..e]);
     Sending {
@@ -257,7 +284,7 @@ fn write_segment(p: Sender, fragment: &[u8], out: &mut [u8]) -> Sending
             last: last,
         },
         sender: Sender {
-            next: next(p.next),
+            next: next_sequence(p.next),
             at: after(at, n),
         },
     }
@@ -269,7 +296,7 @@ pub fn send(p: Sender, fragment: &[u8], out: &mut [u8]) -> Sending
 {
     if out.len() < SEGMENT_MAX {
         return Sending {
-            answer: Sent::SegmentLent,
+            answer: Sent::OutputTooSmall,
             sender: p,
         };
     }
