@@ -19,7 +19,7 @@ use Rattle.frame.specs.declared.FrameRefusal.{FrameRefusal}
 use Rattle.frame.specs.declared.Wrote.{Wrote}
 use Rattle.laws.specs.Limits.{userMax, frameMax}
 use Rattle.laws.specs.Outcome.{Outcome, accepted, refused}
-use Rattle.frame.specs.Frame.{wroteOf, sizeOf, lentAfterWrite, FrameWritten, readOf, fields, fieldsOf, checkedOf, lentAfterRead, FrameRead, Whole, bodyOf, decode, withoutCrc, crcOk, blocksOk, users, Parts, withCrc, blocks, blockCount, frameSize, linkHeader, encode, encodeInto}
+use Rattle.frame.specs.Frame.{wroteOf, writtenSize, lentAfterWrite, FrameWritten, readOf, fields, fieldsOf, checkedOf, lentAfterRead, FrameRead, Whole, bodyOf, decode, withoutCrc, crcOk, blocksOk, users, Parts, withCrc, blocks, blockCount, frameSize, linkHeader, encode, encodeInto}
 
 pub length-with-crc : (s : List ℕ) → length (withCrc s) ≡ length s + 2
 unfolding withCrc
@@ -89,9 +89,9 @@ module _ (room : ℕ) (f : Parts) where
   into h l = rw (le-ltb room frameMax h, le-ltb userMax (length (f .user)) l)
 
 -- the contract from the outcome
-pub written-by : (w : Wrote) (f : Parts) (d d′ : List ℕ) (o : Outcome (List ℕ)) → encodeInto (length d) f ≡ o → wroteOf w ≡ sizeOf o
+pub written-by : (w : Wrote) (f : Parts) (d d′ : List ℕ) (o : Outcome (List ℕ)) → encodeInto (length d) f ≡ o → wroteOf w ≡ writtenSize o
     → d′ ≡ lentAfterWrite d o → FrameWritten w f d d′
-written-by w f d d′ o e a l = record { answer = a ∙ ap sizeOf (sym e); lent = l ∙ ap (lentAfterWrite d) (sym e) }
+written-by w f d d′ o e a l = record { answer = a ∙ ap writtenSize (sym e); lent = l ∙ ap (lentAfterWrite d) (sym e) }
 
 -- ---- reading: a turn of a loop over blocks with their checks
 

@@ -20,7 +20,7 @@ use Rattle.frame.specs.declared.Read.{Read}
 use Rattle.frame.specs.declared.Read.the-variants.{Frame, Refused}
 use Rattle.frame.specs.declared.Wrote.{Wrote}
 use Rattle.frame.specs.declared.Wrote.the-variants.{Size, UserTooLong, OutputTooSmall}
-use Rattle.frame.specs.Frame.{Parts, parts, withCrc, blocks, blockCount, frameSize, linkHeader, encode, withoutCrc, crcOk, blocksOk, users, bodyOf, decodeBody, decode, encodeInto, wroteOf, sizeOf, lentAfterWrite, Fields, fields, fieldsOf, readOf, lentAfterRead}
+use Rattle.frame.specs.Frame.{Parts, parts, withCrc, blocks, blockCount, frameSize, linkHeader, encode, withoutCrc, crcOk, blocksOk, users, bodyOf, decodeBody, decode, encodeInto, wroteOf, writtenSize, lentAfterWrite, Fields, fields, fieldsOf, readOf, lentAfterRead}
 use Rattle.frame.specs.RoundTrip.{WrittenIsRead, ReadIsWritten}
 use Rattle.frame.proofs.Laws.{length-with-crc, length-blocks, length-header, length-encode, length-body, length-user, into}
 
@@ -292,13 +292,13 @@ frame-is : (r : Read) (x : Fields) → readOf r ≡ accepted x → r ≡ Frame (
 frame-is (Frame c d a n) x e = cc
 frame-is (Refused why) x e = cc
 
-fits-by : (a b : Bool) (x : List ℕ) (n : ℕ) → accepted n ≡ sizeOf (cond a (refused 33) (cond b (refused 16) (accepted x))) → (a ≡ false) × (b ≡ false)
+fits-by : (a b : Bool) (x : List ℕ) (n : ℕ) → accepted n ≡ writtenSize (cond a (refused 33) (cond b (refused 16) (accepted x))) → (a ≡ false) × (b ≡ false)
 fits-by true b x n e = (cc, cc)
 fits-by false true x n e = (cc, cc)
 fits-by false false x n e = (refl, refl)
 
 -- what was written had room, and at most 250 user bytes
-fits : (room n : ℕ) (f : Parts) → accepted n ≡ sizeOf (encodeInto room f) → (frameMax ≤ room) × (length (f .user) ≤ userMax)
+fits : (room n : ℕ) (f : Parts) → accepted n ≡ writtenSize (encodeInto room f) → (frameMax ≤ room) × (length (f .user) ≤ userMax)
 unfolding encodeInto
 fits room n f e =
     let p = fits-by (ltb room frameMax) (ltb userMax (length (f .user))) (encode f) n e in
@@ -342,6 +342,6 @@ read-is-written r w s out user lent written c d a n bytes got is room wrote =
         let o = ap (encodeInto (length lent)) g ∙ into (length lent) f room most in
         let z : length (encode f) ≡ frameSize n = length-encode f ∙ ap frameSize (sym m) in (
           omega arith,
-          size-is w (frameSize n) (wrote .answer ∙ ap sizeOf o ∙ ap accepted z),
+          size-is w (frameSize n) (wrote .answer ∙ ap writtenSize o ∙ ap accepted z),
           rw (wrote .lent, o, sym z) (front f lent room most ∙ encode-decode (length out) s f bytes e ∙ ap (λ (k : ℕ). take k s) (sym (length-encode f))),
         )

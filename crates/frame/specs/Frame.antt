@@ -116,9 +116,9 @@ wroteOf (Size n) = accepted n
 wroteOf UserTooLong = refused 16
 wroteOf OutputTooSmall = refused 33
 
-abbrev pub sizeOf : Outcome (List ℕ) → Outcome ℕ
-sizeOf (accepted bs) = accepted (length bs)
-sizeOf (refused k) = refused k
+abbrev pub writtenSize : Outcome (List ℕ) → Outcome ℕ
+writtenSize (accepted bs) = accepted (length bs)
+writtenSize (refused k) = refused k
 
 abbrev pub lentAfterWrite : List ℕ → Outcome (List ℕ) → List ℕ
 lentAfterWrite d (accepted bs) = splice d 0 bs
@@ -126,7 +126,7 @@ lentAfterWrite d (refused k) = d
 
 -- a call that wrote these parts, with these lent bytes before and after it, answers w
 pub record FrameWritten (w : Wrote) (f : Parts) (before after : List ℕ) : Type 0 where
-  pub answer : wroteOf w ≡ sizeOf (encodeInto (length before) f)
+  pub answer : wroteOf w ≡ writtenSize (encodeInto (length before) f)
   pub lent : after ≡ lentAfterWrite before (encodeInto (length before) f)
 
 -- ---- reading: what the answer means, and what is left in the lent bytes

@@ -11,16 +11,20 @@ use mathlib.Core.Bool.{Bool, true, false, cond, not}
 use denote.Enum.Declared.{tagOf}
 use types.Run.{OneOf}
 use Rattle.octets.specs.Bytes.{splice, valueAt}
+use Rattle.laws.specs.First.{first, _⇒_}
 use Rattle.laws.specs.Limits.{userMax}
 use Rattle.laws.specs.Outcome.{Outcome, accepted, refused, numberOf}
 use Rattle.frame.specs.Frame.{Parts, decode, checkedOf, Whole, userOf, frameSize}
 use Rattle.frame.proofs.Laws.{decode-lent, decode-room, length-user}
 use Rattle.frame.specs.declared.Read.{Read}
 use Rattle.frame.specs.declared.Read.the-variants.{Frame, Refused}
+use Rattle.frame.specs.declared.FrameRefusal.{FrameRefusal}
+use Rattle.frame.specs.declared.FrameRefusal.the-variants as F
 use Rattle.link.specs.declared.Station.{Station}
 use Rattle.link.specs.declared.Taken.{Taken}
-use Rattle.link.specs.declared.Taken.the-variants.{UserData, Reply}
-use Rattle.link.specs.Station.{LinkDecision, hands, replies, notTaken, withoutData, byFunction, addressed, Action, userData, reply, actionOf, takes, station, userBytes, linkAnswer, takenOf, takenBy, afterCheck, lentAfterTake, FrameTaken, replyControl}
+use Rattle.link.specs.declared.Taken.the-variants.{UserData, Reply, NotTaken}
+use Rattle.link.specs.declared.Taken.the-variants as Ts
+use Rattle.link.specs.Station.{LinkDecision, hands, replies, notTaken, withoutData, byFunction, addressed, Action, userData, reply, actionOf, takes, station, LinkAnswer, userBytes, replyWith, linkAnswer, takenOf, takenBy, afterCheck, lentAfterTake, FrameTaken, replyControl}
 use Rattle.link.proofs.Taken as T
 
 module _ (room : ℕ) (st : Station) (s : List ℕ) where
@@ -86,6 +90,33 @@ answer-number (refused k) = refl
 -- the number of the answer is the outcome's
 pub taken-number-is : (t : Taken) (st : Station) (s d d′ : List ℕ) → FrameTaken t st s d d′ → numberOf (takenOf t) ≡ numberOf (station (length d) st s)
 taken-number-is t st s d d′ e = ap numberOf (e .answer) ∙ answer-number (station (length d) st s)
+
+-- ---- what an answer means tells the answer: no two mean the same
+
+refusal-at : ℕ → FrameRefusal
+refusal-at k =
+    first (eqb k 11 ⇒ F.TooShort ∷ eqb k 12 ⇒ F.Start ∷ eqb k 13 ⇒ F.HeaderCheck ∷ eqb k 14 ⇒ F.Length ∷ eqb k 15 ⇒ F.BlockCheck ∷ [])
+    F.OutputTooSmall
+
+answer-at : Outcome LinkAnswer → Taken
+answer-at (accepted (userBytes n)) = UserData n
+answer-at (accepted (replyWith c)) = Reply c
+answer-at (refused k) = cond (eqb k 17) NotTaken (Ts.Refused (refusal-at k))
+
+answer-back : (t : Taken) → answer-at (takenOf t) ≡ t
+unfolding answer-at refusal-at
+answer-back (UserData n) = refl
+answer-back (Reply c) = refl
+answer-back (Ts.Refused F.TooShort) = refl
+answer-back (Ts.Refused F.Start) = refl
+answer-back (Ts.Refused F.HeaderCheck) = refl
+answer-back (Ts.Refused F.Length) = refl
+answer-back (Ts.Refused F.BlockCheck) = refl
+answer-back (Ts.Refused F.OutputTooSmall) = refl
+answer-back NotTaken = refl
+
+pub taken-one : (t u : Taken) → takenOf t ≡ takenOf u → t ≡ u
+taken-one t u e = sym (answer-back t) ∙ ap answer-at e ∙ answer-back u
 
 -- ---- replies
 

@@ -144,6 +144,6 @@ pub record FrameCounted (t : Taken) (l l₁ : LineRecord) (st : Station) (s befo
 unfoldable pub replyControl : ℕ → ℕ
 replyControl c = first (eqb c 0x00 ⇒ 0x00 ∷ eqb c 0x0B ⇒ 0x0B ∷ []) 0x0F
 
--- a frame from the station to its master
+-- a frame from the station to its master; "outgoing data uses 44"
 abbrev pub toMaster : Station → ℕ → List ℕ → Parts
 toMaster st control u = parts control (st .master) (st .own) u

@@ -242,7 +242,7 @@ pub fn write_reply(out: &mut [u8], st: Station, control: u8) -> frame::Wrote
 
 // Writes user data to the master, under control byte 44.
 pub fn write_data(out: &mut [u8], st: Station, user: &[u8]) -> frame::Wrote
-    ensures { λ r. ⌜ FrameWritten r (toMaster st 68 (now (user .entry))) (now (out .entry)) (now (out .exit)) ⌝ }
+    ensures { λ r. ⌜ FrameWritten r (toMaster st 0x44 (now (user .entry))) (now (out .entry)) (now (out .exit)) ⌝ }
 {
     frame::write_frame(out, USER_DATA, st.master, st.own, user)
 }

@@ -16,7 +16,7 @@ use Rattle.octets.specs.Bytes.{splice}
 use Rattle.octets.proofs.Splice.{splice-cons}
 use Rattle.laws.specs.Outcome.{Outcome, accepted, refused}
 use Rattle.transport.specs.Segment.{headOf, fin, fir, sequence, dataOf, nextSequence, bitOf, transportHeader, segment}
-use Rattle.transport.specs.Receive.{places, receiving, receivedOf, answerOf, assemblyAfter, lentAfterReceive, SegmentReceived}
+use Rattle.transport.specs.Receive.{places, receiving, receivedOf, answerReceived, assemblyAfter, lentAfterReceive, SegmentReceived}
 use Rattle.transport.specs.Send.{fromOf, lastAt, endOf, nextSegment, nextSender, sending, writtenOf, sentOf, answerSent, senderAfter, lentAfterSend, SegmentSent}
 use Rattle.transport.specs.declared.Assembly.{Assembly}
 use Rattle.transport.specs.declared.Reception.{Reception}
@@ -49,10 +49,10 @@ module _ (room : ℕ) (a : Assembly) (s : List ℕ) where
   got-next h l m e = rw (le-ltb room fragmentMax h, le-ltb (length s) 2 l, le-ltb (segmentDataMax + 1) (length s) m, ne-eqb (headOf s / 64 % 2) 1 e)
 
 -- the contract from the outcome
-pub received-by : (r : Reception) (a : Assembly) (s d d′ : List ℕ) (o : Outcome ℕ) → receiving (length d) a s ≡ o → receivedOf (r .answer) ≡ answerOf s o
+pub received-by : (r : Reception) (a : Assembly) (s d d′ : List ℕ) (o : Outcome ℕ) → receiving (length d) a s ≡ o → receivedOf (r .answer) ≡ answerReceived s o
     → r .assembly ≡ assemblyAfter a s o → d′ ≡ lentAfterReceive d s o → SegmentReceived r a s d d′
 received-by r a s d d′ o e x y z =
-    record { answer = x ∙ ap (answerOf s) (sym e); assembly = y ∙ ap (assemblyAfter a s) (sym e); lent = z ∙ ap (lentAfterReceive d s) (sym e) }
+    record { answer = x ∙ ap (answerReceived s) (sym e); assembly = y ∙ ap (assemblyAfter a s) (sym e); lent = z ∙ ap (lentAfterReceive d s) (sym e) }
 
 module _ (a : Assembly) (q n : ℕ) where
   pub place-idle : a .begun ≡ false → places a q n ≡ refused 22

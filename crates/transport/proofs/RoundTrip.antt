@@ -16,7 +16,7 @@ use Rattle.octets.specs.Bytes.{splice}
 use Rattle.octets.proofs.Splice.{splice-append, length-splice, stored-splice}
 use Rattle.laws.specs.Outcome.{Outcome, accepted, refused}
 use Rattle.transport.specs.Segment.{headOf, fin, sequence, dataOf, bitOf, transportHeader, segment, segmentCount, cut, segmentsOf}
-use Rattle.transport.specs.Receive.{idle, receiving, Progress, more, complete, answerOf, assemblyAfter, lentAfterReceive, receivedOf}
+use Rattle.transport.specs.Receive.{idle, receiving, Progress, more, complete, answerReceived, assemblyAfter, lentAfterReceive, receivedOf}
 use Rattle.transport.specs.Send.{Written, fromOf, lastAt, endOf, nextSegment, nextSender, sending, writtenOf, answerSent, senderAfter, lentAfterSend, sentOf, SegmentSent}
 use Rattle.transport.specs.RoundTrip.{Sends, Receives, none, next, completes, SentIsReceived, SentWhole, SendsEnd}
 use Rattle.transport.specs.RoundTrip as Trip
@@ -162,7 +162,7 @@ answered o r = record { answers = o ∷ r .answers; assembly = r .assembly; lent
 unfoldable pub receiveAll : Assembly → List ℕ → List (List ℕ) → Run
 receiveAll a d [] = record { answers = []; assembly = a; lent = d }
 receiveAll a d (s ∷ ss) =
-    answered (answerOf s (receiving (length d) a s))
+    answered (answerReceived s (receiving (length d) a s))
     (receiveAll (assemblyAfter a s (receiving (length d) a s)) (lentAfterReceive d s (receiving (length d) a s)) ss)
 
 -- k times more to come, then a complete fragment of n bytes

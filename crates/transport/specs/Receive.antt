@@ -15,8 +15,8 @@ use Rattle.transport.specs.declared.Assembly.{Assembly}
 use Rattle.transport.specs.declared.Received.{Received}
 use Rattle.transport.specs.declared.Received.the-variants.{More, Fragment, SegmentLength, OutOfSequence, FragmentTooLong, OutputTooSmall}
 use Rattle.transport.specs.declared.Reception.{Reception}
-use Rattle.transport.specs.declared.Place.{Place}
-use Rattle.transport.specs.declared.Place.the-variants.{At, NotNext, TooLong}
+use Rattle.transport.specs.declared.DataPlace.{DataPlace}
+use Rattle.transport.specs.declared.DataPlace.the-variants.{At, NotNext, TooLong}
 
 -- nothing begun: what a restart leaves. "A restart keeps only the setup": it empties the assembly and the sender
 abbrev pub idle : Assembly
@@ -53,15 +53,15 @@ pub data Progress : Type 0 where
   complete : ℕ → Progress
 
 -- n bytes came so far, the last of them under this transport byte: the answer, and what is kept
-abbrev pub tellsOf : ℕ → ℕ → Outcome Progress
-tellsOf h n = accepted (cond (fin h) (complete n) more)
+abbrev pub progressOf : ℕ → ℕ → Outcome Progress
+progressOf h n = accepted (cond (fin h) (complete n) more)
 
 abbrev pub keptOf : ℕ → ℕ → Assembly
 keptOf h n = cond (fin h) idle (record { begun = true; last = record { 0 = sequence h }; len = n })
 
-abbrev pub answerOf : List ℕ → Outcome ℕ → Outcome Progress
-answerOf s (accepted at) = tellsOf (headOf s) (at + length (dataOf s))
-answerOf s (refused k) = refused k
+abbrev pub answerReceived : List ℕ → Outcome ℕ → Outcome Progress
+answerReceived s (accepted at) = progressOf (headOf s) (at + length (dataOf s))
+answerReceived s (refused k) = refused k
 
 -- 22 and 23: "unfinished fragment forgotten"
 abbrev pub forgets : ℕ → Bool
@@ -87,11 +87,11 @@ receivedOf OutputTooSmall = refused 33
 
 -- a call that took the segment s, with this assembly and these lent bytes before it, gives r and leaves these lent bytes
 pub record SegmentReceived (r : Reception) (a : Assembly) (s before after : List ℕ) : Type 0 where
-  pub answer : receivedOf (r .answer) ≡ answerOf s (receiving (length before) a s)
+  pub answer : receivedOf (r .answer) ≡ answerReceived s (receiving (length before) a s)
   pub assembly : r .assembly ≡ assemblyAfter a s (receiving (length before) a s)
   pub lent : after ≡ lentAfterReceive before s (receiving (length before) a s)
 
-abbrev pub placeOf : Place → Outcome ℕ
+abbrev pub placeOf : DataPlace → Outcome ℕ
 placeOf (At n) = accepted n
 placeOf NotNext = refused 22
 placeOf TooLong = refused 23

@@ -12,7 +12,7 @@ ghost use Rattle.transport.specs.Receive.{
   placeOf,
   receivedOf,
   keptOf,
-  tellsOf,
+  progressOf,
   SegmentReceived,
 };
 ghost use Rattle.transport.specs.Send.{
@@ -80,7 +80,7 @@ pub struct Reception {
 }
 
 // Where a segment's data goes in the fragment.
-pub enum Place {
+pub enum DataPlace {
     At(usize),
     NotNext,
     TooLong,
@@ -105,27 +105,27 @@ pub fn next_sequence(q: TransportSequence) -> TransportSequence
 }
 
 // Where the data of a segment without FIR goes, n bytes of it.
-fn placed(a: Assembly, sequence: u8, n: usize) -> Place
+fn placed(a: Assembly, sequence: u8, n: usize) -> DataPlace
     requires { ⌜ (0 < n) × (n ≤ segmentDataMax) ⌝ }
     ensures { λ r. ⌜ placeOf r ≡ places a sequence n ⌝ }
 {
     if !a.begun {
-        return Place::NotNext;
+        return DataPlace::NotNext;
     }
     let q = next_sequence(a.last);
     if sequence != q.0 {
-        return Place::NotNext;
+        return DataPlace::NotNext;
     }
     let len = octets::least(a.len, FRAGMENT_MAX);
     if FRAGMENT_MAX < len + n {
-        return Place::TooLong;
+        return DataPlace::TooLong;
     }
-    Place::At(len)
+    DataPlace::At(len)
 }
 
 // What is kept and answered once n bytes are in the fragment.
-fn taken(header: u8, n: usize) -> Reception
-    ensures { λ r. ⌜ (r .assembly ≡ keptOf header n) × (receivedOf (r .answer) ≡ tellsOf header n) ⌝ }
+fn progressed(header: u8, n: usize) -> Reception
+    ensures { λ r. ⌜ (r .assembly ≡ keptOf header n) × (receivedOf (r .answer) ≡ progressOf header n) ⌝ }
 {
     if header / 128 % 2 == 1 {
         return Reception {
@@ -169,19 +169,19 @@ pub fn receive(a: Assembly, segment: &[u8], out: &mut [u8]) -> Reception
     let n = segment.len() - 1;
     if header / 64 % 2 == 1 {
         octets::copy(out, 0, &segment[1..]);
-        return taken(header, n);
+        return progressed(header, n);
     }
     let p = placed(a, header % 64, n);
     match p {
-        Place::At(at) => {
+        DataPlace::At(at) => {
             octets::copy(out, at, &segment[1..]);
-            taken(header, at + n)
+            progressed(header, at + n)
         }
-        Place::NotNext => Reception {
+        DataPlace::NotNext => Reception {
             answer: Received::OutOfSequence,
             assembly: nothing_begun(),
         },
-        Place::TooLong => Reception {
+        DataPlace::TooLong => Reception {
             answer: Received::FragmentTooLong,
             assembly: nothing_begun(),
         },
