@@ -5,17 +5,18 @@ use crate::sums::fold;
 use crate::sums::plus;
 use crate::sums::poke;
 use crate::sums::wide;
+use frame::FRAME_MAX;
 use frame::Read;
+use frame::USER_MAX;
 use frame::Wrote;
 
 fn write_once(sum: u64, out: &mut [u8], user: &mut [u8]) -> u64 {
-    let k = (sum % 250) as usize;
+    let k = (sum % USER_MAX as u64) as usize;
     poke(user, k, (sum % 256) as u8);
     let r = frame::write_frame(out, 68, 1, 10, user);
     match r {
         Wrote::Size(n) => fold(sum, plus(n as u64, byte_at(out, k))),
-        Wrote::TooLong => sum,
-        Wrote::WriteLent => sum,
+        _ => sum,
     }
 }
 
@@ -30,14 +31,14 @@ fn write_frames(count: u64, out: &mut [u8], user: &mut [u8]) -> u64 {
 }
 
 pub fn frame_write(count: u64) -> u64 {
-    let mut out = [0u8; 292];
-    let mut user = [0u8; 250];
+    let mut out = [0u8; FRAME_MAX];
+    let mut user = [0u8; USER_MAX];
     fill(&mut user, 1);
     write_frames(count, &mut out, &mut user)
 }
 
 fn read_once(sum: u64, s: &[u8], out: &mut [u8]) -> u64 {
-    let k = (sum % 250) as usize;
+    let k = (sum % USER_MAX as u64) as usize;
     let r = frame::read_frame(s, out);
     match r {
         Read::Frame {
@@ -46,12 +47,7 @@ fn read_once(sum: u64, s: &[u8], out: &mut [u8]) -> u64 {
             source: _,
             len,
         } => fold(sum, plus(plus(len as u64, wide(control)), byte_at(out, k))),
-        Read::Short => sum,
-        Read::Start => sum,
-        Read::HeaderCheck => sum,
-        Read::Length => sum,
-        Read::BlockCheck => sum,
-        Read::ReadLent => sum,
+        Read::Refused(_) => sum,
     }
 }
 
@@ -74,10 +70,10 @@ fn read_frames(count: u64, one: &[u8], other: &[u8], out: &mut [u8]) -> u64 {
 }
 
 pub fn frame_read(count: u64) -> u64 {
-    let mut user = [0u8; 250];
-    let mut one = [0u8; 292];
-    let mut other = [0u8; 292];
-    let mut out = [0u8; 250];
+    let mut user = [0u8; USER_MAX];
+    let mut one = [0u8; FRAME_MAX];
+    let mut other = [0u8; FRAME_MAX];
+    let mut out = [0u8; USER_MAX];
     fill(&mut user, 1);
     frame::write_frame(&mut one, 68, 1, 10, &user);
     fill(&mut user, 2);

@@ -2,18 +2,21 @@
 -- Assumes nothing.
 use Prim.Native.Nat.{ℕ, zero, suc, _+_, _-_, _*_, _/_, _≤_}
 use mathlib.Core.Path.{_≡_}
-use mathlib.Core.Bool.{Bool, true, false, cond}
+use mathlib.Core.Bool.{Bool, true, false, cond, not}
 use mathlib.Core.List.{List, [], _∷_, _++_}
 use lib.ListN.{length, getD, take, drop}
 use lib.Dec.{ltb, eqb}
+use Rattle.laws.specs.First.{first, _⇒_}
 use Rattle.laws.specs.Limits.{userMax, frameMax}
 use Rattle.laws.specs.Outcome.{Outcome, accepted, refused}
 use Rattle.octets.specs.Bytes.{splice, le, valueAt}
 use Rattle.crc.specs.Check.{checkOf}
 use Rattle.frame.specs.declared.Read.{Read}
-use Rattle.frame.specs.declared.Read.the-variants.{Frame, Short, Start, HeaderCheck, Length, BlockCheck, ReadLent}
+use Rattle.frame.specs.declared.Read.the-variants.{Frame, Refused}
+use Rattle.frame.specs.declared.FrameRefusal.{FrameRefusal}
+use Rattle.frame.specs.declared.FrameRefusal.the-variants as F
 use Rattle.frame.specs.declared.Wrote.{Wrote}
-use Rattle.frame.specs.declared.Wrote.the-variants.{Size, TooLong, WriteLent}
+use Rattle.frame.specs.declared.Wrote.the-variants.{Size, UserTooLong, OutputTooSmall}
 
 -- what a frame says
 pub record Parts : Type 0 where
@@ -28,8 +31,8 @@ parts c d s u = record { control = c; destination = d; source = s; user = u }
 -- ---- the frame's bytes
 
 -- bytes, then their 2-byte check
-unfoldable pub sealed : List ℕ → List ℕ
-sealed bs = bs ++ le 2 (checkOf bs)
+unfoldable pub withCrc : List ℕ → List ℕ
+withCrc bs = bs ++ le 2 (checkOf bs)
 
 -- how many blocks n user bytes take: n/16 rounded up
 abbrev pub blockCount : ℕ → ℕ
@@ -42,42 +45,42 @@ frameSize n = 10 + n + 2 * blockCount n
 -- "n user bytes in blocks of 16, the last perhaps shorter, each with a 2-byte check": the bytes u in k blocks
 unfoldable pub blocks : ℕ → List ℕ → List ℕ
 blocks zero u = []
-blocks (suc k) u = sealed (take 16 u) ++ blocks k (drop 16 u)
+blocks (suc k) u = withCrc (take 16 u) ++ blocks k (drop 16 u)
 
 -- "05 64, length, control, destination (2), source (2)"; "Length is n + 5"
-unfoldable pub headerOf : ℕ → ℕ → ℕ → ℕ → List ℕ
-headerOf n control destination source = 5 ∷ 100 ∷ (n + 5) ∷ control ∷ (le 2 destination ++ le 2 source)
+unfoldable pub linkHeader : ℕ → ℕ → ℕ → ℕ → List ℕ
+linkHeader n control destination source = 5 ∷ 100 ∷ (n + 5) ∷ control ∷ (le 2 destination ++ le 2 source)
 
 -- the whole frame
 unfoldable pub encode : Parts → List ℕ
 encode f =
-    sealed (headerOf (length (f .user)) (f .control) (f .destination) (f .source)) ++ blocks (blockCount (length (f .user))) (f .user)
+    withCrc (linkHeader (length (f .user)) (f .control) (f .destination) (f .source)) ++ blocks (blockCount (length (f .user))) (f .user)
 
 -- ---- writing: 33 for under 292 lent bytes, 16 for user data over 250
 
 unfoldable pub encodeInto : ℕ → Parts → Outcome (List ℕ)
 encodeInto room f =
-    cond (ltb room frameMax) (refused 33) (cond (ltb userMax (length (f .user))) (refused 16) (accepted (encode f)))
+    first (ltb room frameMax ⇒ refused 33 ∷ ltb userMax (length (f .user)) ⇒ refused 16 ∷ []) (accepted (encode f))
 
 -- ---- reading
 
--- a sealed block without its check
-unfoldable pub opened : List ℕ → List ℕ
-opened g = take (length g - 2) g
+-- bytes that end in their check, without it
+unfoldable pub withoutCrc : List ℕ → List ℕ
+withoutCrc g = take (length g - 2) g
 
 -- the last two bytes are the check of the others
-unfoldable pub sealOk : List ℕ → Bool
-sealOk g = eqb (checkOf (opened g)) (valueAt 2 (length g - 2) g)
+unfoldable pub crcOk : List ℕ → Bool
+crcOk g = eqb (checkOf (withoutCrc g)) (valueAt 2 (length g - 2) g)
 
 -- each of k blocks ends in its check
 unfoldable pub blocksOk : ℕ → List ℕ → Bool
 blocksOk zero b = true
-blocksOk (suc k) b = cond (sealOk (take 18 b)) (blocksOk k (drop 18 b)) false
+blocksOk (suc k) b = cond (crcOk (take 18 b)) (blocksOk k (drop 18 b)) false
 
 -- the user bytes of k blocks
 unfoldable pub users : ℕ → List ℕ → List ℕ
 users zero b = []
-users (suc k) b = opened (take 18 b) ++ users k (drop 18 b)
+users (suc k) b = withoutCrc (take 18 b) ++ users k (drop 18 b)
 
 -- the blocks of a frame with n user bytes: from byte 10 up to its size. "Bytes after the frame are not read."
 abbrev pub bodyOf : ℕ → List ℕ → List ℕ
@@ -89,35 +92,33 @@ userOf n s = users (blockCount n) (bodyOf n s)
 -- "11 for the frame's size comes after 14"; then 15, a block check wrong
 unfoldable pub decodeBody : ℕ → List ℕ → Outcome Parts
 decodeBody n s =
-    cond (ltb (length s) (frameSize n)) (refused 11)
-    (cond (blocksOk (blockCount n) (bodyOf n s))
+    first (ltb (length s) (frameSize n) ⇒ refused 11 ∷ not (blocksOk (blockCount n) (bodyOf n s)) ⇒ refused 15 ∷ [])
     (accepted (parts (getD s 3 0) (valueAt 2 4 s) (valueAt 2 6 s) (userOf n s)))
-    (refused 15))
 
 -- the frame at the front of the bytes s, to be read into so many lent bytes. In 01's order: 33, under 250 lent;
 -- 11, under 10 bytes; 12, not 05 64; 13, header check wrong; 14, length byte under 5; then the body
 unfoldable pub decode : ℕ → List ℕ → Outcome Parts
 decode room s =
-    cond (ltb room userMax) (refused 33)
-    (cond (ltb (length s) 10) (refused 11)
-    (cond (eqb (getD s 0 0) 5)
-    (cond (eqb (getD s 1 0) 100)
-    (cond (sealOk (take 10 s))
-    (cond (ltb (getD s 2 0) 5) (refused 14) (decodeBody (getD s 2 0 - 5) s))
-    (refused 13))
-    (refused 12))
-    (refused 12)))
+    first (
+    ltb room userMax ⇒ refused 33
+    ∷ ltb (length s) 10 ⇒ refused 11
+    ∷ not (eqb (getD s 0 0) 5) ⇒ refused 12
+    ∷ not (eqb (getD s 1 0) 100) ⇒ refused 12
+    ∷ not (crcOk (take 10 s)) ⇒ refused 13
+    ∷ ltb (getD s 2 0) 5 ⇒ refused 14
+    ∷ [])
+    (decodeBody (getD s 2 0 - 5) s)
 
 -- ---- writing: what the answer means, and what is left in the lent bytes. A refusal leaves them, and so do the bytes past the output
 
 abbrev pub wroteOf : Wrote → Outcome ℕ
 wroteOf (Size n) = accepted n
-wroteOf TooLong = refused 16
-wroteOf WriteLent = refused 33
+wroteOf UserTooLong = refused 16
+wroteOf OutputTooSmall = refused 33
 
-abbrev pub sizeOf : Outcome (List ℕ) → Outcome ℕ
-sizeOf (accepted bs) = accepted (length bs)
-sizeOf (refused k) = refused k
+abbrev pub writtenSize : Outcome (List ℕ) → Outcome ℕ
+writtenSize (accepted bs) = accepted (length bs)
+writtenSize (refused k) = refused k
 
 abbrev pub lentAfterWrite : List ℕ → Outcome (List ℕ) → List ℕ
 lentAfterWrite d (accepted bs) = splice d 0 bs
@@ -125,7 +126,7 @@ lentAfterWrite d (refused k) = d
 
 -- a call that wrote these parts, with these lent bytes before and after it, answers w
 pub record FrameWritten (w : Wrote) (f : Parts) (before after : List ℕ) : Type 0 where
-  pub answer : wroteOf w ≡ sizeOf (encodeInto (length before) f)
+  pub answer : wroteOf w ≡ writtenSize (encodeInto (length before) f)
   pub lent : after ≡ lentAfterWrite before (encodeInto (length before) f)
 
 -- ---- reading: what the answer means, and what is left in the lent bytes
@@ -144,14 +145,18 @@ abbrev pub fieldsOf : Outcome Parts → Outcome Fields
 fieldsOf (accepted f) = accepted (fields (f .control) (f .destination) (f .source) (length (f .user)))
 fieldsOf (refused k) = refused k
 
+-- the number of each refusal
+abbrev pub refusalNumber : FrameRefusal → ℕ
+refusalNumber F.TooShort = 11
+refusalNumber F.Start = 12
+refusalNumber F.HeaderCheck = 13
+refusalNumber F.Length = 14
+refusalNumber F.BlockCheck = 15
+refusalNumber F.OutputTooSmall = 33
+
 abbrev pub readOf : Read → Outcome Fields
 readOf (Frame control destination source n) = accepted (fields control destination source n)
-readOf Short = refused 11
-readOf Start = refused 12
-readOf HeaderCheck = refused 13
-readOf Length = refused 14
-readOf BlockCheck = refused 15
-readOf ReadLent = refused 33
+readOf (Refused why) = refused (refusalNumber why)
 
 -- the user data goes to the front of the lent bytes
 abbrev pub lentAfterRead : List ℕ → Outcome Parts → List ℕ
@@ -167,19 +172,9 @@ pub record FrameRead (r : Read) (s before after : List ℕ) : Type 0 where
 
 abbrev pub checkedOf : Read → List ℕ → Outcome Parts
 checkedOf (Frame control destination source n) s = accepted (parts control destination source (userOf n s))
-checkedOf Short s = refused 11
-checkedOf Start s = refused 12
-checkedOf HeaderCheck s = refused 13
-checkedOf Length s = refused 14
-checkedOf BlockCheck s = refused 15
-checkedOf ReadLent s = refused 33
+checkedOf (Refused why) s = refused (refusalNumber why)
 
 -- a frame that was found is there to its end
 abbrev pub Whole : Read → List ℕ → Type 0
 Whole (Frame control destination source n) s = (n ≤ userMax) × (frameSize n ≤ length s)
-Whole Short s = Unit {0}
-Whole Start s = Unit {0}
-Whole HeaderCheck s = Unit {0}
-Whole Length s = Unit {0}
-Whole BlockCheck s = Unit {0}
-Whole ReadLent s = Unit {0}
+Whole (Refused why) s = Unit {0}

@@ -2,13 +2,15 @@
 ghost use mathlib.Core.Path.{_≡_};
 ghost use Prim.Native.Nat.{_+_, _*_, _-_, _≤_, _<_};
 ghost use lib.ListN.{length};
+ghost use Rattle.laws.specs.Limits.{userMax};
+ghost use Rattle.laws.specs.Outcome.{numberOf};
 ghost use Rattle.octets.specs.Bytes.{splice};
 ghost use Rattle.frame.specs.Frame.{
   parts,
-  sealed,
+  withCrc,
   blocks,
-  headerOf,
-  sealOk,
+  linkHeader,
+  crcOk,
   blocksOk,
   users,
   decodeBody,
@@ -17,6 +19,8 @@ ghost use Rattle.frame.specs.Frame.{
   FrameRead,
   frameSize,
   userOf,
+  refusalNumber,
+  wroteOf,
   checkedOf,
   Whole,
 };
@@ -34,9 +38,25 @@ pub enum Wrote {
     // So many bytes were written.
     Size(usize),
     // 16: user data over 250.
-    TooLong,
+    UserTooLong,
     // 33: under 292 lent bytes.
-    WriteLent,
+    OutputTooSmall,
+}
+
+// Why a frame is not read.
+pub enum FrameRefusal {
+    // 11: under 10 bytes, or under the frame's size.
+    TooShort,
+    // 12: not 05 64.
+    Start,
+    // 13: header check wrong.
+    HeaderCheck,
+    // 14: length byte under 5.
+    Length,
+    // 15: a block check wrong.
+    BlockCheck,
+    // 33: under 250 lent bytes.
+    OutputTooSmall,
 }
 
 // What reading a frame answers.
@@ -48,24 +68,38 @@ pub enum Read {
         source: u16,
         len: usize,
     },
-    // 11: under 10 bytes, or under the frame's size.
-    Short,
-    // 12: not 05 64.
-    Start,
-    // 13: header check wrong.
-    HeaderCheck,
-    // 14: length byte under 5.
-    Length,
-    // 15: a block check wrong.
-    BlockCheck,
-    // 33: under 250 lent bytes.
-    ReadLent,
+    Refused(FrameRefusal),
+}
+
+// Document 01's number of a refusal to read.
+pub fn refusal_number(why: FrameRefusal) -> u8
+    ensures { λ r. ⌜ r ≡ refusalNumber why ⌝ }
+{
+    match why {
+        FrameRefusal::TooShort => 11,
+        FrameRefusal::Start => 12,
+        FrameRefusal::HeaderCheck => 13,
+        FrameRefusal::Length => 14,
+        FrameRefusal::BlockCheck => 15,
+        FrameRefusal::OutputTooSmall => 33,
+    }
+}
+
+// Document 01's number of a refusal to write; 0 for a frame that was written.
+pub fn wrote_number(w: Wrote) -> u8
+    ensures { λ r. ⌜ r ≡ numberOf (wroteOf w) ⌝ }
+{
+    match w {
+        Wrote::Size(_) => 0,
+        Wrote::UserTooLong => 16,
+        Wrote::OutputTooSmall => 33,
+    }
 }
 
 // Puts bytes and then their check at the offset.
-fn put_sealed(out: &mut [u8], at: usize, s: &[u8])
+fn put_with_crc(out: &mut [u8], at: usize, s: &[u8])
     requires { ⌜ at + length (now s) + 2 ≤ length (now out) ⌝ }
-    ensures { λ _. ⌜ now (out .exit) ≡ splice (now (out .entry)) at (sealed (now (s .entry))) ⌝ }
+    ensures { λ _. ⌜ now (out .exit) ≡ splice (now (out .entry)) at (withCrc (now (s .entry))) ⌝ }
 {
     octets::copy(out, at, s);
     octets::put2(out, at + s.len(), crc::check(s));
@@ -81,16 +115,16 @@ fn put_blocks(out: &mut [u8], at: usize, s: &[u8], k: usize)
     let mut left = k;
     while 0 < left {
         let e = octets::least(from + BLOCK, s.len());
-        put_sealed(out, to, &s[from..e]);
+        put_with_crc(out, to, &s[from..e]);
         to = to + (e - from) + 2;
         from += BLOCK;
         left -= 1;
     }
 }
 
-fn header(n: usize, control: u8, destination: u16, source: u16) -> [u8; 8]
-    requires { ⌜ n ≤ 250 ⌝ }
-    ensures { λ r. ⌜ r ≡ headerOf n control destination source ⌝ }
+fn link_header(n: usize, control: u8, destination: u16, source: u16) -> [u8; 8]
+    requires { ⌜ n ≤ userMax ⌝ }
+    ensures { λ r. ⌜ r ≡ linkHeader n control destination source ⌝ }
 {
     [
         5,
@@ -109,23 +143,23 @@ pub fn write_frame(out: &mut [u8], control: u8, destination: u16, source: u16, u
     ensures { λ r. ⌜ FrameWritten r (parts control destination source (now (user .entry))) (now (out .entry)) (now (out .exit)) ⌝ }
 {
     if out.len() < FRAME_MAX {
-        return Wrote::WriteLent;
+        return Wrote::OutputTooSmall;
     }
     let n = user.len();
     if USER_MAX < n {
-        return Wrote::TooLong;
+        return Wrote::UserTooLong;
     }
     let k = (n + 15) / BLOCK;
-    let h = header(n, control, destination, source);
-    put_sealed(out, 0, &h);
+    let h = link_header(n, control, destination, source);
+    put_with_crc(out, 0, &h);
     put_blocks(out, 10, user, k);
     Wrote::Size(10 + n + 2 * k)
 }
 
 // The last two bytes are the check of the others.
-fn seal_ok(s: &[u8]) -> bool
+fn crc_ok(s: &[u8]) -> bool
     requires { ⌜ 2 ≤ length (now s) ⌝ }
-    ensures { λ r. ⌜ r ≡ sealOk (now (s .entry)) ⌝ }
+    ensures { λ r. ⌜ r ≡ crcOk (now (s .entry)) ⌝ }
 {
     let n = s.len() - 2;
     crc::check(&s[..n]) == octets::take2(s, n)
@@ -140,7 +174,7 @@ fn blocks_ok(b: &[u8], k: usize) -> bool
     let mut left = k;
     while 0 < left {
         let e = octets::least(at + 18, b.len());
-        if !seal_ok(&b[at..e]) {
+        if !crc_ok(&b[at..e]) {
             return false;
         }
         at += 18;
@@ -168,16 +202,16 @@ fn copy_users(out: &mut [u8], b: &[u8], k: usize)
 
 // Checks the part of a frame after a header that says n user bytes.
 fn check_body(s: &[u8], n: usize) -> Read
-    requires { ⌜ (10 ≤ length (now s)) × (n ≤ 250) ⌝ }
+    requires { ⌜ (10 ≤ length (now s)) × (n ≤ userMax) ⌝ }
     ensures { λ r. ⌜ (checkedOf r (now (s .entry)) ≡ decodeBody n (now (s .entry))) × Whole r (now (s .entry)) ⌝ }
 {
     let k = (n + 15) / BLOCK;
     let size = 10 + n + 2 * k;
     if s.len() < size {
-        return Read::Short;
+        return Read::Refused(FrameRefusal::TooShort);
     }
     if !blocks_ok(&s[10..size], k) {
-        return Read::BlockCheck;
+        return Read::Refused(FrameRefusal::BlockCheck);
     }
     Read::Frame {
         control: s[3],
@@ -189,30 +223,30 @@ fn check_body(s: &[u8], n: usize) -> Read
 
 // Checks the frame at the front of the bytes; its user data stays in its blocks.
 pub fn check_frame(s: &[u8]) -> Read
-    ensures { λ r. ⌜ (checkedOf r (now (s .entry)) ≡ decode 250 (now (s .entry))) × Whole r (now (s .entry)) ⌝ }
+    ensures { λ r. ⌜ (checkedOf r (now (s .entry)) ≡ decode userMax (now (s .entry))) × Whole r (now (s .entry)) ⌝ }
 {
     if s.len() < 10 {
-        return Read::Short;
+        return Read::Refused(FrameRefusal::TooShort);
     }
     if s[0] != 5 {
-        return Read::Start;
+        return Read::Refused(FrameRefusal::Start);
     }
     if s[1] != 100 {
-        return Read::Start;
+        return Read::Refused(FrameRefusal::Start);
     }
-    if !seal_ok(&s[..10]) {
-        return Read::HeaderCheck;
+    if !crc_ok(&s[..10]) {
+        return Read::Refused(FrameRefusal::HeaderCheck);
     }
     let len = s[2] as usize;
     if len < 5 {
-        return Read::Length;
+        return Read::Refused(FrameRefusal::Length);
     }
     check_body(s, len - 5)
 }
 
 // Copies the user data of a frame that was checked to the front of the lent bytes: for callers that decide between check and copy.
 pub fn copy_user(out: &mut [u8], s: &[u8], n: usize)
-    requires { ⌜ (n ≤ 250) × (frameSize n ≤ length (now s)) × (n ≤ length (now out)) ⌝ }
+    requires { ⌜ (n ≤ userMax) × (frameSize n ≤ length (now s)) × (n ≤ length (now out)) ⌝ }
     ensures { λ _. ⌜ now (out .exit) ≡ splice (now (out .entry)) 0 (userOf n (now (s .entry))) ⌝ }
 {
     let k = (n + 15) / BLOCK;
@@ -225,7 +259,7 @@ pub fn read_frame(s: &[u8], out: &mut [u8]) -> Read
     ensures { λ r. ⌜ FrameRead r (now (s .entry)) (now (out .entry)) (now (out .exit)) ⌝ }
 {
     if out.len() < USER_MAX {
-        return Read::ReadLent;
+        return Read::Refused(FrameRefusal::OutputTooSmall);
     }
     let r = check_frame(s);
     let Read::Frame {

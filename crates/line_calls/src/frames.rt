@@ -75,8 +75,7 @@ fn written(f: FrameAt, user: &[u8], lent: &mut [u8]) -> Outcome {
     let r = frame::write_frame(lent, f.control, f.destination, f.source, user);
     match r {
         Wrote::Size(n) => answers::gave(n),
-        Wrote::TooLong => answers::refused(16),
-        Wrote::WriteLent => answers::refused(33),
+        _ => answers::refused(frame::wrote_number(r)),
     }
 }
 
@@ -114,11 +113,6 @@ fn read_outcome(f: Read) -> Outcome {
             source: _,
             len,
         } => answers::gave(len),
-        Read::Short => answers::refused(11),
-        Read::Start => answers::refused(12),
-        Read::HeaderCheck => answers::refused(13),
-        Read::Length => answers::refused(14),
-        Read::BlockCheck => answers::refused(15),
-        Read::ReadLent => answers::refused(33),
+        Read::Refused(why) => answers::refused(frame::refusal_number(why)),
     }
 }

@@ -58,10 +58,7 @@ fn received_outcome(a: Received, len: usize) -> Outcome {
     match a {
         Received::More => answers::gave(len),
         Received::Fragment(n) => answers::gave(n),
-        Received::SegmentLength => answers::refused(21),
-        Received::OutOfSequence => answers::refused(22),
-        Received::FragmentTooLong => answers::refused(23),
-        Received::AssemblyLent => answers::refused(33),
+        _ => answers::refused(transport::received_number(a)),
     }
 }
 
@@ -80,7 +77,7 @@ fn differ_past(used: usize, lent: &[u8], before: &[u8]) -> bool {
 }
 
 // Segments sent so far, and what is told of them.
-struct Progress {
+struct SentSoFar {
     sender: Sender,
     at: usize,
     spoilt: bool,
@@ -106,8 +103,8 @@ fn sent(
     out: &mut [u8],
     begin: usize,
     at: usize,
-) -> Progress {
-    let mut now = Progress {
+) -> SentSoFar {
+    let mut now = SentSoFar {
         sender: p,
         at,
         spoilt: false,
@@ -126,12 +123,12 @@ fn sent(
 
 // Sends the next segment, into lent bytes that are filled anew.
 fn sent_one(
-    now: Progress,
+    now: SentSoFar,
     fragment: &[u8],
     lent: &mut [u8],
     out: &mut [u8],
     begin: usize,
-) -> Progress {
+) -> SentSoFar {
     answers::fill(lent);
     let r = transport::send(now.sender, fragment, lent);
     let sender = r.sender;
@@ -139,7 +136,7 @@ fn sent_one(
     let o = sent_outcome(a);
     let from = if o.refusal == 0 { now.at } else { begin };
     let used = octets::least(o.used, lent.len());
-    Progress {
+    SentSoFar {
         sender,
         at: answers::put_outcome(o, b" ", lent, out, from),
         spoilt: now.spoilt || answers::changed(&lent[used..]),
@@ -150,8 +147,7 @@ fn sent_one(
 fn sent_outcome(a: Sent) -> Outcome {
     match a {
         Sent::Segment { size, last: _ } => answers::gave(size),
-        Sent::FragmentLength => answers::refused(16),
-        Sent::SegmentLent => answers::refused(33),
+        _ => answers::refused(transport::sent_number(a)),
     }
 }
 

@@ -3,6 +3,8 @@ use crate::answers;
 use crate::answers::Outcome;
 use crate::session;
 use crate::session::Session;
+use frame::FRAME_MAX;
+use link::COUNT_MAX;
 use link::LineRecord;
 use link::Taken;
 
@@ -13,7 +15,7 @@ struct Count {
 }
 
 fn count_of(f: &[u8], c: text::Cursor) -> Count {
-    let n = text::take_number(f, c, 44, 65535);
+    let n = text::take_number(f, c, 44, COUNT_MAX as u64);
     let next = n.next;
     Count {
         value: n.value as u16,
@@ -95,13 +97,7 @@ fn taken_outcome(t: Taken) -> Outcome {
     match t {
         Taken::UserData(n) => answers::gave(n),
         Taken::Reply(_) => answers::gave(0),
-        Taken::Short => answers::refused(11),
-        Taken::Start => answers::refused(12),
-        Taken::HeaderCheck => answers::refused(13),
-        Taken::Length => answers::refused(14),
-        Taken::BlockCheck => answers::refused(15),
-        Taken::NotTaken => answers::refused(17),
-        Taken::TakeLent => answers::refused(33),
+        _ => answers::refused(link::taken_number(t)),
     }
 }
 
@@ -123,7 +119,7 @@ fn put_taken(
 
 // `reply CC HEX`, with the reply's frame as frame writing gives it.
 fn put_reply(control: u8, st: link::Station, out: &mut [u8], at: usize) -> usize {
-    let mut f = [0u8; 292];
+    let mut f = [0u8; FRAME_MAX];
     let a = text::put_bytes(out, at, b"reply ");
     let b = text::put_byte(out, a, control);
     let c = text::put(out, b, 32);
@@ -131,6 +127,6 @@ fn put_reply(control: u8, st: link::Station, out: &mut [u8], at: usize) -> usize
     let frame::Wrote::Size(n) = r else {
         return c;
     };
-    let k = octets::least(n, 292);
+    let k = octets::least(n, FRAME_MAX);
     text::put_hex(out, c, &f[0..k])
 }

@@ -3,15 +3,16 @@
 use mathlib.Core.Path.{_≡_, refl, ap}
 use Prim.Native.Nat.{ℕ, _+_, _≤_, _<_}
 use mathlib.Core.List.{List, [], _∷_, _++_}
+use Rattle.laws.specs.Limits.{userMax}
 use Rattle.laws.specs.Outcome.{Outcome, accepted, refused}
 use Rattle.frame.specs.Frame.{Parts, parts, encode}
 use Rattle.frame.proofs.RoundTrip.{decode-encode}
 use Rattle.link.specs.declared.Station.{Station}
 use Rattle.link.specs.declared.LineRecord.{LineRecord}
-use Rattle.link.specs.Station.{Action, userData, reply, judge, asks, takes, station, countedOf}
+use Rattle.link.specs.Station.{Action, userData, reply, addressed, byFunction, takes, station, countedOf}
 
 -- a frame that was written is taken as what it says, whatever bytes follow
-pub station-encode : (st : Station) (f : Parts) (rest : List ℕ) (room : ℕ) → 250 ≤ room → f .destination < 65536 → f .source < 65536
+pub station-encode : (st : Station) (f : Parts) (rest : List ℕ) (room : ℕ) → userMax ≤ room → f .destination < 65536 → f .source < 65536
     → station room st (encode f ++ rest) ≡ takes st (accepted f)
 unfolding station
 station-encode st f rest room h d s = ap (takes st) (decode-encode f rest room h d s)
@@ -38,7 +39,7 @@ pub cases :
     × ((of 0x84 1 1024 (7 ∷ []) ≡ refused 17)
     × ((of 0x44 1 1024 (7 ∷ []) ≡ refused 17)
     × (of 0xC4 65535 1024 (7 ∷ []) ≡ refused 17)))))))))))))
-unfolding judge asks
+unfolding addressed byFunction
 cases = (refl, (refl, (refl, (refl, (refl, (refl, (refl, (refl, (refl, (refl, (refl, (refl, (refl, refl)))))))))))))
 
 -- a count stops at 65,535, and the others go on

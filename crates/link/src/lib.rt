@@ -1,25 +1,20 @@
 // The station on its link: which frames it takes, what it replies, and the line record.
 ghost use mathlib.Core.Path.{_≡_};
-ghost use mathlib.Core.Bool.{cond};
-ghost use lib.ListN.{length};
 ghost use mathlib.Core.List.{[]};
-ghost use lib.Dec.{eqb};
 ghost use Rattle.frame.specs.Frame.{FrameWritten};
 ghost use Rattle.laws.specs.Outcome.{numberOf};
 ghost use Rattle.link.specs.Station.{
-  upIf,
+  countIf,
   countedOf,
-  hands,
-  replies,
-  notTaken,
-  plainly,
-  asks,
-  judge,
+  withData,
+  withoutData,
+  byFunction,
+  addressed,
   takenBy,
-  settledOf,
-  station,
-  takenNumber,
+  afterCheck,
+  takenOf,
   FrameTaken,
+  FrameCounted,
   replyControl,
   toMaster,
 };
@@ -61,21 +56,15 @@ pub enum Taken {
     UserData(usize),
     // A reply with this control byte is to be sent; nothing is in the lent bytes.
     Reply(u8),
-    // 11 to 15, as in reading a frame.
-    Short,
-    Start,
-    HeaderCheck,
-    Length,
-    BlockCheck,
+    // 11 to 15 and 33, as in reading a frame.
+    Refused(frame::FrameRefusal),
     // 17: frame not one the station takes.
     NotTaken,
-    // 33: under 250 lent bytes.
-    TakeLent,
 }
 
 // One more where the test is true; 65,535 stays.
-fn up_if(test: bool, n: u16) -> u16
-    ensures { λ r. ⌜ r ≡ upIf test n ⌝ }
+fn count_if(test: bool, n: u16) -> u16
+    ensures { λ r. ⌜ r ≡ countIf test n ⌝ }
 {
     if test {
         if n < COUNT_MAX {
@@ -87,41 +76,36 @@ fn up_if(test: bool, n: u16) -> u16
 }
 
 // Document 01's number of a refusal; 0 for a frame that was accepted.
-fn number(t: Taken) -> u8
-    ensures { λ r. ⌜ r ≡ takenNumber t ⌝ }
+pub fn taken_number(t: Taken) -> u8
+    ensures { λ r. ⌜ r ≡ numberOf (takenOf t) ⌝ }
 {
     match t {
         Taken::UserData(_) => 0,
         Taken::Reply(_) => 0,
-        Taken::Short => 11,
-        Taken::Start => 12,
-        Taken::HeaderCheck => 13,
-        Taken::Length => 14,
-        Taken::BlockCheck => 15,
+        Taken::Refused(why) => frame::refusal_number(why),
         Taken::NotTaken => 17,
-        Taken::TakeLent => 33,
     }
 }
 
 // The record with this frame counted.
 pub fn counted(l: LineRecord, t: Taken) -> LineRecord
-    ensures { λ r. ⌜ r ≡ countedOf l (takenNumber t) ⌝ }
+    ensures { λ r. ⌜ r ≡ countedOf l (numberOf (takenOf t)) ⌝ }
 {
-    let k = number(t);
+    let k = taken_number(t);
     LineRecord {
-        accepted: up_if(k == 0, l.accepted),
-        short: up_if(k == 11, l.short),
-        start: up_if(k == 12, l.start),
-        header_check: up_if(k == 13, l.header_check),
-        length: up_if(k == 14, l.length),
-        block_check: up_if(k == 15, l.block_check),
-        not_taken: up_if(k == 17, l.not_taken),
+        accepted: count_if(k == 0, l.accepted),
+        short: count_if(k == 11, l.short),
+        start: count_if(k == 12, l.start),
+        header_check: count_if(k == 13, l.header_check),
+        length: count_if(k == 14, l.length),
+        block_check: count_if(k == 15, l.block_check),
+        not_taken: count_if(k == 17, l.not_taken),
     }
 }
 
-// User data: n at least 1.
-fn data(fcv: u8, n: usize) -> Taken
-    ensures { λ r. ⌜ r ≡ takenBy (plainly fcv (cond (eqb n 0) notTaken hands)) n ⌝ }
+// A function with user data: n at least 1.
+fn with_data(fcv: u8, n: usize) -> Taken
+    ensures { λ r. ⌜ r ≡ takenBy (withData fcv n) n ⌝ }
 {
     if fcv != 0 {
         return Taken::NotTaken;
@@ -133,8 +117,8 @@ fn data(fcv: u8, n: usize) -> Taken
 }
 
 // A function without user data, answered with this control byte.
-fn bare(fcv: u8, n: usize, control: u8) -> Taken
-    ensures { λ r. ⌜ r ≡ takenBy (plainly fcv (cond (eqb n 0) (replies control) notTaken)) n ⌝ }
+fn without_data(fcv: u8, n: usize, control: u8) -> Taken
+    ensures { λ r. ⌜ r ≡ takenBy (withoutData fcv n control) n ⌝ }
 {
     if fcv != 0 {
         return Taken::NotTaken;
@@ -146,26 +130,26 @@ fn bare(fcv: u8, n: usize, control: u8) -> Taken
 }
 
 // What a frame from the master to the station asks by its function.
-fn asked(control: u8, n: usize) -> Taken
-    ensures { λ r. ⌜ r ≡ takenBy (asks control n) n ⌝ }
+fn by_function(control: u8, n: usize) -> Taken
+    ensures { λ r. ⌜ r ≡ takenBy (byFunction control n) n ⌝ }
 {
     let function = control % 16;
     let fcv = control / 16 % 2;
     if function == 4 {
-        return data(fcv, n);
+        return with_data(fcv, n);
     }
     if function == 0 {
-        return bare(fcv, n, ACK);
+        return without_data(fcv, n, ACK);
     }
     if function == 9 {
-        return bare(fcv, n, LINK_STATUS);
+        return without_data(fcv, n, LINK_STATUS);
     }
     Taken::Reply(NOT_SUPPORTED)
 }
 
-// What a whole frame comes to.
-fn judged(st: Station, control: u8, destination: u16, source: u16, n: usize) -> Taken
-    ensures { λ r. ⌜ r ≡ takenBy (judge st control destination source n) n ⌝ }
+// What a whole frame comes to, by its addresses and its direction first.
+fn addressed(st: Station, control: u8, destination: u16, source: u16, n: usize) -> Taken
+    ensures { λ r. ⌜ r ≡ takenBy (addressed st control destination source n) n ⌝ }
 {
     if source != st.master {
         return Taken::NotTaken;
@@ -176,12 +160,12 @@ fn judged(st: Station, control: u8, destination: u16, source: u16, n: usize) -> 
     if control / 64 != 3 {
         return Taken::NotTaken;
     }
-    asked(control, n)
+    by_function(control, n)
 }
 
 // What a frame that was checked comes to.
-fn settled(st: Station, r: frame::Read) -> Taken
-    ensures { λ t. ⌜ t ≡ settledOf st r ⌝ }
+fn after_check(st: Station, r: frame::Read) -> Taken
+    ensures { λ t. ⌜ t ≡ afterCheck st r ⌝ }
 {
     match r {
         frame::Read::Frame {
@@ -189,13 +173,8 @@ fn settled(st: Station, r: frame::Read) -> Taken
             destination,
             source,
             len,
-        } => judged(st, control, destination, source, len),
-        frame::Read::Short => Taken::Short,
-        frame::Read::Start => Taken::Start,
-        frame::Read::HeaderCheck => Taken::HeaderCheck,
-        frame::Read::Length => Taken::Length,
-        frame::Read::BlockCheck => Taken::BlockCheck,
-        frame::Read::ReadLent => Taken::TakeLent,
+        } => addressed(st, control, destination, source, len),
+        frame::Read::Refused(why) => Taken::Refused(why),
     }
 }
 
@@ -204,10 +183,10 @@ pub fn take_frame(st: Station, s: &[u8], out: &mut [u8]) -> Taken
     ensures { λ r. ⌜ FrameTaken r st (now (s .entry)) (now (out .entry)) (now (out .exit)) ⌝ }
 {
     if out.len() < frame::USER_MAX {
-        return Taken::TakeLent;
+        return Taken::Refused(frame::FrameRefusal::OutputTooSmall);
     }
     let r = frame::check_frame(s);
-    let t = settled(st, r);
+    let t = after_check(st, r);
     let Taken::UserData(n) = t else {
         return t;
     };
@@ -217,9 +196,7 @@ pub fn take_frame(st: Station, s: &[u8], out: &mut [u8]) -> Taken
 
 // Takes a frame, and counts it in the line record, in place.
 pub fn receive(line: &mut LineRecord, st: Station, s: &[u8], out: &mut [u8]) -> Taken
-    ensures { λ r. ⌜
-        FrameTaken r st (now (s .entry)) (now (out .entry)) (now (out .exit))
-        × (now (line .exit) ≡ countedOf (now (line .entry)) (numberOf (station (length (now (out .entry))) st (now (s .entry))))) ⌝ }
+    ensures { λ r. ⌜ FrameCounted r (now (line .entry)) (now (line .exit)) st (now (s .entry)) (now (out .entry)) (now (out .exit)) ⌝ }
 {
     let t = take_frame(st, s, out);
     *line = counted(*line, t);
@@ -227,20 +204,18 @@ pub fn receive(line: &mut LineRecord, st: Station, s: &[u8], out: &mut [u8]) -> 
 }
 
 // A frame taken, and the line record after it.
-pub struct Received {
+pub struct FrameReceived {
     pub taken: Taken,
     pub line: LineRecord,
 }
 
 // `receive` for callers that keep the record in a local: it lends its own. Its parameters are plain, so a caller needs no walk.
-pub fn receive_by_value(line: LineRecord, st: Station, s: &[u8], out: &mut [u8]) -> Received
-    ensures { λ r. ⌜
-        FrameTaken (r .taken) st (now (s .entry)) (now (out .entry)) (now (out .exit))
-        × (r .line ≡ countedOf line (numberOf (station (length (now (out .entry))) st (now (s .entry))))) ⌝ }
+pub fn receive_by_value(line: LineRecord, st: Station, s: &[u8], out: &mut [u8]) -> FrameReceived
+    ensures { λ r. ⌜ FrameCounted (r .taken) line (r .line) st (now (s .entry)) (now (out .entry)) (now (out .exit)) ⌝ }
 {
     let mut m = line;
     let t = receive(&mut m, st, s, out);
-    Received { taken: t, line: m }
+    FrameReceived { taken: t, line: m }
 }
 
 // The control byte of a reply: 00 and 0B are themselves, and any other is NOT_SUPPORTED.
@@ -267,7 +242,7 @@ pub fn write_reply(out: &mut [u8], st: Station, control: u8) -> frame::Wrote
 
 // Writes user data to the master, under control byte 44.
 pub fn write_data(out: &mut [u8], st: Station, user: &[u8]) -> frame::Wrote
-    ensures { λ r. ⌜ FrameWritten r (toMaster st 68 (now (user .entry))) (now (out .entry)) (now (out .exit)) ⌝ }
+    ensures { λ r. ⌜ FrameWritten r (toMaster st 0x44 (now (user .entry))) (now (out .entry)) (now (out .exit)) ⌝ }
 {
     frame::write_frame(out, USER_DATA, st.master, st.own, user)
 }

@@ -6,7 +6,7 @@ use Prim.Native.Nat.{ℕ, zero, suc}
 use mathlib.Core.List.{List, [], _∷_}
 use Rattle.transport.specs.declared.Assembly.{Assembly}
 use Rattle.laws.specs.Outcome.{accepted, refused}
-use Rattle.transport.specs.Segment.{headOf, headerOf, segmentCount, cut, segmentsOf}
+use Rattle.transport.specs.Segment.{headOf, transportHeader, segmentCount, cut, segmentsOf}
 use Rattle.transport.specs.Receive.{idle, places, receiving, assemblyAfter}
 
 abbrev some : ℕ → List ℕ
@@ -26,7 +26,7 @@ pub sent : (segmentsOf 5 (1 ∷ 2 ∷ []) ≡ (0xC5 ∷ 1 ∷ 2 ∷ []) ∷ [])
     × ((heads (segmentsOf 63 (some 249)) ≡ 0xFF ∷ [])
     × ((heads (segmentsOf 63 (some 250)) ≡ 0x7F ∷ 0x80 ∷ [])
     × (heads (segmentsOf 62 (some 499)) ≡ 0x7E ∷ 0x3F ∷ 0x80 ∷ [])))
-unfolding cut headerOf
+unfolding cut transportHeader
 sent = (refl, (refl, (refl, refl)))
 
 pub counted : (segmentCount 1 ≡ 1) × ((segmentCount 249 ≡ 1) × ((segmentCount 250 ≡ 2) × ((segmentCount 1992 ≡ 8) × ((segmentCount 1993 ≡ 9) × (segmentCount 2048 ≡ 9)))))

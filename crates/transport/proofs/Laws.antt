@@ -1,7 +1,7 @@
 -- Laws of receiving and sending one segment: each refusal by its tests, and where the data of a segment goes.
 -- Assumes nothing.
 use mathlib.Core.Path.{_≡_, refl, sym, ap, ap₂, _∙_}
-use mathlib.Core.Bool.{Bool, true, false}
+use mathlib.Core.Bool.{Bool, true, false, not}
 use Prim.Native.Nat.{ℕ, suc, _+_, _-_, _*_, _/_, _%_, _≤_, _<_, min}
 use native.Mathlib.Omega.{arith}
 use mathlib.Core.List.{List}
@@ -9,13 +9,14 @@ use lib.ListN.{length, take, drop, set, length-drop, length-take}
 use lib.Seq.{take-all}
 use lib.Dec.{ltb, eqb}
 use borrow.Author.Tests.{lt-ltb, le-ltb, ltb-false, eq-eqb, ne-eqb}
+use Rattle.laws.specs.Limits.{segmentDataMax, fragmentMax}
 use Rattle.laws.proofs.Parts.{part-is}
-use Rattle.laws.proofs.Tests.{passed-no, passed-yes}
+use Rattle.laws.proofs.Tests.{passed-no}
 use Rattle.octets.specs.Bytes.{splice}
 use Rattle.octets.proofs.Splice.{splice-cons}
 use Rattle.laws.specs.Outcome.{Outcome, accepted, refused}
-use Rattle.transport.specs.Segment.{headOf, fin, fir, sequence, dataOf, nextOf, bitOf, headerOf, segment}
-use Rattle.transport.specs.Receive.{places, receiving, receivedOf, answerOf, assemblyAfter, lentAfter, SegmentReceived}
+use Rattle.transport.specs.Segment.{headOf, fin, fir, sequence, dataOf, nextSequence, bitOf, transportHeader, segment}
+use Rattle.transport.specs.Receive.{places, receiving, receivedOf, answerReceived, assemblyAfter, lentAfterReceive, SegmentReceived}
 use Rattle.transport.specs.Send.{fromOf, lastAt, endOf, nextSegment, nextSender, sending, writtenOf, sentOf, answerSent, senderAfter, lentAfterSend, SegmentSent}
 use Rattle.transport.specs.declared.Assembly.{Assembly}
 use Rattle.transport.specs.declared.Reception.{Reception}
@@ -26,58 +27,58 @@ use Rattle.transport.specs.declared.TransportSequence.{TransportSequence
 -- ---- receiving
 
 module _ (room : ℕ) (a : Assembly) (s : List ℕ) where
-  pub got-lent : room < 2048 → receiving room a s ≡ refused 33
+  pub got-lent : room < fragmentMax → receiving room a s ≡ refused 33
   unfolding receiving
-  got-lent h = rw (lt-ltb room 2048 h)
+  got-lent h = rw (lt-ltb room fragmentMax h)
 
-  pub got-short : 2048 ≤ room → length s < 2 → receiving room a s ≡ refused 21
+  pub got-short : fragmentMax ≤ room → length s < 2 → receiving room a s ≡ refused 21
   unfolding receiving
-  got-short h l = rw (le-ltb room 2048 h, lt-ltb (length s) 2 l)
+  got-short h l = rw (le-ltb room fragmentMax h, lt-ltb (length s) 2 l)
 
-  pub got-long : 2048 ≤ room → 2 ≤ length s → 250 < length s → receiving room a s ≡ refused 21
+  pub got-long : fragmentMax ≤ room → 2 ≤ length s → segmentDataMax + 1 < length s → receiving room a s ≡ refused 21
   unfolding receiving
-  got-long h l m = rw (le-ltb room 2048 h, le-ltb (length s) 2 l, lt-ltb 250 (length s) m)
+  got-long h l m = rw (le-ltb room fragmentMax h, le-ltb (length s) 2 l, lt-ltb (segmentDataMax + 1) (length s) m)
 
-  pub got-first : 2048 ≤ room → 2 ≤ length s → length s ≤ 250 → headOf s / 64 % 2 ≡ 1 → receiving room a s ≡ accepted 0
+  pub got-first : fragmentMax ≤ room → 2 ≤ length s → length s ≤ segmentDataMax + 1 → headOf s / 64 % 2 ≡ 1 → receiving room a s ≡ accepted 0
   unfolding receiving
-  got-first h l m e = rw (le-ltb room 2048 h, le-ltb (length s) 2 l, le-ltb 250 (length s) m, eq-eqb (headOf s / 64 % 2) 1 e)
+  got-first h l m e = rw (le-ltb room fragmentMax h, le-ltb (length s) 2 l, le-ltb (segmentDataMax + 1) (length s) m, eq-eqb (headOf s / 64 % 2) 1 e)
 
-  pub got-next : 2048 ≤ room → 2 ≤ length s → length s ≤ 250 → (headOf s / 64 % 2 ≡ 1 → ⊥)
+  pub got-next : fragmentMax ≤ room → 2 ≤ length s → length s ≤ segmentDataMax + 1 → (headOf s / 64 % 2 ≡ 1 → ⊥)
       → receiving room a s ≡ places a (sequence (headOf s)) (length (dataOf s))
   unfolding receiving
-  got-next h l m e = rw (le-ltb room 2048 h, le-ltb (length s) 2 l, le-ltb 250 (length s) m, ne-eqb (headOf s / 64 % 2) 1 e)
+  got-next h l m e = rw (le-ltb room fragmentMax h, le-ltb (length s) 2 l, le-ltb (segmentDataMax + 1) (length s) m, ne-eqb (headOf s / 64 % 2) 1 e)
 
 -- the contract from the outcome
-pub received-by : (r : Reception) (a : Assembly) (s d d′ : List ℕ) (o : Outcome ℕ) → receiving (length d) a s ≡ o → receivedOf (r .answer) ≡ answerOf s o
-    → r .assembly ≡ assemblyAfter a s o → d′ ≡ lentAfter d s o → SegmentReceived r a s d d′
+pub received-by : (r : Reception) (a : Assembly) (s d d′ : List ℕ) (o : Outcome ℕ) → receiving (length d) a s ≡ o → receivedOf (r .answer) ≡ answerReceived s o
+    → r .assembly ≡ assemblyAfter a s o → d′ ≡ lentAfterReceive d s o → SegmentReceived r a s d d′
 received-by r a s d d′ o e x y z =
-    record { answer = x ∙ ap (answerOf s) (sym e); assembly = y ∙ ap (assemblyAfter a s) (sym e); lent = z ∙ ap (lentAfter d s) (sym e) }
+    record { answer = x ∙ ap (answerReceived s) (sym e); assembly = y ∙ ap (assemblyAfter a s) (sym e); lent = z ∙ ap (lentAfterReceive d s) (sym e) }
 
 module _ (a : Assembly) (q n : ℕ) where
   pub place-idle : a .begun ≡ false → places a q n ≡ refused 22
   unfolding places
   place-idle b = rw b
 
-  pub place-other : a .begun ≡ true → (q ≡ nextOf (a .last) .0 → ⊥) → places a q n ≡ refused 22
+  pub place-other : a .begun ≡ true → (q ≡ nextSequence (a .last) .0 → ⊥) → places a q n ≡ refused 22
   unfolding places
-  place-other b e = rw (b, ne-eqb q (nextOf (a .last) .0) e)
+  place-other b e = rw (b, ne-eqb q (nextSequence (a .last) .0) e)
 
-  pub place-long : a .begun ≡ true → q ≡ nextOf (a .last) .0 → 2048 < a .len + n → places a q n ≡ refused 23
+  pub place-long : a .begun ≡ true → q ≡ nextSequence (a .last) .0 → fragmentMax < a .len + n → places a q n ≡ refused 23
   unfolding places
-  place-long b e h = rw (b, eq-eqb q (nextOf (a .last) .0) e, lt-ltb 2048 (a .len + n) h)
+  place-long b e h = rw (b, eq-eqb q (nextSequence (a .last) .0) e, lt-ltb fragmentMax (a .len + n) h)
 
-  pub place-at : a .begun ≡ true → q ≡ nextOf (a .last) .0 → a .len + n ≤ 2048 → places a q n ≡ accepted (a .len)
+  pub place-at : a .begun ≡ true → q ≡ nextSequence (a .last) .0 → a .len + n ≤ fragmentMax → places a q n ≡ accepted (a .len)
   unfolding places
-  place-at b e h = rw (b, eq-eqb q (nextOf (a .last) .0) e, le-ltb 2048 (a .len + n) h)
+  place-at b e h = rw (b, eq-eqb q (nextSequence (a .last) .0) e, le-ltb fragmentMax (a .len + n) h)
 
 -- data that is placed passes the limit nowhere
-pub place-fits : (a : Assembly) (q n at : ℕ) → places a q n ≡ accepted at → at + n ≤ 2048
+pub place-fits : (a : Assembly) (q n at : ℕ) → places a q n ≡ accepted at → at + n ≤ fragmentMax
 unfolding places
 place-fits a q n at e =
-    let a1 = passed-yes (a .begun) 22 _ at e in
-    let a2 = passed-yes (eqb q (nextOf (a .last) .0)) 22 _ at (a1 .1) in
-    let a3 = passed-no (ltb 2048 (a .len + n)) 23 _ at (a2 .1) in
-    let l : a .len + n ≤ 2048 = ltb-false _ _ (a3 .0) in
+    let a1 = passed-no (not (a .begun)) 22 _ at e in
+    let a2 = passed-no (not (eqb q (nextSequence (a .last) .0))) 22 _ at (a1 .1) in
+    let a3 = passed-no (ltb fragmentMax (a .len + n)) 23 _ at (a2 .1) in
+    let l : a .len + n ≤ fragmentMax = ltb-false _ _ (a3 .0) in
     let k : a .len ≡ at = cc (a3 .1) in
     omega arith
 
@@ -94,21 +95,21 @@ rest-length-0 s = simp length-drop (omega arith)
 -- ---- sending
 
 module _ (room : ℕ) (p : Sender) (f : List ℕ) where
-  pub send-lent : room < 250 → sending room p f ≡ refused 33
+  pub send-lent : room < segmentDataMax + 1 → sending room p f ≡ refused 33
   unfolding sending
-  send-lent h = rw (lt-ltb room 250 h)
+  send-lent h = rw (lt-ltb room (segmentDataMax + 1) h)
 
-  pub send-none : 250 ≤ room → length f < 1 → sending room p f ≡ refused 16
+  pub send-none : segmentDataMax + 1 ≤ room → length f < 1 → sending room p f ≡ refused 16
   unfolding sending
-  send-none h l = rw (le-ltb room 250 h, lt-ltb (length f) 1 l)
+  send-none h l = rw (le-ltb room (segmentDataMax + 1) h, lt-ltb (length f) 1 l)
 
-  pub send-long : 250 ≤ room → 1 ≤ length f → 2048 < length f → sending room p f ≡ refused 16
+  pub send-long : segmentDataMax + 1 ≤ room → 1 ≤ length f → fragmentMax < length f → sending room p f ≡ refused 16
   unfolding sending
-  send-long h l m = rw (le-ltb room 250 h, le-ltb (length f) 1 l, lt-ltb 2048 (length f) m)
+  send-long h l m = rw (le-ltb room (segmentDataMax + 1) h, le-ltb (length f) 1 l, lt-ltb fragmentMax (length f) m)
 
-  pub send-next : 250 ≤ room → 1 ≤ length f → length f ≤ 2048 → sending room p f ≡ accepted (nextSegment p f)
+  pub send-next : segmentDataMax + 1 ≤ room → 1 ≤ length f → length f ≤ fragmentMax → sending room p f ≡ accepted (nextSegment p f)
   unfolding sending
-  send-next h l m = rw (le-ltb room 250 h, le-ltb (length f) 1 l, le-ltb 2048 (length f) m)
+  send-next h l m = rw (le-ltb room (segmentDataMax + 1) h, le-ltb (length f) 1 l, le-ltb fragmentMax (length f) m)
 
 -- the contract from the outcome
 pub sent-by : (r : Sending) (p : Sender) (f d d′ : List ℕ) (o : Outcome (List ℕ)) → sending (length d) p f ≡ o → sentOf (r .answer) ≡ answerSent o
@@ -126,57 +127,57 @@ bit-one false = refl
 
 module _ (first last : Bool) (q : ℕ) where
   -- the parts of a transport byte
-  pub fin-header : fin (headerOf first last q) ≡ last
-  unfolding headerOf
+  pub fin-header : fin (transportHeader first last q) ≡ last
+  unfolding transportHeader
   fin-header =
       let a : bitOf first ≤ 1 = bit-le first in
       let b : bitOf last ≤ 1 = bit-le last in
       let e : (128 * bitOf last + 64 * bitOf first + q % 64) / 128 % 2 ≡ bitOf last = omega arith in
       ap (λ (k : ℕ). eqb k 1) e ∙ bit-one last
 
-  pub fir-header : fir (headerOf first last q) ≡ first
-  unfolding headerOf
+  pub fir-header : fir (transportHeader first last q) ≡ first
+  unfolding transportHeader
   fir-header =
       let a : bitOf first ≤ 1 = bit-le first in
       let b : bitOf last ≤ 1 = bit-le last in
       let e : (128 * bitOf last + 64 * bitOf first + q % 64) / 64 % 2 ≡ bitOf first = omega arith in
       ap (λ (k : ℕ). eqb k 1) e ∙ bit-one first
 
-  pub sequence-header : sequence (headerOf first last q) ≡ q % 64
-  unfolding headerOf
+  pub sequence-header : sequence (transportHeader first last q) ≡ q % 64
+  unfolding transportHeader
   sequence-header =
       let a : bitOf first ≤ 1 = bit-le first in
       let b : bitOf last ≤ 1 = bit-le last in
       omega arith
 
 -- the part of the fragment from here, at most 249 bytes
-module _ (f : List ℕ) (at e : ℕ) (h : at < length f) (k : e ≡ min (at + 249) (length f)) where
-  segment-is : take (e - at) (drop at f) ≡ take 249 (drop at f)
-  segment-is = part-is 249 at e f (omega arith) k
+module _ (f : List ℕ) (at e : ℕ) (h : at < length f) (k : e ≡ min (at + segmentDataMax) (length f)) where
+  segment-is : take (e - at) (drop at f) ≡ take segmentDataMax (drop at f)
+  segment-is = part-is segmentDataMax at e f (omega arith) k
 
-  segment-length : length (take 249 (drop at f)) ≡ e - at
-  segment-length = length-take 249 (drop at f) ∙ simp length-drop (omega arith)
+  segment-length : length (take segmentDataMax (drop at f)) ≡ e - at
+  segment-length = length-take segmentDataMax (drop at f) ∙ simp length-drop (omega arith)
 
 -- what is written, and what is kept
 module _ (p : Sender) (f : List ℕ) (at : ℕ) where
-  pub sender-is : (q : TransportSequence) (x : ℕ) → at ≡ fromOf (p .at) (length f) → q ≡ nextOf (p .next) → x ≡ endOf at (length f)
+  pub sender-is : (q : TransportSequence) (x : ℕ) → at ≡ fromOf (p .at) (length f) → q ≡ nextSequence (p .next) → x ≡ endOf at (length f)
       → _≡_ {A = Sender} (record { next = q; at = x }) (nextSender p f)
   unfolding nextSender
   sender-is q x e eq ex = ap₂ (λ (r : TransportSequence) (y : ℕ). record { next = r; at = y }) eq (ex ∙ ap (λ (n : ℕ). endOf n (length f)) e)
 
-  module _ (e : ℕ) (here : at ≡ fromOf (p .at) (length f)) (h : at < length f) (k : e ≡ min (at + 249) (length f)) where
-    next-is : nextSegment p f ≡ segment (eqb at 0) (lastAt at (length f)) (p .next .0) (take 249 (drop at f))
+  module _ (e : ℕ) (here : at ≡ fromOf (p .at) (length f)) (h : at < length f) (k : e ≡ min (at + segmentDataMax) (length f)) where
+    next-is : nextSegment p f ≡ segment (eqb at 0) (lastAt at (length f)) (p .next .0) (take segmentDataMax (drop at f))
     unfolding nextSegment
-    next-is = ap (λ (n : ℕ). segment (eqb n 0) (lastAt n (length f)) (p .next .0) (take 249 (drop n f))) (sym here)
+    next-is = ap (λ (n : ℕ). segment (eqb n 0) (lastAt n (length f)) (p .next .0) (take segmentDataMax (drop n f))) (sym here)
 
     pub written-is : writtenOf (nextSegment p f) ≡ accepted (record { size = e - at + 1; last = lastAt at (length f) })
     written-is =
-        let n : suc (length (take 249 (drop at f))) ≡ e - at + 1 = omega (arith, segment-length f at e h k) in
+        let n : suc (length (take segmentDataMax (drop at f))) ≡ e - at + 1 = omega (arith, segment-length f at e h k) in
         ap writtenOf next-is ∙ ap₂ (λ (m : ℕ) (b : Bool). accepted (record { size = m; last = b })) n (fin-header (eqb at 0) (lastAt at (length f)) (p .next .0))
 
-    pub splice-is : (d : List ℕ) (x : ℕ) → x ≡ headerOf (eqb at 0) (lastAt at (length f)) (p .next .0)
+    pub splice-is : (d : List ℕ) (x : ℕ) → x ≡ transportHeader (eqb at 0) (lastAt at (length f)) (p .next .0)
         → splice (set d 0 x) 1 (take (e - at) (drop at f)) ≡ splice d 0 (nextSegment p f)
     splice-is d x ex =
         ap₂ (λ (y : ℕ) (l : List ℕ). splice (set d 0 y) 1 l) ex (segment-is f at e h k)
-        ∙ sym (splice-cons d 0 (headerOf (eqb at 0) (lastAt at (length f)) (p .next .0)) (take 249 (drop at f)))
+        ∙ sym (splice-cons d 0 (transportHeader (eqb at 0) (lastAt at (length f)) (p .next .0)) (take segmentDataMax (drop at f)))
         ∙ ap (splice d 0) (sym next-is)

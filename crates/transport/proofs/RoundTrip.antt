@@ -10,22 +10,24 @@ use lib.ListN.{length, getD, take, drop, length-take, length-drop, take-append-d
 use lib.Seq.{take-all, drop-drop}
 use lib.Dec.{ltb, eqb, eqb·suc-zero, eqb·suc-suc}
 use borrow.Author.Tests.{lt-ltb, ltb-false, le-leb, lt-leb, leb-true, leb-false, ne-eqb, eqb-false, eqb-true}
+use Rattle.laws.specs.Limits.{segmentDataMax, fragmentMax}
 use Rattle.laws.proofs.Tests.{cond-same}
 use Rattle.octets.specs.Bytes.{splice}
 use Rattle.octets.proofs.Splice.{splice-append, length-splice, stored-splice}
 use Rattle.laws.specs.Outcome.{Outcome, accepted, refused}
-use Rattle.transport.specs.Segment.{headOf, fin, sequence, dataOf, bitOf, headerOf, segment, segmentCount, cut, segmentsOf}
-use Rattle.transport.specs.Receive.{idle, receiving, Taken, more, complete, answerOf, assemblyAfter, lentAfter, receivedOf}
+use Rattle.transport.specs.Segment.{headOf, fin, sequence, dataOf, bitOf, transportHeader, segment, segmentCount, cut, segmentsOf}
+use Rattle.transport.specs.Receive.{idle, receiving, Progress, more, complete, answerReceived, assemblyAfter, lentAfterReceive, receivedOf}
 use Rattle.transport.specs.Send.{Written, fromOf, lastAt, endOf, nextSegment, nextSender, sending, writtenOf, answerSent, senderAfter, lentAfterSend, sentOf, SegmentSent}
 use Rattle.transport.specs.RoundTrip.{Sends, Receives, none, next, completes, SentIsReceived, SentWhole, SendsEnd}
 use Rattle.transport.specs.RoundTrip as Trip
 use Rattle.transport.specs.declared.Assembly.{Assembly}
 use Rattle.transport.specs.declared.Received.{Received}
-use Rattle.transport.specs.declared.Received.the-variants.{More, Fragment, SegmentLength, OutOfSequence, FragmentTooLong, AssemblyLent}
+use Rattle.transport.specs.declared.Received.the-variants.{More, Fragment, SegmentLength, OutOfSequence, FragmentTooLong, OutputTooSmall}
 use Rattle.transport.specs.declared.Sender.{Sender}
 use Rattle.transport.specs.declared.Sending.{Sending}
 use Rattle.transport.specs.declared.Sent.{Sent}
-use Rattle.transport.specs.declared.Sent.the-variants.{Segment, FragmentLength, SegmentLent}
+use Rattle.transport.specs.declared.Sent.the-variants.{Segment, FragmentLength}
+use Rattle.transport.specs.declared.Sent.the-variants as Sents
 use Rattle.transport.proofs.Laws.{got-first, got-next, place-at, send-next, fin-header, fir-header, sequence-header}
 
 -- ---- the segments
@@ -33,59 +35,59 @@ use Rattle.transport.proofs.Laws.{got-first, got-next, place-at, send-n
 pub length-cut : (k : ℕ) (first : Bool) (q : ℕ) (u : List ℕ) → length (cut k first q u) ≡ k
 unfolding cut
 length-cut zero first q u = refl
-length-cut (suc k) first q u = ap suc (length-cut k false ((q + 1) % 64) (drop 249 u))
+length-cut (suc k) first q u = ap suc (length-cut k false ((q + 1) % 64) (drop segmentDataMax u))
 
 -- exactly f/249 rounded up, never above nine
-pub count-is : (q : ℕ) (f : List ℕ) → length f ≤ 2048 → (length (segmentsOf q f) ≡ segmentCount (length f)) × (segmentCount (length f) ≤ 9)
+pub count-is : (q : ℕ) (f : List ℕ) → length f ≤ fragmentMax → (length (segmentsOf q f) ≡ segmentCount (length f)) × (segmentCount (length f) ≤ 9)
 count-is q f h = (length-cut (segmentCount (length f)) true q f, omega arith)
 
-header-mod : (first last : Bool) (q r : ℕ) → q % 64 ≡ r % 64 → headerOf first last q ≡ headerOf first last r
-unfolding headerOf
+header-mod : (first last : Bool) (q r : ℕ) → q % 64 ≡ r % 64 → transportHeader first last q ≡ transportHeader first last r
+unfolding transportHeader
 header-mod first last q r e = ap (λ (k : ℕ). 128 * bitOf last + 64 * bitOf first + k) e
 
 -- the segment at i: FIR at the first only, FIN at the last only, numbered on, and the bytes from 249 * i
 pub cut-at : (k : ℕ) (first : Bool) (q : ℕ) (u : List ℕ) (i : ℕ) → i < k
-    → getD (cut k first q u) i [] ≡ segment (cond (eqb i 0) first false) (eqb k (suc i)) (q + i) (take 249 (drop (249 * i) u))
+    → getD (cut k first q u) i [] ≡ segment (cond (eqb i 0) first false) (eqb k (suc i)) (q + i) (take segmentDataMax (drop (segmentDataMax * i) u))
 unfolding cut
 cut-at zero first q u i h = absurd (omega arith)
 cut-at (suc k) first q u zero h =
     let e : q % 64 ≡ (q + 0) % 64 = omega arith in
-    ap (λ (x : ℕ). x ∷ take 249 u) (header-mod first (eqb k 0) q (q + 0) e ∙ ap (λ (b : Bool). headerOf first b (q + 0)) (sym (eqb·suc-suc k 0)))
+    ap (λ (x : ℕ). x ∷ take segmentDataMax u) (header-mod first (eqb k 0) q (q + 0) e ∙ ap (λ (b : Bool). transportHeader first b (q + 0)) (sym (eqb·suc-suc k 0)))
 cut-at (suc k) first q u (suc i) h =
     let e : ((q + 1) % 64 + i) % 64 ≡ (q + suc i) % 64 = omega arith in
-    let n : 249 + 249 * i ≡ 249 * suc i = omega arith in
+    let n : segmentDataMax + segmentDataMax * i ≡ segmentDataMax * suc i = omega arith in
     let f : cond (eqb i 0) false false ≡ cond (eqb (suc i) 0) first false = cond-same (eqb i 0) false ∙ sym (ap (λ (b : Bool). cond b first false) (eqb·suc-zero i)) in
-    cut-at k false ((q + 1) % 64) (drop 249 u) i (omega arith)
-    ∙ ap₂ (λ (x : ℕ) (l : List ℕ). x ∷ take 249 l)
-    (ap₂ (λ (b t : Bool). headerOf b t ((q + 1) % 64 + i)) f (sym (eqb·suc-suc k (suc i))) ∙ header-mod (cond (eqb (suc i) 0) first false) (eqb (suc k) (suc (suc i))) ((q + 1) % 64 + i) (q + suc i) e)
-    (drop-drop (249 * i) 249 u ∙ ap (λ (m : ℕ). drop m u) n)
+    cut-at k false ((q + 1) % 64) (drop segmentDataMax u) i (omega arith)
+    ∙ ap₂ (λ (x : ℕ) (l : List ℕ). x ∷ take segmentDataMax l)
+    (ap₂ (λ (b t : Bool). transportHeader b t ((q + 1) % 64 + i)) f (sym (eqb·suc-suc k (suc i))) ∙ header-mod (cond (eqb (suc i) 0) first false) (eqb (suc k) (suc (suc i))) ((q + 1) % 64 + i) (q + suc i) e)
+    (drop-drop (segmentDataMax * i) segmentDataMax u ∙ ap (λ (m : ℕ). drop m u) n)
 
 -- the data of all of them, one after the other
 unfoldable pub joined : List (List ℕ) → List ℕ
 joined [] = []
 joined (s ∷ ss) = dataOf s ++ joined ss
 
-pub joined-cut : (k : ℕ) (first : Bool) (q : ℕ) (u : List ℕ) → length u ≤ 249 * k → joined (cut k first q u) ≡ u
+pub joined-cut : (k : ℕ) (first : Bool) (q : ℕ) (u : List ℕ) → length u ≤ segmentDataMax * k → joined (cut k first q u) ≡ u
 unfolding cut joined
 joined-cut zero first q [] h = refl
 joined-cut zero first q (x ∷ u) h = absurd (omega arith)
 joined-cut (suc k) first q u h =
-    ap (λ (l : List ℕ). take 249 u ++ l) (joined-cut k false ((q + 1) % 64) (drop 249 u) (simp length-drop (omega arith))) ∙ take-append-drop 249 u
+    ap (λ (l : List ℕ). take segmentDataMax u ++ l) (joined-cut k false ((q + 1) % 64) (drop segmentDataMax u) (simp length-drop (omega arith))) ∙ take-append-drop segmentDataMax u
 
 pub joined-is : (q : ℕ) (f : List ℕ) → joined (segmentsOf q f) ≡ f
 joined-is q f = joined-cut (segmentCount (length f)) true q f (omega arith)
 
 -- all are full but perhaps the last, which has what is left
-pub full : (q : ℕ) (f : List ℕ) (i : ℕ) → suc i < segmentCount (length f) → length (getD (segmentsOf q f) i []) ≡ 250
+pub full : (q : ℕ) (f : List ℕ) (i : ℕ) → suc i < segmentCount (length f) → length (getD (segmentsOf q f) i []) ≡ segmentDataMax + 1
 full q f i h =
-    let n : suc (length (take 249 (drop (249 * i) f))) ≡ 250 = simp (length-take, length-drop) (omega arith) in
+    let n : suc (length (take segmentDataMax (drop (segmentDataMax * i) f))) ≡ segmentDataMax + 1 = simp (length-take, length-drop) (omega arith) in
     ap length (cut-at (segmentCount (length f)) true q f i (omega arith)) ∙ n
 
 pub last-size : (q : ℕ) (f : List ℕ) → 0 < length f
-    → length (getD (segmentsOf q f) (segmentCount (length f) - 1) []) ≡ length f - 249 * (segmentCount (length f) - 1) + 1
+    → length (getD (segmentsOf q f) (segmentCount (length f) - 1) []) ≡ length f - segmentDataMax * (segmentCount (length f) - 1) + 1
 last-size q f h =
     let i : ℕ = segmentCount (length f) - 1 in
-    let n : suc (length (take 249 (drop (249 * i) f))) ≡ length f - 249 * i + 1 = simp (length-take, length-drop) (omega arith) in
+    let n : suc (length (take segmentDataMax (drop (segmentDataMax * i) f))) ≡ length f - segmentDataMax * i + 1 = simp (length-take, length-drop) (omega arith) in
     ap length (cut-at (segmentCount (length f)) true q f i (omega arith)) ∙ n
 
 -- ---- sending them
@@ -112,29 +114,29 @@ module _ (q at : ℕ) (f : List ℕ) (h : at < length f) where
   from-is : fromOf at (length f) ≡ at
   from-is = simp (lt-ltb at (length f) h)
 
-  segment-is : nextSegment (sender q at) f ≡ segment (eqb at 0) (lastAt at (length f)) q (take 249 (drop at f))
+  segment-is : nextSegment (sender q at) f ≡ segment (eqb at 0) (lastAt at (length f)) q (take segmentDataMax (drop at f))
   unfolding nextSegment
-  segment-is = ap (λ (n : ℕ). segment (eqb n 0) (lastAt n (length f)) q (take 249 (drop n f))) from-is
+  segment-is = ap (λ (n : ℕ). segment (eqb n 0) (lastAt n (length f)) q (take segmentDataMax (drop n f))) from-is
 
   sender-next : nextSender (sender q at) f ≡ sender ((q + 1) % 64) (endOf at (length f))
   unfolding nextSender
   sender-next = ap (λ (n : ℕ). sender ((q + 1) % 64) (endOf n (length f))) from-is
 
-pub calls-cut : (k q at : ℕ) (f : List ℕ) → at < length f → length f ≤ at + 249 * suc k → at + 249 * k < length f
+pub calls-cut : (k q at : ℕ) (f : List ℕ) → at < length f → length f ≤ at + segmentDataMax * suc k → at + segmentDataMax * k < length f
     → calls (suc k) (sender q at) f ≡ called (cut (suc k) (eqb at 0) q (drop at f)) ((q + suc k) % 64)
 unfolding calls cut
 calls-cut zero q at f h l g =
-    let last : lastAt at (length f) ≡ true = le-leb (length f) (at + 249) (omega arith) in
+    let last : lastAt at (length f) ≡ true = le-leb (length f) (at + segmentDataMax) (omega arith) in
     rw (segment-is q at f h, sender-next q at f h, last)
 calls-cut (suc k) q at f h l g =
-    let last : lastAt at (length f) ≡ false = lt-leb (length f) (at + 249) (omega arith) in
-    let first : eqb (at + 249) 0 ≡ false = ne-eqb (at + 249) 0 (λ e. omega arith) in
+    let last : lastAt at (length f) ≡ false = lt-leb (length f) (at + segmentDataMax) (omega arith) in
+    let first : eqb (at + segmentDataMax) 0 ≡ false = ne-eqb (at + segmentDataMax) 0 (λ e. omega arith) in
     let n : ((q + 1) % 64 + suc k) % 64 ≡ (q + suc (suc k)) % 64 = omega arith in
-    let ih = calls-cut k ((q + 1) % 64) (at + 249) f (omega arith) (omega arith) (omega arith) in
+    let ih = calls-cut k ((q + 1) % 64) (at + segmentDataMax) f (omega arith) (omega arith) (omega arith) in
     rw (segment-is q at f h, sender-next q at f h, last, eqb·suc-zero k)
-    (ap (wrote (segment (eqb at 0) false q (take 249 (drop at f)))) ih
-    ∙ ap₂ (λ (l : List (List ℕ)) (m : ℕ). called (segment (eqb at 0) false q (take 249 (drop at f)) ∷ l) m)
-    (rw (first, drop-drop 249 at f) refl) n)
+    (ap (wrote (segment (eqb at 0) false q (take segmentDataMax (drop at f)))) ih
+    ∙ ap₂ (λ (l : List (List ℕ)) (m : ℕ). called (segment (eqb at 0) false q (take segmentDataMax (drop at f)) ∷ l) m)
+    (rw (first, drop-drop segmentDataMax at f) refl) n)
 
 -- as many calls as segments write exactly the segments, and the next fragment is numbered on
 pub calls-whole : (q : ℕ) (f : List ℕ) → 0 < length f
@@ -150,21 +152,21 @@ calls-whole q f h =
 
 -- several segments in order
 pub record Run : Type 0 where
-  pub answers : List (Outcome Taken)
+  pub answers : List (Outcome Progress)
   pub assembly : Assembly
   pub lent : List ℕ
 
-abbrev pub answered : Outcome Taken → Run → Run
+abbrev pub answered : Outcome Progress → Run → Run
 answered o r = record { answers = o ∷ r .answers; assembly = r .assembly; lent = r .lent }
 
 unfoldable pub receiveAll : Assembly → List ℕ → List (List ℕ) → Run
 receiveAll a d [] = record { answers = []; assembly = a; lent = d }
 receiveAll a d (s ∷ ss) =
-    answered (answerOf s (receiving (length d) a s))
-    (receiveAll (assemblyAfter a s (receiving (length d) a s)) (lentAfter d s (receiving (length d) a s)) ss)
+    answered (answerReceived s (receiving (length d) a s))
+    (receiveAll (assemblyAfter a s (receiving (length d) a s)) (lentAfterReceive d s (receiving (length d) a s)) ss)
 
 -- k times more to come, then a complete fragment of n bytes
-unfoldable pub goes : ℕ → ℕ → List (Outcome Taken)
+unfoldable pub goes : ℕ → ℕ → List (Outcome Progress)
 goes zero n = accepted (complete n) ∷ []
 goes (suc k) n = accepted more ∷ goes k n
 
@@ -172,7 +174,7 @@ abbrev ended : ℕ → ℕ → List ℕ → Run
 ended k n d = record { answers = goes k n; assembly = idle; lent = d }
 
 -- without FIR and in sequence, behind what came
-follows : (a : Assembly) (d v : List ℕ) (q r at : ℕ) (last : Bool) → 2048 ≤ length d → 0 < length v → length v ≤ 249 → at + length v ≤ 2048
+follows : (a : Assembly) (d v : List ℕ) (q r at : ℕ) (last : Bool) → fragmentMax ≤ length d → 0 < length v → length v ≤ segmentDataMax → at + length v ≤ fragmentMax
     → a .begun ≡ true → a .len ≡ at → r % 64 ≡ (a .last .0 + 1) % 64 → receiving (length d) a (segment false last r v) ≡ accepted at
 follows a d v q r at last room some full fits b l e =
     let s : List ℕ = segment false last r v in
@@ -180,35 +182,35 @@ follows a d v q r at last room some full fits b l e =
     ∙ place-at a (sequence (headOf s)) (length v) b (sequence-header false last r ∙ e) (omega arith)
     ∙ ap accepted l
 
-pub feeds : (k : ℕ) (first : Bool) (q at : ℕ) (a : Assembly) (d u : List ℕ) → receiving (length d) a (segment first (eqb k 0) q (take 249 u)) ≡ accepted at
-    → 2048 ≤ length d → at + length u ≤ 2048 → length u ≤ 249 * suc k → 249 * k < length u
+pub feeds : (k : ℕ) (first : Bool) (q at : ℕ) (a : Assembly) (d u : List ℕ) → receiving (length d) a (segment first (eqb k 0) q (take segmentDataMax u)) ≡ accepted at
+    → fragmentMax ≤ length d → at + length u ≤ fragmentMax → length u ≤ segmentDataMax * suc k → segmentDataMax * k < length u
     → receiveAll a d (cut (suc k) first q u) ≡ ended k (at + length u) (splice d at u)
 unfolding receiveAll cut goes
-feeds zero first q at a d u e room fits l g = rw (e, fin-header first true q, take-all 249 u (omega arith))
+feeds zero first q at a d u e room fits l g = rw (e, fin-header first true q, take-all segmentDataMax u (omega arith))
 feeds (suc k) first q at a d u e room fits l g =
-    let v : List ℕ = take 249 u in
-    let w : List ℕ = drop 249 u in
-    let n : length v ≡ 249 = length-take 249 u ∙ omega arith in
-    let m : length w ≡ length u - 249 = length-drop 249 u in
-    let a′ : Assembly = record { begun = true; last = record { 0 = sequence (headerOf first false q) }; len = at + length v } in
+    let v : List ℕ = take segmentDataMax u in
+    let w : List ℕ = drop segmentDataMax u in
+    let n : length v ≡ segmentDataMax = length-take segmentDataMax u ∙ omega arith in
+    let m : length w ≡ length u - segmentDataMax = length-drop segmentDataMax u in
+    let a′ : Assembly = record { begun = true; last = record { 0 = sequence (transportHeader first false q) }; len = at + length v } in
     let d′ : List ℕ = splice d at v in
-    let room′ : 2048 ≤ length d′ = omega (arith, length-splice d at v) in
-    let r : ((q + 1) % 64) % 64 ≡ (sequence (headerOf first false q) + 1) % 64 = omega (arith, sequence-header first false q) in
-    let e′ = follows a′ d′ (take 249 w) q ((q + 1) % 64) (at + length v) (eqb k 0) room′ (simp length-take (omega arith)) (simp length-take (omega arith)) (simp length-take (omega arith)) refl refl r in
+    let room′ : fragmentMax ≤ length d′ = omega (arith, length-splice d at v) in
+    let r : ((q + 1) % 64) % 64 ≡ (sequence (transportHeader first false q) + 1) % 64 = omega (arith, sequence-header first false q) in
+    let e′ = follows a′ d′ (take segmentDataMax w) q ((q + 1) % 64) (at + length v) (eqb k 0) room′ (simp length-take (omega arith)) (simp length-take (omega arith)) (simp length-take (omega arith)) refl refl r in
     let ih = feeds k false ((q + 1) % 64) (at + length v) a′ d′ w e′ room′ (omega arith) (omega arith) (omega arith) in
     let all : at + length v + length w ≡ at + length u = omega arith in
     rw (e, eqb·suc-zero k, fin-header first false q)
     (ap (answered (accepted more)) ih
-    ∙ ap₂ (λ (x : ℕ) (y : List ℕ). answered (accepted more) (ended k x y)) all (sym (splice-append d at v w) ∙ ap (splice d at) (take-append-drop 249 u)))
+    ∙ ap₂ (λ (x : ℕ) (y : List ℕ). answered (accepted more) (ended k x y)) all (sym (splice-append d at v w) ∙ ap (splice d at) (take-append-drop segmentDataMax u)))
 
 -- the round trip: whatever was unfinished before, a fragment's segments taken in order give back the fragment, and nothing else of the lent bytes changes
-pub round-trip : (a : Assembly) (d f : List ℕ) (q : ℕ) → 2048 ≤ length d → 0 < length f → length f ≤ 2048
+pub round-trip : (a : Assembly) (d f : List ℕ) (q : ℕ) → fragmentMax ≤ length d → 0 < length f → length f ≤ fragmentMax
     → receiveAll a d (segmentsOf q f) ≡ ended (segmentCount (length f) - 1) (length f) (splice d 0 f)
 round-trip a d f q room some fits =
     let k : ℕ = segmentCount (length f) - 1 in
     let e : segmentCount (length f) ≡ suc k = omega arith in
-    let s : List ℕ = segment true (eqb k 0) q (take 249 f) in
-    let n : length s ≤ 250 = simp length-take (omega arith) in
+    let s : List ℕ = segment true (eqb k 0) q (take segmentDataMax f) in
+    let n : length s ≤ segmentDataMax + 1 = simp length-take (omega arith) in
     let m : 2 ≤ length s = simp length-take (omega arith) in
     let t : receiving (length d) a s ≡ accepted 0 = got-first (length d) a s room m n (eqb-true _ _ (fir-header true (eqb k 0) q)) in
     ap (λ (j : ℕ). receiveAll a d (cut j true q f)) e
@@ -226,20 +228,20 @@ sent-tests false false false x y e = (refl, refl, refl)
 
 -- what was sent had room, and a fragment of 1 to 2,048 bytes
 sent-fits : (room : ℕ) (p : Sender) (f : List ℕ) (y : Written) → accepted y ≡ answerSent (sending room p f)
-    → (250 ≤ room) × (1 ≤ length f) × (length f ≤ 2048)
+    → (segmentDataMax + 1 ≤ room) × (1 ≤ length f) × (length f ≤ fragmentMax)
 unfolding sending
 sent-fits room p f y e =
-    let t = sent-tests (ltb room 250) (ltb (length f) 1) (ltb 2048 (length f)) (nextSegment p f) y e in
+    let t = sent-tests (ltb room (segmentDataMax + 1)) (ltb (length f) 1) (ltb fragmentMax (length f)) (nextSegment p f) y e in
     (ltb-false _ _ (t .0), ltb-false _ _ (t .1), ltb-false _ _ (t .2))
 
-segment-most : (p : Sender) (f : List ℕ) → length (nextSegment p f) ≤ 250
+segment-most : (p : Sender) (f : List ℕ) → length (nextSegment p f) ≤ segmentDataMax + 1
 unfolding nextSegment
 segment-most p f = simp length-take (omega arith)
 
 -- one call of `send` that was accepted
 record Step (p p₁ : Sender) (f s : List ℕ) (last : Bool) : Type 0 where
   some : 1 ≤ length f
-  fits : length f ≤ 2048
+  fits : length f ≤ fragmentMax
   segment-sent : s ≡ nextSegment p f
   sender-after : p₁ ≡ nextSender p f
   ends : fin (headOf (nextSegment p f)) ≡ last
@@ -272,7 +274,7 @@ module _ (p : Sender) (f : List ℕ) (h : p .at < length f) where
   after-at : nextSender p f .at ≡ endOf (p .at) (length f)
   after-at = ap (λ (x : Sender). x .at) (sender-next (p .next .0) (p .at) f h)
 
-sends-some : {f : List ℕ} {p p₁ : Sender} {ss : List (List ℕ)} → Sends f p ss p₁ → (1 ≤ length f) × (length f ≤ 2048)
+sends-some : {f : List ℕ} {p p₁ : Sender} {ss : List (List ℕ)} → Sends f p ss p₁ → (1 ≤ length f) × (length f ≤ fragmentMax)
 sends-some (Trip.last {n = n} sent is) = let t = step-of n true sent is in (t .some, t .fits)
 sends-some (Trip.more {n = n} sent is rest) = let t = step-of n false sent is in (t .some, t .fits)
 
@@ -282,13 +284,13 @@ sends-are : {f : List ℕ} {p p₁ : Sender} {ss : List (List ℕ)} → Sends f 
 unfolding calls
 sends-are {f} {p} (Trip.last {n = n} sent is) h =
     let t = step-of n true sent is in
-    let e : length f ≤ p .at + 249 = leb-true _ _ (sym (ends-at p f h) ∙ t .ends) in
+    let e : length f ≤ p .at + segmentDataMax = leb-true _ _ (sym (ends-at p f h) ∙ t .ends) in
     (rw (t .segment-sent, t .sender-after) refl, omega arith)
 sends-are {f} {p} (Trip.more {p₁ = p₁} {r = r} {n = n} {ss = ss} sent is rest) h =
     let t = step-of n false sent is in
     let l : lastAt (p .at) (length f) ≡ false = sym (ends-at p f h) ∙ t .ends in
-    let e : p .at + 249 < length f = leb-false _ _ l in
-    let k : r .sender .at ≡ p .at + 249 = ap (λ (x : Sender). x .at) (t .sender-after) ∙ after-at p f h ∙ ap (λ (b : Bool). cond b 0 (p .at + 249)) l in
+    let e : p .at + segmentDataMax < length f = leb-false _ _ l in
+    let k : r .sender .at ≡ p .at + segmentDataMax = ap (λ (x : Sender). x .at) (t .sender-after) ∙ after-at p f h ∙ ap (λ (b : Bool). cond b 0 (p .at + segmentDataMax)) l in
     let ih = sends-are rest (omega arith) in (
       rw (sym (t .segment-sent), sym (t .sender-after)) (ap (wrote (take n _)) (ih .0)),
       omega (arith, ih .1),
@@ -308,7 +310,7 @@ more-is (Fragment n) e = cc
 more-is SegmentLength e = cc
 more-is OutOfSequence e = cc
 more-is FragmentTooLong e = cc
-more-is AssemblyLent e = cc
+more-is OutputTooSmall e = cc
 
 complete-is : (x : Received) (n : ℕ) → receivedOf x ≡ accepted (complete n) → x ≡ Fragment n
 complete-is More n e = cc
@@ -316,7 +318,7 @@ complete-is (Fragment m) n e = cc
 complete-is SegmentLength n e = cc
 complete-is OutOfSequence n e = cc
 complete-is FragmentTooLong n e = cc
-complete-is AssemblyLent n e = cc
+complete-is OutputTooSmall n e = cc
 
 completes-is : (k n : ℕ) (answers : List Received) → map receivedOf answers ≡ goes k n → answers ≡ completes k n
 unfolding goes completes
@@ -353,7 +355,7 @@ sent-is-received p p₁ a a₁ f d d₁ ss answers start sends room receives =
 segment-told : (x : Sent) (y : Written) → sentOf x ≡ accepted y → x ≡ Segment (y .size) (y .last)
 segment-told (Segment n l) y e = cc
 segment-told FragmentLength y e = cc
-segment-told SegmentLent y e = cc
+segment-told Sents.OutputTooSmall y e = cc
 
 fin-next : (p : Sender) (f : List ℕ) → fin (headOf (nextSegment p f)) ≡ lastAt (fromOf (p .at) (length f)) (length f)
 unfolding nextSegment
@@ -363,8 +365,8 @@ next-at : (p : Sender) (f : List ℕ) → nextSender p f .at ≡ endOf (fromOf (
 unfolding nextSender
 next-at p f = refl
 
-module _ (f : List ℕ) (call : Sender → Sending) (lent written : Sender → List ℕ) (some : 1 ≤ length f) (fits : length f ≤ 2048)
-    (room : (p : Sender) → 250 ≤ length (lent p)) (meets : (p : Sender) → SegmentSent (call p) p f (lent p) (written p)) where
+module _ (f : List ℕ) (call : Sender → Sending) (lent written : Sender → List ℕ) (some : 1 ≤ length f) (fits : length f ≤ fragmentMax)
+    (room : (p : Sender) → segmentDataMax + 1 ≤ length (lent p)) (meets : (p : Sender) → SegmentSent (call p) p f (lent p) (written p)) where
   size : Sender → ℕ
   size p = length (nextSegment p f)
 
@@ -387,16 +389,16 @@ module _ (f : List ℕ) (call : Sender → Sending) (lent written : Sender → L
       record { segments = take (size p) (written p) ∷ w .segments; after = w .after; sends = Trip.more (meets p) (told p false e) (w .sends) }
 
   -- where a call that goes on leaves the sender
-  goes-on : (p : Sender) → lastAt (fromOf (p .at) (length f)) (length f) ≡ false → fromOf (call p .sender .at) (length f) ≡ fromOf (p .at) (length f) + 249
+  goes-on : (p : Sender) → lastAt (fromOf (p .at) (length f)) (length f) ≡ false → fromOf (call p .sender .at) (length f) ≡ fromOf (p .at) (length f) + segmentDataMax
   goes-on p e =
-      let n : ℕ = fromOf (p .at) (length f) + 249 in
+      let n : ℕ = fromOf (p .at) (length f) + segmentDataMax in
       let g : n < length f = leb-false _ _ e in
       let at : call p .sender .at ≡ n = ap (λ (x : Sender). x .at) (after-is p) ∙ next-at p f ∙ ap (λ (b : Bool). cond b 0 n) e in
       ap (λ (x : ℕ). fromOf x (length f)) at ∙ ap (λ (b : Bool). cond b n 0) (lt-ltb n (length f) g)
 
   -- k calls after the next are enough
-  ends-in : (k : ℕ) (p : Sender) → length f ≤ fromOf (p .at) (length f) + 249 * suc k → SentWhole f p
-  ends-in zero p h = one-call p true (le-leb (length f) (fromOf (p .at) (length f) + 249) (omega arith)) (λ e. let g : fromOf (p .at) (length f) + 249 < length f = leb-false _ _ e in absurd (omega arith))
+  ends-in : (k : ℕ) (p : Sender) → length f ≤ fromOf (p .at) (length f) + segmentDataMax * suc k → SentWhole f p
+  ends-in zero p h = one-call p true (le-leb (length f) (fromOf (p .at) (length f) + segmentDataMax) (omega arith)) (λ e. let g : fromOf (p .at) (length f) + segmentDataMax < length f = leb-false _ _ e in absurd (omega arith))
   ends-in (suc k) p h = one-call p _ refl (λ e. ends-in k (call p .sender) (omega (arith, goes-on p e)))
 
 pub sends-end : SendsEnd

@@ -5,6 +5,7 @@ use mathlib.Core.Path.{_≡_}
 use mathlib.Core.Bool.{true, false}
 use mathlib.Core.List.{List, [], _∷_}
 use lib.ListN.{length, take}
+use Rattle.laws.specs.Limits.{segmentDataMax, fragmentMax}
 use Rattle.octets.specs.Bytes.{splice}
 use Rattle.transport.specs.Segment.{segmentCount, segmentsOf}
 use Rattle.transport.specs.Receive.{idle, SegmentReceived}
@@ -54,7 +55,7 @@ pub record Delivered (p p₁ : Sender) (f d : List ℕ) (ss : List (List ℕ)) (
 abbrev pub SentIsReceived : Type 0
 SentIsReceived =
     (p p₁ : Sender) (a a₁ : Assembly) (f d d₁ : List ℕ) (ss : List (List ℕ)) (answers : List Received)
-    → p .at ≡ 0 → Sends f p ss p₁ → 2048 ≤ length d → Receives a d ss answers a₁ d₁
+    → p .at ≡ 0 → Sends f p ss p₁ → fragmentMax ≤ length d → Receives a d ss answers a₁ d₁
     → Delivered p p₁ f d ss answers a₁ d₁
 
 -- a fragment that is sent whole from the sender p
@@ -67,5 +68,5 @@ pub record SentWhole (f : List ℕ) (p : Sender) : Type 0 where
 abbrev pub SendsEnd : Type 0
 SendsEnd =
     (f : List ℕ) (call : Sender → Sending) (lent written : Sender → List ℕ)
-    → 1 ≤ length f → length f ≤ 2048 → ((p : Sender) → 250 ≤ length (lent p)) → ((p : Sender) → SegmentSent (call p) p f (lent p) (written p))
+    → 1 ≤ length f → length f ≤ fragmentMax → ((p : Sender) → segmentDataMax + 1 ≤ length (lent p)) → ((p : Sender) → SegmentSent (call p) p f (lent p) (written p))
     → (p : Sender) → SentWhole f p

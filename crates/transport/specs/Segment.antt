@@ -1,10 +1,11 @@
 -- A transport segment: one transport byte (FIN 80, FIR 40, sequence in the low six bits) and 1 to 249 bytes.
 -- Assumes nothing.
-use Prim.Native.Nat.{ℕ, zero, suc, _+_, _*_, _/_, _%_}
+use Prim.Native.Nat.{ℕ, zero, suc, _+_, _-_, _*_, _/_, _%_}
 use mathlib.Core.Bool.{Bool, true, false}
 use mathlib.Core.List.{List, [], _∷_}
 use lib.ListN.{length, getD, take, drop}
 use lib.Dec.{eqb}
+use Rattle.laws.specs.Limits.{segmentDataMax}
 use Rattle.transport.specs.declared.TransportSequence.{TransportSequence}
 
 -- ---- the parts of a segment
@@ -25,8 +26,8 @@ abbrev pub dataOf : List ℕ → List ℕ
 dataOf s = drop 1 s
 
 -- the sequence after this one
-abbrev pub nextOf : TransportSequence → TransportSequence
-nextOf q = record { 0 = (q .0 + 1) % 64 }
+abbrev pub nextSequence : TransportSequence → TransportSequence
+nextSequence q = record { 0 = (q .0 + 1) % 64 }
 
 -- ---- a fragment's segments
 
@@ -34,20 +35,21 @@ abbrev pub bitOf : Bool → ℕ
 bitOf true = 1
 bitOf false = 0
 
-unfoldable pub headerOf : Bool → Bool → ℕ → ℕ
-headerOf first last q = 128 * bitOf last + 64 * bitOf first + q % 64
+unfoldable pub transportHeader : Bool → Bool → ℕ → ℕ
+transportHeader first last q = 128 * bitOf last + 64 * bitOf first + q % 64
 
 abbrev pub segment : Bool → Bool → ℕ → List ℕ → List ℕ
-segment first last q u = headerOf first last q ∷ u
+segment first last q u = transportHeader first last q ∷ u
 
 -- f/249 rounded up
 abbrev pub segmentCount : ℕ → ℕ
-segmentCount f = (f + 248) / 249
+segmentCount f = (f + (segmentDataMax - 1)) / segmentDataMax
 
 -- the bytes u in so many segments, all full but perhaps the last, numbered from q; the last has FIN
 unfoldable pub cut : ℕ → Bool → ℕ → List ℕ → List (List ℕ)
 cut zero first q u = []
-cut (suc k) first q u = segment first (eqb k 0) q (take 249 u) ∷ cut k false ((q + 1) % 64) (drop 249 u)
+cut (suc k) first q u =
+    segment first (eqb k 0) q (take segmentDataMax u) ∷ cut k false ((q + 1) % 64) (drop segmentDataMax u)
 
 -- a fragment's segments, numbered from q; the first has FIR
 abbrev pub segmentsOf : ℕ → List ℕ → List (List ℕ)

@@ -2,15 +2,17 @@
 ghost use mathlib.Core.Path.{_≡_};
 ghost use Prim.Native.Nat.{_+_, _-_, _≤_, _<_, _%_};
 ghost use lib.ListN.{length};
+ghost use Rattle.laws.specs.Limits.{segmentDataMax, fragmentMax};
+ghost use Rattle.laws.specs.Outcome.{numberOf};
 ghost use Rattle.octets.specs.Bytes.{splice};
-ghost use Rattle.transport.specs.Segment.{bitOf, headerOf, nextOf};
+ghost use Rattle.transport.specs.Segment.{bitOf, transportHeader, nextSequence};
 ghost use Rattle.transport.specs.Receive.{
   idle,
   places,
   placeOf,
   receivedOf,
   keptOf,
-  tellsOf,
+  progressOf,
   SegmentReceived,
 };
 ghost use Rattle.transport.specs.Send.{
@@ -55,7 +57,21 @@ pub enum Received {
     // 23: fragment would pass 2,048. The unfinished fragment is forgotten.
     FragmentTooLong,
     // 33: under 2,048 lent bytes.
-    AssemblyLent,
+    OutputTooSmall,
+}
+
+// Document 01's number of a refusal; 0 for a segment that was taken.
+pub fn received_number(x: Received) -> u8
+    ensures { λ r. ⌜ r ≡ numberOf (receivedOf x) ⌝ }
+{
+    match x {
+        Received::More => 0,
+        Received::Fragment(_) => 0,
+        Received::SegmentLength => 21,
+        Received::OutOfSequence => 22,
+        Received::FragmentTooLong => 23,
+        Received::OutputTooSmall => 33,
+    }
 }
 
 pub struct Reception {
@@ -64,7 +80,7 @@ pub struct Reception {
 }
 
 // Where a segment's data goes in the fragment.
-pub enum Place {
+pub enum DataPlace {
     At(usize),
     NotNext,
     TooLong,
@@ -82,34 +98,34 @@ pub fn nothing_begun() -> Assembly
 }
 
 // The sequence after this one.
-pub fn next(q: TransportSequence) -> TransportSequence
-    ensures { λ r. ⌜ r ≡ nextOf q ⌝ }
+pub fn next_sequence(q: TransportSequence) -> TransportSequence
+    ensures { λ r. ⌜ r ≡ nextSequence q ⌝ }
 {
     TransportSequence((q.0 % 64 + 1) % 64)
 }
 
 // Where the data of a segment without FIR goes, n bytes of it.
-fn placed(a: Assembly, sequence: u8, n: usize) -> Place
-    requires { ⌜ (0 < n) × (n ≤ 249) ⌝ }
+fn placed(a: Assembly, sequence: u8, n: usize) -> DataPlace
+    requires { ⌜ (0 < n) × (n ≤ segmentDataMax) ⌝ }
     ensures { λ r. ⌜ placeOf r ≡ places a sequence n ⌝ }
 {
     if !a.begun {
-        return Place::NotNext;
+        return DataPlace::NotNext;
     }
-    let q = next(a.last);
+    let q = next_sequence(a.last);
     if sequence != q.0 {
-        return Place::NotNext;
+        return DataPlace::NotNext;
     }
     let len = octets::least(a.len, FRAGMENT_MAX);
     if FRAGMENT_MAX < len + n {
-        return Place::TooLong;
+        return DataPlace::TooLong;
     }
-    Place::At(len)
+    DataPlace::At(len)
 }
 
 // What is kept and answered once n bytes are in the fragment.
-fn taken(header: u8, n: usize) -> Reception
-    ensures { λ r. ⌜ (r .assembly ≡ keptOf header n) × (receivedOf (r .answer) ≡ tellsOf header n) ⌝ }
+fn progressed(header: u8, n: usize) -> Reception
+    ensures { λ r. ⌜ (r .assembly ≡ keptOf header n) × (receivedOf (r .answer) ≡ progressOf header n) ⌝ }
 {
     if header / 128 % 2 == 1 {
         return Reception {
@@ -133,7 +149,7 @@ pub fn receive(a: Assembly, segment: &[u8], out: &mut [u8]) -> Reception
 {
     if out.len() < FRAGMENT_MAX {
         return Reception {
-            answer: Received::AssemblyLent,
+            answer: Received::OutputTooSmall,
             assembly: a,
         };
     }
@@ -153,19 +169,19 @@ pub fn receive(a: Assembly, segment: &[u8], out: &mut [u8]) -> Reception
     let n = segment.len() - 1;
     if header / 64 % 2 == 1 {
         octets::copy(out, 0, &segment[1..]);
-        return taken(header, n);
+        return progressed(header, n);
     }
     let p = placed(a, header % 64, n);
     match p {
-        Place::At(at) => {
+        DataPlace::At(at) => {
             octets::copy(out, at, &segment[1..]);
-            taken(header, at + n)
+            progressed(header, at + n)
         }
-        Place::NotNext => Reception {
+        DataPlace::NotNext => Reception {
             answer: Received::OutOfSequence,
             assembly: nothing_begun(),
         },
-        Place::TooLong => Reception {
+        DataPlace::TooLong => Reception {
             answer: Received::FragmentTooLong,
             assembly: nothing_begun(),
         },
@@ -185,7 +201,18 @@ pub enum Sent {
     // 16: a fragment of 0 or over 2,048 bytes.
     FragmentLength,
     // 33: under 250 lent bytes.
-    SegmentLent,
+    OutputTooSmall,
+}
+
+// Document 01's number of a refusal; 0 for a segment that was written.
+pub fn sent_number(x: Sent) -> u8
+    ensures { λ r. ⌜ r ≡ numberOf (sentOf x) ⌝ }
+{
+    match x {
+        Sent::Segment { size: _, last: _ } => 0,
+        Sent::FragmentLength => 16,
+        Sent::OutputTooSmall => 33,
+    }
 }
 
 pub struct Sending {
@@ -210,8 +237,8 @@ fn bit(b: bool) -> u8
 }
 
 // The transport byte.
-fn header(first: bool, last: bool, q: TransportSequence) -> u8
-    ensures { λ r. ⌜ r ≡ headerOf first last (q .0) ⌝ }
+fn transport_header(first: bool, last: bool, q: TransportSequence) -> u8
+    ensures { λ r. ⌜ r ≡ transportHeader first last (q .0) ⌝ }
 {
     128 * bit(last) + 64 * bit(first) + q.0 % 64
 }
@@ -238,7 +265,7 @@ fn after(at: usize, n: usize) -> usize
 
 // Writes the next segment of a fragment that may be sent.
 fn write_segment(p: Sender, fragment: &[u8], out: &mut [u8]) -> Sending
-    requires { ⌜ (250 ≤ length (now out)) × (0 < length (now fragment)) × (length (now fragment) ≤ 2048) ⌝ }
+    requires { ⌜ (segmentDataMax + 1 ≤ length (now out)) × (0 < length (now fragment)) × (length (now fragment) ≤ fragmentMax) ⌝ }
     ensures { λ r. ⌜
         (sentOf (r .answer) ≡ writtenOf (nextSegment p (now (fragment .entry))))
         × (r .sender ≡ nextSender p (now (fragment .entry)))
@@ -248,7 +275,7 @@ fn write_segment(p: Sender, fragment: &[u8], out: &mut [u8]) -> Sending
     let at = from(p.at, n);
     let e = octets::least(at + SEGMENT_DATA_MAX, n);
     let last = n <= at + SEGMENT_DATA_MAX;
-    let h = header(at == 0, last, p.next);
+    let h = transport_header(at == 0, last, p.next);
     out[0] = h;
     octets::copy(out, 1, &fragment[at..e]);
     Sending {
@@ -257,7 +284,7 @@ fn write_segment(p: Sender, fragment: &[u8], out: &mut [u8]) -> Sending
             last: last,
         },
         sender: Sender {
-            next: next(p.next),
+            next: next_sequence(p.next),
             at: after(at, n),
         },
     }
@@ -269,7 +296,7 @@ pub fn send(p: Sender, fragment: &[u8], out: &mut [u8]) -> Sending
 {
     if out.len() < SEGMENT_MAX {
         return Sending {
-            answer: Sent::SegmentLent,
+            answer: Sent::OutputTooSmall,
             sender: p,
         };
     }

@@ -1,6 +1,6 @@
 -- `c_api::pomarisco_link_receive` meets its contract: a walk of its MIR, by hand. All that is lent goes to `receive` for good; its answer is passed to `taken_words`.
 -- Assumes nothing.
-use mathlib.Core.Path.{_≡_, refl}
+use mathlib.Core.Path.{refl, ap}
 use mathlib.Core.List.{[], _∷_, List}
 use Prim.Native.Nat.{ℕ}
 use lib.ListN.{length}
@@ -13,7 +13,7 @@ use prog.Memory.{Memory}
 use prog.Routine.{Routine}
 use prog.Wp.{Heap, Calls, Loops, WpFn, Tables}
 use ghost.Atoms.{Atoms}
-use contract.Monad.{Fun, fact-use, factI}
+use contract.Monad.{Fun}
 use contract.Running.{givenOf, tables, tablesOf}
 use types.Kit.{Given, Item, ‵, raw, _⊛_, ⋆, _$_, _∵_, !, qed, by, move, drop, use1, use2, join, fsplit, fjoin, feqL, suffices, frame, done}
 use types.Part.{agg, whole, sub, look-in}
@@ -34,17 +34,15 @@ use denote.Triple.Statement.{Contract, Triple}
 use denote.Triple.Table.{entered, cited}
 use denote.Triple.Walked.{says, Stays, stay-dropped, gave-ref, gave-slice, walkOf, goes-dropped, goes-gave-ref, goes-gave-slice, Walks, ends-at, walked, walk-meets}
 use denote.Exit.{yes}
-use Rattle.laws.specs.Outcome.{Outcome, numberOf}
 use Rattle.link.specs.declared.LineRecord.{LineRecord}
 use Rattle.link.specs.declared.Station.{Station}
 use Rattle.link.specs.declared.Taken.{Taken}
-use Rattle.link.specs.Station.{Action, station, answerFor, countedOf, lentAfter, FrameTaken}
-use Rattle.link.proofs.Laws.{answer-number}
-use Rattle.c_api.specs.Line.{takenWords}
-use Rattle.c_api.proofs.LineLaws.{result-is}
+use Rattle.link.specs.Station.{takenOf, FrameCounted}
+use Rattle.c_api.specs.declared.TakenWords.{TakenWords}
+use Rattle.c_api.specs.Line.{takenResult}
 use Rattle.c_api.proofs.TakenRecords.{valD, IsD, tellsD, makesD, typedD}
 use Rattle.link.proofs.LineLaws.{valS, IsS, tellsS, typedS, valA, tellsA, makesA, typedA}
-use Rattle.walk.proofs.Walking.{calls-value, calls-lent}
+use Rattle.walk.proofs.Walking.{calls-value, calls-told-lent}
 use Rattle.link.proofs.Station as S
 use Rattle.link.proofs.Station.Laws as S′
 use Rattle.link.proofs.LineRecord as L
@@ -75,16 +73,9 @@ module _ {M : Type 1} (𝓤 : URA M) (H : Heap 𝓤) (A : Atoms 𝓤) (at-mem : 
 
 module _ {M : Type 1} (𝓤 : URA M) (H : Heap 𝓤) (A : Atoms 𝓤) (W : Given 𝓤 H A) (at-mem : Memory → SProp 𝓤) (run : Routine → Fun 𝓤) (κ₀ κ₁ κ₂ : Lft) (q₀ q₁ q₂ : Share)
     (m : RefT LineRecord) (st : Station) (x z : RefT (List ℕ)) (st-is : IsS st) (x-room : Room u8 (length (x .now))) (z-room : Room u8 (length (z .now))) where
-  -- the outcome and the answer
-  abbrev outcome : Outcome Action
-  outcome = station (length (z .now)) st (x .now)
-
-  abbrev a : Taken
-  a = answerFor outcome
-
-  -- what is right of the record and the lent bytes afterwards
-  abbrev Done : LineRecord → List ℕ → Type 0
-  Done h d = (d ≡ lentAfter (z .now) outcome) × (h ≡ countedOf (m .now) (numberOf outcome))
+  -- what the host is given for the answer a
+  abbrev given : Taken → TakenWords
+  given a = takenResult (takenOf a)
 
   abbrev args : RefT LineRecord × (Station × (RefT (List ℕ) × (RefT (List ℕ) × Unit {0})))
   args = (m, (st, (x, (z, tt))))
@@ -104,8 +95,8 @@ module _ {M : Type 1} (𝓤 : URA M) (H : Heap 𝓤) (A : Atoms 𝓤) (W : Given
   abbrev to-receive : Receive 𝓤 H A at-mem run .Ghost
   to-receive = y
 
-  abbrev to-words : Words 𝓤 H A at-mem run .Ghost
-  to-words = ((tt, tt, tt, (a, tt), (valA a ∷ [], tt)), tt)
+  abbrev to-words : Taken → Words 𝓤 H A at-mem run .Ghost
+  to-words a = ((tt, tt, tt, (a, tt), (valA a ∷ [], tt)), tt)
 
   abbrev Tokens : Item 𝓤
   Tokens = ‵ (flft κ₀ q₀) ⊛ ‵ (flft κ₁ q₁) ⊛ ‵ (flft κ₂ q₂) ⊛ ‵ ftrue
@@ -119,16 +110,20 @@ module _ {M : Type 1} (𝓤 : URA M) (H : Heap 𝓤) (A : Atoms 𝓤) (W : Given
   abbrev Last : Type 0
   Last = LineRecord × (Unit {0} × (Unit {0} × (List ℕ × Unit {0})))
 
+  -- what `receive` said, where it answered a
+  abbrev Took : Taken → Last → Type 0
+  Took a ws = FrameCounted a (m .now) (ws .0) st (x .now) (z .now) (ws .1 .1 .1 .0)
+
   abbrev Said : Last → Item 𝓤
   Said ws = ‵ (lasts receive.ended (κ₀, (κ₁, (κ₂, tt))) args ws)
 
-  exits : (ws : Last) → Done (ws .0) (ws .1 .1 .1 .0) → IsD (takenWords a) → ent 𝓤 (⋆ 𝓤 H A (Said ws ∷ Tokens ∷ [])) (Post (valD (takenWords a)))
-  exits ws e is =
+  exits : (a : Taken) (ws : Last) → Took a ws → IsD (given a) → ent 𝓤 (⋆ 𝓤 H A (Said ws ∷ Tokens ∷ [])) (Post (valD (given a)))
+  exits a ws e is =
       qed W (Said ws ∷ Tokens ∷ []) ∵ fsplit ! $ move ! (1 ∷ []) $ fsplit ! $ drop ! $ fsplit ! $ drop ! $ fsplit ! $ fsplit ! $ move ! (1 ∷ []) $ feqL ! (λ l.
       -- [out's last list; true; the record's last value; the tokens]
-      suffices ! _ (ends-at 𝓤 H A f.ended stayed (f.clauses 𝓤 H A at-mem run) W y (valD (takenWords a)) (takenWords a) (ws .0, (tt, (tt, (ws .1 .1 .1 .0, tt)))) (tt, (tt, (tt, (l, tt))))) $
-      says ! (record { taken = result-is outcome (answer-number st (length (z .now)) (x .now)); lent = e .0; counted = e .1 }) $
-      move ! (3 ∷ []) $ frame ! $ fjoin ! $ nothing ! $ fjoin ! $ nothing ! $ fjoin ! $ move ! (1 ∷ 0 ∷ []) $ fjoin ! $ frame ! $ owned ! D.the-row (Is D.the-row) (makesD 𝓤 H A) (takenWords a) _ is $ done !)
+      suffices ! _ (ends-at 𝓤 H A f.ended stayed (f.clauses 𝓤 H A at-mem run) W y (valD (given a)) (given a) (ws .0, (tt, (tt, (ws .1 .1 .1 .0, tt)))) (tt, (tt, (tt, (l, tt))))) $
+      says ! (record { taken = ap takenResult (e .taken .answer); lent = e .taken .lent; line = e .line }) $
+      move ! (3 ∷ []) $ frame ! $ fjoin ! $ nothing ! $ fjoin ! $ nothing ! $ fjoin ! $ move ! (1 ∷ 0 ∷ []) $ fjoin ! $ frame ! $ owned ! D.the-row (Is D.the-row) (makesD 𝓤 H A) (given a) _ is $ done !)
 
   module _ (C : Calls 𝓤 H) (Λ : Loops 𝓤 H) (fm : FmC 𝓤 H (W .laws) C) (known-receive : Triple 𝓤 (C #receive) (Receive 𝓤 H A at-mem run)) (known-words : Triple 𝓤 (C #words) (Words 𝓤 H A at-mem run)) where
     walk : ent 𝓤 (onEntry 𝓤 H A f.signature (κ₀, (κ₁, (κ₂, tt))) (q₀, (q₁, (q₂, tt))) args at) (WpFn 𝓤 H C Λ code.function passed Post)
@@ -141,18 +136,16 @@ module _ {M : Type 1} (𝓤 : URA M) (H : Heap 𝓤) (A : Atoms 𝓤) (W : Given
         assigns ! (addr ! (from ! (fld ! refl (hop ! (look-in ! 8 (sub ! 0 refl (whole !))) (stop !))))) (from ! (stop !)) (init ! 2 refl (tt, tt)) $
         assigns ! (agg ! (and-then ! (load ! (from ! (stop !)) (look ! 2 refl)) (and-then ! (load ! (from ! (fld ! refl (stop !))) (look-in ! 8 (sub ! 1 refl (whole !)))) (no-more !)))) (from ! (stop !)) (init ! 0 refl (tt, (tt, (record { fits = z-room .0 }, tt)))) $
         move ! (18 ∷ 19 ∷ []) $ use2 W (raw (Receive 𝓤 H A at-mem run .pre to-receive)) asked $
-        calls-lent ! fm receive.ended (receive.clauses 𝓤 H A at-mem run) known-receive to-receive valA tellsA a (λ ws. Done (ws .0) (ws .1 .1 .1 .0))
-        (λ r ws. fact-use 𝓤 (FrameTaken r st (x .now) (z .now) (ws .1 .1 .1 .0) × (ws .0 ≡ countedOf (m .now) (numberOf outcome))) (id⊢ 𝓤 _)
-        (λ e. factI 𝓤 ((r ≡ a) × Done (ws .0) (ws .1 .1 .1 .0)) _ (e .0 .answer, (e .0 .lent, e .1))))
+        calls-told-lent ! fm receive.ended (receive.clauses 𝓤 H A at-mem run) known-receive to-receive valA tellsA Took (λ a ws. id⊢ 𝓤 _)
         (raw (Receive 𝓤 H A at-mem run .pre to-receive)) (id⊢ 𝓤 _)
-        (and-then ! (load ! (from ! (stop !)) (look ! 5 refl)) (and-then ! (load ! (from ! (stop !)) (look ! 13 refl)) (and-then ! (load ! (from ! (stop !)) (look ! 11 refl)) (and-then ! (load ! (from ! (stop !)) (look ! 1 refl)) (no-more !))))) (λ ws e is.
+        (and-then ! (load ! (from ! (stop !)) (look ! 5 refl)) (and-then ! (load ! (from ! (stop !)) (look ! 13 refl)) (and-then ! (load ! (from ! (stop !)) (look ! 11 refl)) (and-then ! (load ! (from ! (stop !)) (look ! 1 refl)) (no-more !))))) (λ a ws e is.
         -- [the last values; the tokens; _8; …; _7; …; _6; …; _5; …; _4; …; _3; …; _2; …; _1; …; _0; …]
         land ! (from ! (stop !)) (init ! 8 refl (typedA 𝓤 H A W a is)) $
-        calls-value ! fm words.ended (words.clauses 𝓤 H A at-mem run) known-words to-words valD tellsD (takenWords a) (λ r us. id⊢ 𝓤 _) (id⊢ 𝓤 _) (id⊢ 𝓤 _) (makesA 𝓤 H A, tt) (is, tt) (and-then ! (load ! (from ! (stop !)) (look ! 8 refl)) (no-more !)) (λ is′.
-        land ! (from ! (stop !)) (init ! 18 refl (typedD 𝓤 H A W (takenWords a) is′)) $
+        calls-value ! fm words.ended (words.clauses 𝓤 H A at-mem run) known-words (to-words a) valD tellsD (given a) (λ r us. id⊢ 𝓤 _) (id⊢ 𝓤 _) (id⊢ 𝓤 _) (makesA 𝓤 H A, tt) (is, tt) (and-then ! (load ! (from ! (stop !)) (look ! 8 refl)) (no-more !)) (λ is′.
+        land ! (from ! (stop !)) (init ! 18 refl (typedD 𝓤 H A W (given a) is′)) $
         returns ! (look ! 18 refl) $ forget ! 2 refl $ forget ! 4 refl $ forget ! 6 refl $ forget ! 8 refl $ forget ! 10 refl $ forget ! 12 refl $ forget ! 14 refl $ forget ! 16 refl $ forget ! 18 refl $
         move ! (18 ∷ 19 ∷ 16 ∷ 17 ∷ 14 ∷ 15 ∷ 12 ∷ 13 ∷ 10 ∷ 11 ∷ 8 ∷ 9 ∷ 6 ∷ 7 ∷ 4 ∷ 5 ∷ 2 ∷ 3 ∷ []) $ free1 ! $ free1 ! $ free1 ! $ free1 ! $ free1 ! $ free1 ! $ free1 ! $ free1 ! $ free1 ! $ free0 ! $
-        move ! (1 ∷ []) $ use1 W Tokens (id⊢ 𝓤 _) $ move ! (1 ∷ 0 ∷ []) $ by ! (exits ws e is′))))))))))))
+        move ! (1 ∷ []) $ use1 W Tokens (id⊢ 𝓤 _) $ move ! (1 ∷ 0 ∷ []) $ by ! (exits a ws e is′))))))))))))
 
 module _ {M : Type 1} (𝓤 : URA M) (H : Heap 𝓤) (A : Atoms 𝓤) (W : Given 𝓤 H A) (at-mem : Memory → SProp 𝓤) (run : Routine → Fun 𝓤) (𝓣 : Tables 𝓤 H)
     (known-receive : Triple 𝓤 (𝓣 .C #receive) (Receive 𝓤 H A at-mem run)) (known-words : Triple 𝓤 (𝓣 .C #words) (Words 𝓤 H A at-mem run)) where

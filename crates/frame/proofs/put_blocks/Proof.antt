@@ -28,17 +28,17 @@ add-least c = omega arith
 least-requires : tie.Need-least-requires Inv-loop μ-loop
 least-requires c κs = omega arith
 
-sub-put-sealed : tie.Need-sub-put-sealed Inv-loop μ-loop
-sub-put-sealed c = omega arith
+sub-put-with-crc : tie.Need-sub-put-with-crc Inv-loop μ-loop
+sub-put-with-crc c = omega arith
 
-part-put-sealed-start : tie.Need-part-put-sealed-start Inv-loop μ-loop
-part-put-sealed-start c = omega arith
+part-put-with-crc-start : tie.Need-part-put-with-crc-start Inv-loop μ-loop
+part-put-with-crc-start c = omega arith
 
-part-put-sealed-end : tie.Need-part-put-sealed-end Inv-loop μ-loop
-part-put-sealed-end c = omega arith
+part-put-with-crc-end : tie.Need-part-put-with-crc-end Inv-loop μ-loop
+part-put-with-crc-end c = omega arith
 
-put-sealed-requires : tie.Need-put-sealed-requires Inv-loop μ-loop
-put-sealed-requires c κs = omega arith
+put-with-crc-requires : tie.Need-put-with-crc-requires Inv-loop μ-loop
+put-with-crc-requires c κs = omega arith
 
 sub-to : tie.Need-sub-to Inv-loop μ-loop
 sub-to c = omega arith
@@ -83,10 +83,10 @@ put-blocks-spec =
     loop-holds
     add-least
     least-requires
-    sub-put-sealed
-    part-put-sealed-start
-    part-put-sealed-end
-    put-sealed-requires
+    sub-put-with-crc
+    part-put-with-crc-start
+    part-put-with-crc-end
+    put-with-crc-requires
     sub-to
     add-to
     add-to-2

@@ -1,4 +1,4 @@
--- `frame::write_frame` meets its contract: the two refusals by their tests, and else the sealed header with the blocks next to it.
+-- `frame::write_frame` meets its contract: the two refusals by their tests, and else the header with its check and the blocks next to it.
 -- Assumes nothing.
 use mathlib.Core.Path.{refl, sym, ap}
 use native.Mathlib.Omega.{arith}
@@ -22,14 +22,14 @@ returns-2 c =
 add-k : tie.Need-add-k
 add-k c = omega arith
 
-header-requires : tie.Need-header-requires
-header-requires c κs = omega arith
+link-header-requires : tie.Need-link-header-requires
+link-header-requires c κs = omega arith
 
-slice-aggregate-put-sealed : tie.Need-slice-aggregate-put-sealed
-slice-aggregate-put-sealed c = omega arith
+slice-aggregate-put-with-crc : tie.Need-slice-aggregate-put-with-crc
+slice-aggregate-put-with-crc c = omega arith
 
-put-sealed-requires : tie.Need-put-sealed-requires
-put-sealed-requires c κs = omega arith
+put-with-crc-requires : tie.Need-put-with-crc-requires
+put-with-crc-requires c κs = omega arith
 
 put-blocks-requires : tie.Need-put-blocks-requires
 put-blocks-requires c κs = omega arith
@@ -59,9 +59,9 @@ write-frame-spec =
     returns
     returns-2
     add-k
-    header-requires
-    slice-aggregate-put-sealed
-    put-sealed-requires
+    link-header-requires
+    slice-aggregate-put-with-crc
+    put-with-crc-requires
     put-blocks-requires
     add-t9
     mul-t19

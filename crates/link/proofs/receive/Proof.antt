@@ -1,7 +1,7 @@
 -- `link::receive` meets its contract: a walk of its MIR, by hand. The addresses and the two slices go to `take_frame`, `out` for good; then the borrow of the record is opened, the record is copied out and passed to `counted` with the answer, the record returned is stored in its place, and the borrow is closed at it.
 -- All that the proof knows of `take_frame` and of `counted` is that each meets its contract.
 -- Assumes nothing.
-use mathlib.Core.Path.{_≡_, refl, ap}
+use mathlib.Core.Path.{refl, ap}
 use Prim.Native.Nat.{ℕ}
 use mathlib.Core.List.{[], _∷_, List}
 use lib.ListN.{length}
@@ -15,7 +15,7 @@ use prog.Memory.{Memory}
 use prog.Routine.{Routine}
 use prog.Wp.{Heap, Calls, Loops, WpFn, Tables}
 use ghost.Atoms.{Atoms}
-use contract.Monad.{Fun, fact-use, factI}
+use contract.Monad.{Fun}
 use contract.Running.{givenOf, tables, tablesOf}
 use types.Kit.{Given, Item, ‵, raw, _⊛_, ⋆, _$_, _∵_, !, qed, by, move, drop, use2, split, join, fsplit, fsplit3, fjoin, fjoin3, feqI, feqL, suffices, frame, done}
 use types.Part.{agg, whole, sub, look-in}
@@ -41,14 +41,14 @@ use denote.Triple.Walked.{says, Stays, stay-ref, stay-dropped, gave-slice, walkO
 use denote.Exit.{yes}
 use Rattle.link.specs.declared.LineRecord.{LineRecord}
 use Rattle.link.specs.declared.Taken.{Taken}
-use Rattle.link.specs.Station.{Action, station, answerFor, takenNumber, countedOf, lentAfter, FrameTaken}
-use Rattle.laws.specs.Outcome.{Outcome}
+use Rattle.link.specs.Station.{takenOf, countedOf, FrameTaken}
+use Rattle.laws.specs.Outcome.{numberOf}
 use Rattle.link.specs.declared.Station.{Station}
-use Rattle.link.proofs.Laws.{answer-number}
+use Rattle.link.proofs.Laws.{taken-number-is}
 use Rattle.link.proofs.Station as S
 use Rattle.link.proofs.Station.Laws as S′
 use Rattle.link.proofs.LineLaws.{valL, tellsL, makesL, typedL, valS, IsS, tellsS, typedS, valA, IsA, tellsA, makesA, typedA}
-use Rattle.walk.proofs.Walking.{calls-value, calls-lent}
+use Rattle.walk.proofs.Walking.{calls-value, calls-told-lent}
 use Rattle.link.proofs.LineRecord as L
 use Rattle.link.proofs.LineRecord.Laws as L′
 use Rattle.link.proofs.Taken as N
@@ -78,19 +78,9 @@ module _ {M : Type 1} (𝓤 : URA M) (H : Heap 𝓤) (A : Atoms 𝓤) (at-mem : 
 
 module _ {M : Type 1} (𝓤 : URA M) (H : Heap 𝓤) (A : Atoms 𝓤) (W : Given 𝓤 H A) (at-mem : Memory → SProp 𝓤) (run : Routine → Fun 𝓤) (κ₀ κ₁ κ₂ : Lft) (q₀ q₁ q₂ : Share)
     (b o : ℕ) (γ : GName) (h : LineRecord) (st : Station) (x : RefT (List ℕ)) (z : RefT (List ℕ)) (st-is : IsS st) (x-room : Room u8 (length (x .now))) (z-room : Room u8 (length (z .now))) where
-  -- the outcome, the answer, and the record after it
-  abbrev outcome : Outcome Action
-  outcome = station (length (z .now)) st (x .now)
-
-  abbrev a : Taken
-  a = answerFor outcome
-
-  abbrev h′ : LineRecord
-  h′ = countedOf h (takenNumber a)
-
-  -- what is right of the lent bytes afterwards
-  abbrev Done : List ℕ → Type 0
-  Done d = d ≡ lentAfter (z .now) outcome
+  -- the record after the answer a
+  abbrev after : Taken → LineRecord
+  after a = countedOf h (numberOf (takenOf a))
 
   -- what is passed: the arguments, and their machine values
   abbrev args : RefT LineRecord × (Station × (RefT (List ℕ) × (RefT (List ℕ) × Unit {0})))
@@ -108,8 +98,8 @@ module _ {M : Type 1} (𝓤 : URA M) (H : Heap 𝓤) (A : Atoms 𝓤) (W : Given
   abbrev to-frame : Frame 𝓤 H A at-mem run .Ghost
   to-frame = (((κ₁, (κ₂, tt)), (q₁, (q₂, tt)), tt, (st, (x, (z, tt))), (valS st ∷ [], (xv ∷ [], (zv ∷ [], tt)))), tt)
 
-  abbrev to-counted : Counted 𝓤 H A at-mem run .Ghost
-  to-counted = ((tt, tt, tt, (h, (a, tt)), (valL h ∷ [], (valA a ∷ [], tt))), tt)
+  abbrev to-counted : Taken → Counted 𝓤 H A at-mem run .Ghost
+  to-counted a = ((tt, tt, tt, (h, (a, tt)), (valL h ∷ [], (valA a ∷ [], tt))), tt)
 
   abbrev Post : Val → SProp 𝓤
   Post = walkOf 𝓤 H A receive.ended stayed (receive.clauses 𝓤 H A at-mem run) .post (((κ₀, (κ₁, (κ₂, tt))), (q₀, (q₁, (q₂, tt))), tt, args, at), tt)
@@ -124,16 +114,20 @@ module _ {M : Type 1} (𝓤 : URA M) (H : Heap 𝓤) (A : Atoms 𝓤) (W : Given
   abbrev Last : Type 0
   Last = Unit {0} × (Unit {0} × (List ℕ × Unit {0}))
 
+  -- what `take_frame` said, where it answered a
+  abbrev Took : Taken → Last → Type 0
+  Took a ws = FrameTaken a st (x .now) (z .now) (ws .1 .1 .0)
+
   abbrev Said : Last → Item 𝓤
   Said ws = ‵ (lasts frame′.ended (κ₁, (κ₂, tt)) (st, (x, (z, tt))) ws)
 
-  exits : (ws : Last) → Done (ws .1 .1 .0) → IsA a
-      → ent 𝓤 (⋆ 𝓤 H A (‵ (fobs γ (L.the-row .coded .code h′)) ∷ ‵ (fbor κ₀ (Body (mem L.the-row) b o γ)) ∷ ‵ (flft κ₀ q₀) ∷ Said ws ∷ Tokens ∷ [])) (Post (valA a))
-  exits ws e is =
-      qed W (‵ (fobs γ (L.the-row .coded .code h′)) ∷ ‵ (fbor κ₀ (Body (mem L.the-row) b o γ)) ∷ ‵ (flft κ₀ q₀) ∷ Said ws ∷ Tokens ∷ []) ∵
+  exits : (a : Taken) (ws : Last) → Took a ws → IsA a
+      → ent 𝓤 (⋆ 𝓤 H A (‵ (fobs γ (L.the-row .coded .code (after a))) ∷ ‵ (fbor κ₀ (Body (mem L.the-row) b o γ)) ∷ ‵ (flft κ₀ q₀) ∷ Said ws ∷ Tokens ∷ [])) (Post (valA a))
+  exits a ws e is =
+      qed W (‵ (fobs γ (L.the-row .coded .code (after a))) ∷ ‵ (fbor κ₀ (Body (mem L.the-row) b o γ)) ∷ ‵ (flft κ₀ q₀) ∷ Said ws ∷ Tokens ∷ []) ∵
       move ! (3 ∷ []) $ fsplit ! $ drop ! $ fsplit ! $ drop ! $ fsplit ! $ fsplit ! $ move ! (1 ∷ []) $ feqL ! (λ l.
       -- [out's last list; true; obs; the borrow; the tokens]
-      suffices ! _ (ends-at 𝓤 H A receive.ended stayed (receive.clauses 𝓤 H A at-mem run) W (((κ₀, (κ₁, (κ₂, tt))), (q₀, (q₁, (q₂, tt))), tt, args, at), tt) (valA a) a (h′, (tt, (tt, (ws .1 .1 .0, tt)))) (tt, (tt, (tt, (l, tt))))) $ says ! (record { answer = refl; number = answer-number st (length (z .now)) (x .now); lent = e }, ap (countedOf h) (answer-number st (length (z .now)) (x .now))) $
+      suffices ! _ (ends-at 𝓤 H A receive.ended stayed (receive.clauses 𝓤 H A at-mem run) W (((κ₀, (κ₁, (κ₂, tt))), (q₀, (q₁, (q₂, tt))), tt, args, at), tt) (valA a) a (after a, (tt, (tt, (ws .1 .1 .0, tt)))) (tt, (tt, (tt, (l, tt))))) $ says ! (record { taken = e; line = ap (countedOf h) (taken-number-is a st (x .now) (z .now) (ws .1 .1 .0) e) }) $
       move ! (4 ∷ 5 ∷ []) $ join ! $ frame ! $ fjoin ! $ nothing ! $ fjoin ! $ nothing ! $ fjoin ! $ move ! (1 ∷ 2 ∷ []) $ feqI ! (List Val) (vptr b o ∷ []) (vptr b o ∷ []) refl $ fjoin3 ! $ fjoin ! $ frame ! $
       owned ! N.the-row (Is N.the-row) (makesA 𝓤 H A) a _ is $ done !)
 
@@ -149,26 +143,25 @@ module _ {M : Type 1} (𝓤 : URA M) (H : Heap 𝓤) (A : Atoms 𝓤) (W : Given
         move ! (21 ∷ []) $ fsplit ! $ fsplit3 ! $ drop ! $ move ! (23 ∷ 2 ∷ []) $ split ! $
         -- [the record's token; the slices' tokens; what the slices own; obs; the borrow; _9; …; _8; …; _7; …; _6; …; _5; …; _4; …; _3; …; _2; …; _1; …; _0; …]
         move ! (1 ∷ 2 ∷ []) $ use2 W (raw (Frame 𝓤 H A at-mem run .pre to-frame)) asked $
-        calls-lent ! fm frame′.ended (frame′.clauses 𝓤 H A at-mem run) known-frame to-frame valA tellsA a (λ ws. Done (ws .1 .1 .0))
-        (λ r ws. fact-use 𝓤 (FrameTaken r st (x .now) (z .now) (ws .1 .1 .0)) (id⊢ 𝓤 _) (λ e. factI 𝓤 ((r ≡ a) × Done (ws .1 .1 .0)) _ (e .answer, e .lent)))
+        calls-told-lent ! fm frame′.ended (frame′.clauses 𝓤 H A at-mem run) known-frame to-frame valA tellsA Took (λ a ws. id⊢ 𝓤 _)
         (raw (Frame 𝓤 H A at-mem run .pre to-frame)) (id⊢ 𝓤 _)
-        (and-then ! (load ! (from ! (stop !)) (look ! 18 refl)) (and-then ! (load ! (from ! (stop !)) (look ! 16 refl)) (and-then ! (load ! (from ! (stop !)) (look ! 8 refl)) (no-more !)))) (λ ws e is.
+        (and-then ! (load ! (from ! (stop !)) (look ! 18 refl)) (and-then ! (load ! (from ! (stop !)) (look ! 16 refl)) (and-then ! (load ! (from ! (stop !)) (look ! 8 refl)) (no-more !)))) (λ a ws e is.
         -- [the last list; the slices' tokens; the record's token; obs; the borrow; _9; …; _8; …]
         land ! (from ! (stop !)) (init ! 13 refl (typedA 𝓤 H A W a is)) $
         move ! (3 ∷ 4 ∷ 2 ∷ []) $ opens ! tt L.the-row {h = h} b o (λ vs. spelt ! L.the-row (Is L.the-row) (shows 𝓤 H A L.the-row) (LL.vals L.the-type L′.the-laws) tellsL fullShare h vs b o $
         move ! (1 ∷ []) $ peeks ! L.the-row (Is L.the-row) (shows 𝓤 H A L.the-row) h (valL h ∷ []) (λ g. drop ! $
         -- [the record's cell; the open borrow; obs; auth; the last list; the slices' tokens; _9; …; _8; …; _7; …; _6; …; _5; …; _4; …; _3; …; _2; …; _1; …; _0; …]
         assigns ! (of-opd ! (load ! (from ! (hop ! (look ! 22 refl) (stop !))) (look-raw ! 0 refl))) (from ! (stop !)) (init ! 6 refl (typedL 𝓤 H A W h g)) $
-        calls-value ! fm counted.ended (counted.clauses 𝓤 H A at-mem run) known to-counted valL tellsL h′ (λ r ws. id⊢ 𝓤 _) (id⊢ 𝓤 _) (id⊢ 𝓤 _) (makesL 𝓤 H A, (makesA 𝓤 H A, tt)) (g, (is, tt))
+        calls-value ! fm counted.ended (counted.clauses 𝓤 H A at-mem run) known (to-counted a) valL tellsL (after a) (λ r ws. id⊢ 𝓤 _) (id⊢ 𝓤 _) (id⊢ 𝓤 _) (makesL 𝓤 H A, (makesA 𝓤 H A, tt)) (g, (is, tt))
         (and-then ! (load ! (from ! (stop !)) (look ! 6 refl)) (and-then ! (load ! (from ! (stop !)) (look ! 14 refl)) (no-more !))) (λ is′.
-        land ! (from ! (stop !)) (init ! 8 refl (typedL 𝓤 H A W h′ is′)) $
-        assigns ! (of-opd ! (load ! (from ! (stop !)) (look ! 8 refl))) (from ! (hop ! (look ! 22 refl) (stop !))) (store-raw ! 0 refl (typedL 𝓤 H A W h′ is′)) $
+        land ! (from ! (stop !)) (init ! 8 refl (typedL 𝓤 H A W (after a) is′)) $
+        assigns ! (of-opd ! (load ! (from ! (stop !)) (look ! 8 refl))) (from ! (hop ! (look ! 22 refl) (stop !))) (store-raw ! 0 refl (typedL 𝓤 H A W (after a) is′)) $
         assigns ! (of-opd ! (load ! (from ! (stop !)) (look ! 14 refl))) (from ! (stop !)) (init ! 24 refl (typedA 𝓤 H A W a is)) $
-        owned ! L.the-row (Is L.the-row) (makesL 𝓤 H A) h′ _ is′ $ move ! (1 ∷ 0 ∷ []) $ closes ! tt L.the-row h′ (valL h′ ∷ []) b o $
+        owned ! L.the-row (Is L.the-row) (makesL 𝓤 H A) (after a) _ is′ $ move ! (1 ∷ 0 ∷ []) $ closes ! tt L.the-row (after a) (valL (after a) ∷ []) b o $
         -- [obs; the borrow; the record's token; the last list; the slices' tokens; _9; …; _8; …; _7; …; _6; …; _5; …; _4; …; _3; …; _2; …; _1; …; _0; …]
         returns ! (look ! 23 refl) $ forget ! 5 refl $ forget ! 7 refl $ forget ! 9 refl $ forget ! 11 refl $ forget ! 13 refl $ forget ! 15 refl $ forget ! 17 refl $ forget ! 19 refl $ forget ! 21 refl $ forget ! 23 refl $
         move ! (23 ∷ 24 ∷ 21 ∷ 22 ∷ 19 ∷ 20 ∷ 17 ∷ 18 ∷ 15 ∷ 16 ∷ 13 ∷ 14 ∷ 11 ∷ 12 ∷ 9 ∷ 10 ∷ 7 ∷ 8 ∷ 5 ∷ 6 ∷ []) $ free1 ! $ free1 ! $ free1 ! $ free1 ! $ free1 ! $ free1 ! $ free1 ! $ free1 ! $ free1 ! $ free1 ! $ free0 ! $
-        by ! (exits ws e is)))))))))))))))
+        by ! (exits a ws e is)))))))))))))))
 
 module _ {M : Type 1} (𝓤 : URA M) (H : Heap 𝓤) (A : Atoms 𝓤) (W : Given 𝓤 H A) (at-mem : Memory → SProp 𝓤) (run : Routine → Fun 𝓤) (𝓣 : Tables 𝓤 H)
     (known-frame : Triple 𝓤 (𝓣 .C #link·take-frame) (Frame 𝓤 H A at-mem run)) (known : Triple 𝓤 (𝓣 .C #link·counted) (Counted 𝓤 H A at-mem run)) where

@@ -1,7 +1,7 @@
 -- `link::receive_by_value` meets its contract: a walk of its MIR, by hand. The record stands in a local, which is lent to `receive` for a lifetime that is made for the call, and taken back at the last value that `receive` says. The two slices go on to `receive`, `out` for good.
 -- All that the proof knows of `receive` is that it meets its contract.
 -- Assumes nothing.
-use mathlib.Core.Path.{_≡_, refl}
+use mathlib.Core.Path.{refl}
 use Prim.Native.Nat.{ℕ}
 use mathlib.Core.List.{[], _∷_, List}
 use lib.ListN.{length}
@@ -15,9 +15,9 @@ use prog.Memory.{Memory}
 use prog.Routine.{Routine}
 use prog.Wp.{Heap, Calls, Loops, WpFn, Tables}
 use ghost.Atoms.{Atoms}
-use contract.Monad.{Fun, fact-use, factI}
+use contract.Monad.{Fun}
 use contract.Running.{givenOf, tables, tablesOf}
-use types.Kit.{Given, Item, ‵, raw, _⊛_, ⋆, some, later, _$_, _∵_, !, qed, by, move, drop, use1, use2, use3, split, join, pick, rewrite, fsplit, fjoin, feqL, suffices, frame, await, done}
+use types.Kit.{Given, Item, ‵, raw, _⊛_, ⋆, some, later, _$_, _∵_, !, qed, by, move, drop, use1, use2, use3, split, join, pick, fsplit, fjoin, feqL, suffices, frame, await, done}
 use types.Part.{agg, whole, sub, look-in}
 use types.Run.{look, init, forget, stop, hop, fld, from, load, addr, of-opd, and-then, no-more, assigns, land, returns, enter, alloc1, alloc0, params1, pass1, pass0, free1, free0}
 use types.SemTy.{Body}
@@ -38,19 +38,17 @@ use denote.Triple.Statement.{Contract, Triple}
 use denote.Triple.Table.{entered, cited}
 use denote.Triple.Walked.{says, Stays, stay-dropped, gave-slice, walkOf, goes-dropped, goes-gave-slice, Walks, ends-at, walked, walk-meets}
 use denote.Exit.{yes}
-use Rattle.laws.specs.Outcome.{Outcome, numberOf}
 use Rattle.link.specs.declared.LineRecord.{LineRecord}
 use Rattle.link.specs.declared.Station.{Station}
 use Rattle.link.specs.declared.Taken.{Taken}
-use Rattle.link.specs.declared.Received.{Received}
-use Rattle.link.specs.Station.{Action, station, answerFor, countedOf, lentAfter, FrameTaken}
-use Rattle.link.proofs.Laws.{answer-number}
+use Rattle.link.specs.declared.FrameReceived.{FrameReceived}
+use Rattle.link.specs.Station.{FrameCounted}
 use Rattle.link.proofs.LineLaws.{valL, IsL, tellsL, makesL, typedL, valS, IsS, tellsS, typedS, valA, tellsA, typedA, valD, IsD, makesD, typedD, of-fields}
-use Rattle.walk.proofs.Walking.{calls-lent, lies, lies-out}
+use Rattle.walk.proofs.Walking.{calls-told-lent, lies, lies-out}
 use Rattle.link.proofs.LineRecord as L
 use Rattle.link.proofs.LineRecord.Laws as L′
 use Rattle.link.proofs.Station as S
-use Rattle.link.proofs.Received as D
+use Rattle.link.proofs.FrameReceived as D
 use Rattle.link.proofs.receive as receive
 use Rattle.link.proofs.receive.Symbol as receive-def
 use Rattle.link.proofs.receive.Symbol.{name as #link·receive}
@@ -70,22 +68,13 @@ module _ {M : Type 1} (𝓤 : URA M) (H : Heap 𝓤) (A : Atoms 𝓤) (at-mem : 
 
 module _ {M : Type 1} (𝓤 : URA M) (H : Heap 𝓤) (A : Atoms 𝓤) (W : Given 𝓤 H A) (at-mem : Memory → SProp 𝓤) (run : Routine → Fun 𝓤) (κ₁ κ₂ : Lft) (q₁ q₂ : Share)
     (h : LineRecord) (st : Station) (x : RefT (List ℕ)) (z : RefT (List ℕ)) (h-is : IsL h) (st-is : IsS st) (x-room : Room u8 (length (x .now))) (z-room : Room u8 (length (z .now))) where
-  -- the outcome, the answer, the record after it, and both together
-  abbrev outcome : Outcome Action
-  outcome = station (length (z .now)) st (x .now)
+  -- the answer and the record after it
+  abbrev both : Taken → LineRecord → FrameReceived
+  both a h′ = record { taken = a; line = h′ }
 
-  abbrev a : Taken
-  a = answerFor outcome
-
-  abbrev h′ : LineRecord
-  h′ = countedOf h (numberOf outcome)
-
-  abbrev d : Received
-  d = record { taken = a; line = h′ }
-
-  -- what is right of the lent bytes afterwards
-  abbrev Done : List ℕ → Type 0
-  Done zs = zs ≡ lentAfter (z .now) outcome
+  -- what `receive` says of them, and of the lent bytes afterwards
+  abbrev Took : Taken → LineRecord → List ℕ → Type 0
+  Took a h′ zs = FrameCounted a h h′ st (x .now) (z .now) zs
 
   abbrev args : LineRecord × (Station × (RefT (List ℕ) × (RefT (List ℕ) × Unit {0})))
   args = (h, (st, (x, (z, tt))))
@@ -109,11 +98,11 @@ module _ {M : Type 1} (𝓤 : URA M) (H : Heap 𝓤) (A : Atoms 𝓤) (W : Given
   abbrev SlicesSaid : List ℕ → Fml
   SlicesSaid zs = fsep ftrue (fsep ftrue (fsep (fsep (finally u8 (z .name) zs) (feq ℕ (length zs) (length (z .now)))) ftrue))
 
-  exits : (zs : List ℕ) → Done zs → IsD d → ent 𝓤 (⋆ 𝓤 H A (‵ (SlicesSaid zs) ∷ Tokens ∷ [])) (Post (valD d))
-  exits zs e is =
+  exits : (a : Taken) (h′ : LineRecord) (zs : List ℕ) → Took a h′ zs → IsD (both a h′) → ent 𝓤 (⋆ 𝓤 H A (‵ (SlicesSaid zs) ∷ Tokens ∷ [])) (Post (valD (both a h′)))
+  exits a h′ zs e is =
       qed W (‵ (SlicesSaid zs) ∷ Tokens ∷ []) ∵ fsplit ! $ drop ! $ fsplit ! $ drop ! $ fsplit ! $ fsplit ! $ move ! (1 ∷ []) $ feqL ! (λ l.
-      suffices ! _ (ends-at 𝓤 H A f.ended stayed (f.clauses 𝓤 H A at-mem run) W (((κ₁, (κ₂, tt)), (q₁, (q₂, tt)), tt, args, at), tt) (valD d) d (tt, (tt, (tt, (zs, tt)))) (tt, (tt, (tt, (l, tt))))) $ says ! (record { answer = refl; number = answer-number st (length (z .now)) (x .now); lent = e }, refl) $
-      move ! (2 ∷ []) $ frame ! $ fjoin ! $ nothing ! $ fjoin ! $ nothing ! $ fjoin ! $ nothing ! $ fjoin ! $ frame ! $ owned ! D.the-row (Is D.the-row) (makesD 𝓤 H A) d _ is $ done !)
+      suffices ! _ (ends-at 𝓤 H A f.ended stayed (f.clauses 𝓤 H A at-mem run) W (((κ₁, (κ₂, tt)), (q₁, (q₂, tt)), tt, args, at), tt) (valD (both a h′)) (both a h′) (tt, (tt, (tt, (zs, tt)))) (tt, (tt, (tt, (l, tt))))) $ says ! e $
+      move ! (2 ∷ []) $ frame ! $ fjoin ! $ nothing ! $ fjoin ! $ nothing ! $ fjoin ! $ nothing ! $ fjoin ! $ frame ! $ owned ! D.the-row (Is D.the-row) (makesD 𝓤 H A) (both a h′) _ is $ done !)
 
   -- the local at l is lent for ν, under the name γ
   module _ (l ν : ℕ) (γ : GName) where
@@ -143,23 +132,21 @@ module _ {M : Type 1} (𝓤 : URA M) (H : Heap 𝓤) (A : Atoms 𝓤) (W : Given
         use1 W (later (some (λ (γ : GName). ‵ (MutRef (named 0) (ν ∷ []) L.the-row .own (m l₅ ν γ) (vptr l₅ 0 ∷ [])) ⊛ ‵ (flent (ν ∷ []) (Body (mem L.the-row) l₅ 0 γ))))) (lends-ref 𝓤 H A W L.the-row (named 0) (ν ∷ []) h l₅ 0) $ await ! tt $ pick ! (λ γ. split ! $
         -- [what is lent; the lender's part; the token; _10; …; _9; …; _8; …; _7; …; _6; …; that _5 dies; _4; …; _3; …; _2; …; _1; …; _0; …; the slices' tokens; what is owned at entry]
         move ! (25 ∷ []) $ fsplit ! $ drop ! $ move ! (1 ∷ 0 ∷ []) $ fjoin ! $ move ! (2 ∷ 24 ∷ []) $ join ! $ use2 W (raw (Receive 𝓤 H A at-mem run .pre (to l₅ ν γ))) (asked l₅ ν γ) $
-        calls-lent ! fm receive.ended (receive.clauses 𝓤 H A at-mem run) known (to l₅ ν γ) valA tellsA a (λ ws. Done (ws .1 .1 .1 .0) × (ws .0 ≡ h′))
-        (λ r ws. fact-use 𝓤 (FrameTaken r st (x .now) (z .now) (ws .1 .1 .1 .0) × (ws .0 ≡ h′)) (id⊢ 𝓤 _)
-        (λ e. factI 𝓤 ((r ≡ a) × (Done (ws .1 .1 .1 .0) × (ws .0 ≡ h′))) _ (e .0 .answer, (e .0 .lent, e .1))))
+        calls-told-lent ! fm receive.ended (receive.clauses 𝓤 H A at-mem run) known (to l₅ ν γ) valA tellsA (λ a ws. Took a (ws .0) (ws .1 .1 .1 .0)) (λ a ws. id⊢ 𝓤 _)
         (raw (Receive 𝓤 H A at-mem run .pre (to l₅ ν γ))) (id⊢ 𝓤 _)
-        (and-then ! (load ! (from ! (stop !)) (look ! 8 refl)) (and-then ! (load ! (from ! (stop !)) (look ! 17 refl)) (and-then ! (load ! (from ! (stop !)) (look ! 15 refl)) (and-then ! (load ! (from ! (stop !)) (look ! 4 refl)) (no-more !))))) (λ ws e is.
+        (and-then ! (load ! (from ! (stop !)) (look ! 8 refl)) (and-then ! (load ! (from ! (stop !)) (look ! 17 refl)) (and-then ! (load ! (from ! (stop !)) (look ! 15 refl)) (and-then ! (load ! (from ! (stop !)) (look ! 4 refl)) (no-more !))))) (λ a ws e is.
         -- [the last values; the tokens; the lender's part; _10; …; _9; …; _8; …; _7; …; _6; …; that _5 dies; _4; …; _3; …; _2; …; _1; …; _0; …]
         land ! (from ! (stop !)) (init ! 11 refl (typedA 𝓤 H A W a is)) $
         -- ν is ended, and the local taken back
         move ! (1 ∷ []) $ use1 W (‵ (flft (ν ∷ []) fullShare) ⊛ Tokens) (id⊢ 𝓤 _) $ split ! $ lft-end ! tt $ move ! (2 ∷ []) $ fsplit ! $ move ! (2 ∷ 4 ∷ 0 ∷ []) $
-        use3 W (later (‵ (mem L.the-row .lies (ws .0) l₅ 0))) (ref-back 𝓤 H A W L.the-row (ν ∷ []) γ (ws .0) l₅ 0) $ await ! tt $ rewrite ! 0 (λ (u : LineRecord). ‵ (partAt L.the-row fullShare u l₅ 0)) (e .1) refl $
-        lies-out ! L.the-row fullShare valL tellsL h′ l₅ 0 (λ is′. use1 W (‵ (fat fullShare L′.mir l₅ 0 (valL h′))) (W .laws .raw-at fullShare L′.mir l₅ 0 (valL h′)) $
+        use3 W (later (‵ (mem L.the-row .lies (ws .0) l₅ 0))) (ref-back 𝓤 H A W L.the-row (ν ∷ []) γ (ws .0) l₅ 0) $ await ! tt $ use1 W (‵ (partAt L.the-row fullShare (ws .0) l₅ 0)) (id⊢ 𝓤 _) $
+        lies-out ! L.the-row fullShare valL tellsL (ws .0) l₅ 0 (λ is′. use1 W (‵ (fat fullShare L′.mir l₅ 0 (valL (ws .0)))) (W .laws .raw-at fullShare L′.mir l₅ 0 (valL (ws .0))) $
         -- [_5; the slices' last values; the slices' tokens; _10; …; _9; …; _8; …; _7; …; _6; …; that _5 dies; _4; …; _3; …; _2; …; _1; …; _0; …]
-        assigns ! (of-opd ! (load ! (from ! (stop !)) (look ! 0 refl))) (from ! (stop !)) (init ! 3 refl (typedL 𝓤 H A W h′ is′)) $
-        assigns ! (agg ! (and-then ! (load ! (from ! (stop !)) (look ! 11 refl)) (and-then ! (load ! (from ! (stop !)) (look ! 3 refl)) (no-more !)))) (from ! (stop !)) (init ! 22 refl (typedD 𝓤 H A W d (of-fields a h′ is is′))) $
+        assigns ! (of-opd ! (load ! (from ! (stop !)) (look ! 0 refl))) (from ! (stop !)) (init ! 3 refl (typedL 𝓤 H A W (ws .0) is′)) $
+        assigns ! (agg ! (and-then ! (load ! (from ! (stop !)) (look ! 11 refl)) (and-then ! (load ! (from ! (stop !)) (look ! 3 refl)) (no-more !)))) (from ! (stop !)) (init ! 22 refl (typedD 𝓤 H A W (both a (ws .0)) (of-fields a (ws .0) is is′))) $
         returns ! (look ! 22 refl) $ forget ! 0 refl $ forget ! 3 refl $ forget ! 5 refl $ forget ! 7 refl $ forget ! 9 refl $ forget ! 11 refl $ forget ! 14 refl $ forget ! 16 refl $ forget ! 18 refl $ forget ! 20 refl $ forget ! 22 refl $
         move ! (22 ∷ 23 ∷ 20 ∷ 21 ∷ 18 ∷ 19 ∷ 16 ∷ 17 ∷ 14 ∷ 15 ∷ 0 ∷ 13 ∷ 11 ∷ 12 ∷ 9 ∷ 10 ∷ 7 ∷ 8 ∷ 5 ∷ 6 ∷ 3 ∷ 4 ∷ []) $ free1 ! $ free1 ! $ free1 ! $ free1 ! $ free1 ! $ free1 ! $ free1 ! $ free1 ! $ free1 ! $ free1 ! $ free1 ! $ free0 ! $
-        by ! (exits (ws .1 .1 .1 .0) (e .0) (of-fields a h′ is is′)))))))))))))))))
+        by ! (exits a (ws .0) (ws .1 .1 .1 .0) e (of-fields a (ws .0) is is′)))))))))))))))))
 
 module _ {M : Type 1} (𝓤 : URA M) (H : Heap 𝓤) (A : Atoms 𝓤) (W : Given 𝓤 H A) (at-mem : Memory → SProp 𝓤) (run : Routine → Fun 𝓤) (𝓣 : Tables 𝓤 H) (known : Triple 𝓤 (𝓣 .C #link·receive) (Receive 𝓤 H A at-mem run)) where
   walks : Walks 𝓤 H A f.ended stayed (WpFn 𝓤 H (𝓣 .C) (𝓣 .Λ) code.function) (f.clauses 𝓤 H A at-mem run)

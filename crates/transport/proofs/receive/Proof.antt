@@ -53,8 +53,8 @@ part-copy-end c = omega arith
 copy-requires : tie.Need-copy-requires
 copy-requires c κs = omega arith
 
-taken-requires : tie.Need-taken-requires
-taken-requires c κs = omega arith
+progressed-requires : tie.Need-progressed-requires
+progressed-requires c κs = omega arith
 
 same-length : tie.Need-same-length
 same-length c = omega arith
@@ -65,7 +65,7 @@ returns-4 c =
     let a = t4 .before .before .before .before .before .before .before .args in
     let s = a .segment .now in
     received-by _ _ s (a .out .now) _ (accepted 0) (got-first (length (a .out .now)) (a .a) s (omega arith) (omega arith) (omega arith) (t4 .if4 .taken))
-    (rw (rest-length-0 s) (c .taken .ensures .1)) (rw (rest-length-0 s) (c .taken .ensures .0)) (cc (rest-is s))
+    (rw (rest-length-0 s) (c .progressed .ensures .1)) (rw (rest-length-0 s) (c .progressed .ensures .0)) (cc (rest-is s))
 
 placed-requires : tie.Need-placed-requires
 placed-requires c κs = omega arith
@@ -88,13 +88,13 @@ copy-requires-2 c κs =
     let s = u .before .before .before .before .before .before .before .before .before .before .args .segment .now in
     simp (rest-is s, rest-length s) (omega (arith, place-fits _ _ _ _ (went u)))
 
-add-taken : tie.Need-add-taken
-add-taken c =
+add-progressed : tie.Need-add-progressed
+add-progressed c =
     let u = c .before .before .before .before .before .before in
     omega (arith, place-fits _ _ _ _ (went u))
 
-taken-requires-2 : tie.Need-taken-requires-2
-taken-requires-2 c κs = omega arith
+progressed-requires-2 : tie.Need-progressed-requires-2
+progressed-requires-2 c κs = omega arith
 
 enum-told : tie.Need-enum-told
 enum-told c = omega arith
@@ -116,7 +116,7 @@ returns-5 c =
     let u = c .before .before .before .before .before .before .before in
     let s = u .before .before .before .before .before .before .before .before .before .before .args .segment .now in
     received-by _ _ s _ _ _ (nexts (u .before .before .before) ∙ went u)
-    (rw (rest-length s) (c .taken2 .ensures .1)) (rw (rest-length s) (c .taken2 .ensures .0)) (cc (rest-is s))
+    (rw (rest-length s) (c .progressed2 .ensures .1)) (rw (rest-length s) (c .progressed2 .ensures .0)) (cc (rest-is s))
 
 returns-6 : tie.Need-returns-6
 returns-6 c =
@@ -143,7 +143,7 @@ receive-spec =
     part-copy-start
     part-copy-end
     copy-requires
-    taken-requires
+    progressed-requires
     same-length
     returns-4
     placed-requires
@@ -152,8 +152,8 @@ receive-spec =
     part-copy-start-2
     part-copy-end-2
     copy-requires-2
-    add-taken
-    taken-requires-2
+    add-progressed
+    progressed-requires-2
     enum-told
     nothing-begun-requires
     enum-told-2

@@ -1,11 +1,11 @@
--- `frame::header` meets its contract: its bytes are the definition's.
+-- `frame::link_header` meets its contract: its bytes are the definition's.
 -- Assumes nothing.
 use native.Mathlib.Omega.{arith}
 use mathlib.Core.Path.{refl}
 use Rattle.octets.specs.Bytes.{le}
-use Rattle.frame.specs.Frame.{headerOf}
-use Rattle.frame.proofs.header.Statement.{statement}
-use Rattle.frame.proofs.header.Tie as tie
+use Rattle.frame.specs.Frame.{linkHeader}
+use Rattle.frame.proofs.link_header.Statement.{statement}
+use Rattle.frame.proofs.link_header.Tie as tie
 
 add-t5 : tie.Need-add-t5
 add-t5 c = omega arith
@@ -26,8 +26,8 @@ cast-t16 : tie.Need-cast-t16
 cast-t16 c = omega arith
 
 returns : tie.Need-returns
-unfolding headerOf le
+unfolding linkHeader le
 returns c = refl
 
-pub header-spec : {M : Type 1} → statement M
-header-spec = tie.close (tie.spec add-t5 cast-t6 cast-t8 cast-t11 cast-t13 cast-t16 returns)
+pub link-header-spec : {M : Type 1} → statement M
+link-header-spec = tie.close (tie.spec add-t5 cast-t6 cast-t8 cast-t11 cast-t13 cast-t16 returns)
