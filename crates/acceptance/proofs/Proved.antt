@@ -6,22 +6,22 @@ use Rattle.laws.specs.Lists.{filter, same}
 use Rattle.octets.specs.Bytes as O
 use Rattle.points.specs.Setup.{freshAnalog}
 use Rattle.points.specs.Reading as P
-use Rattle.points.specs.Scaling.{limitedTo}
+use Rattle.points.specs.Scaling.{limitedOf}
 use Rattle.events.specs.Placing as E
-use Rattle.events.specs.Queue as K
+use Rattle.events.specs.BufferView as K
 use Rattle.application.specs.Fragment as F
 use Rattle.application.specs.Response as I
-use Rattle.request.specs.Headers as H
-use Rattle.request.specs.Parse as A
+use Rattle.read_headers.specs.Headers as H
+use Rattle.read_headers.specs.Parse as A
 use Rattle.objects.specs.Runs.{encoded, runs, allBytes, objectBytes}
 use Rattle.event_objects.specs.Events.{eventBytes, carriedEvents, carriedObjects, carriedBytes}
 use Rattle.static_objects.specs.Static.{staticBytes, rangeBytes, pointObjects, pointBytes}
 use Rattle.control.specs.Objects as C
 use Rattle.control.specs.Status as T
-use Rattle.select.specs.Select as L
-use Rattle.repeat.specs.Repeat.{isRepeat}
+use Rattle.select_latch.specs.Select as L
+use Rattle.last_request.specs.Repeat.{isRepeat}
 use Rattle.outstation.specs.Setup as U
-use Rattle.outstation.specs.World.{restarted}
+use Rattle.outstation.specs.OutstationView.{restarted}
 use Rattle.outstation.specs.Readings as R
 use Rattle.outstation.specs.Requests as Q
 use Rattle.outstation.specs.Step as S
@@ -30,12 +30,12 @@ use Rattle.acceptance.specs.Acceptance.{Acceptance}
 pub acceptance : Acceptance
 unfolding restarted U.setupOk U.binaryClasses U.analogSetups freshAnalog
     S.step S.readingStep S.takenWith S.raise S.fragmentStep S.readStep S.requestStep S.confirmStep S.confirmedStep
-    R.hear R.badTime P.binaryReading P.floatReading P.reports P.raises limitedTo X.ofBits X.toBits X.mul X.add
-    Q.ask Q.confirmed F.classified F.malformed A.headersOf H.frontHeader H.objectOf H.classHeader A.asksFor
-    K.pushed K.carry E.fits E.packed E.costOf filter
+    R.applyReading R.badTime P.readBinary P.readFloat P.isReported P.isRaised limitedOf X.ofBits X.toBits X.mul X.add
+    Q.ask Q.isConfirmed F.classified F.malformed A.headersOf H.frontHeader H.objectOf H.classHeader A.asksFor
+    K.pushed K.carry E.fits E.spaceAfter E.costOf filter
     staticBytes rangeBytes pointObjects pointBytes encoded runs allBytes objectBytes O.le O.value
     eventBytes carriedEvents carriedObjects carriedBytes
     I.responseOf I.writeFault isRepeat same
-    L.effectOf L.operateStatus C.formed C.exact C.widthOf C.span C.crobs T.statuses T.statusOf T.allZero T.echoed T.chosen
+    L.controlEffect L.operateStatus C.formed C.exact C.widthOf C.span C.crobs T.statuses T.statusOf T.allZero T.echoed T.chosen
 acceptance =
     record { setups = refl; aToH = refl; aToLate = refl; aToI = refl; releases = refl; jAlone = refl; frameSizes = refl }

@@ -25,12 +25,12 @@ use points::WholeGate;
 fn kind_of(i: usize) -> AnalogKind {
     let k = i % 3;
     if k == 0 {
-        return AnalogKind::Long(WholeGate::AnyChange);
+        return AnalogKind::Int32(WholeGate::AnyChange);
     }
     if k == 1 {
-        return AnalogKind::Short(WholeGate::AnyChange);
+        return AnalogKind::Int16(WholeGate::AnyChange);
     }
-    AnalogKind::Real(
+    AnalogKind::Float32(
         FloatGate::AnyChange,
         Scale {
             gain: 1.0,

@@ -27,7 +27,7 @@ fn fold_answer(sum: u64, a: FragmentAnswer, out: &[u8]) -> u64 {
         FragmentAnswer::Time => fold(sum, 3),
         FragmentAnswer::Malformed => fold(sum, 4),
         FragmentAnswer::NotConfirmed => fold(sum, 5),
-        FragmentAnswer::AnswerLent => fold(sum, 6),
+        FragmentAnswer::OutputTooSmall => fold(sum, 6),
     }
 }
 

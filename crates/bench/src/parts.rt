@@ -11,9 +11,9 @@ use points::WholeGate;
 
 fn value_of(v: Value) -> u64 {
     match v {
-        Value::Long(z) => points::whole_distance(z, 0) as u64,
-        Value::Short(_) => 1,
-        Value::Real(_) => 2,
+        Value::Int32(z) => points::whole_distance(z, 0) as u64,
+        Value::Int16(_) => 1,
+        Value::Float32(_) => 2,
     }
 }
 
@@ -25,9 +25,9 @@ fn one_point(count: u64) -> AnalogPoint {
         WholeGate::Beyond(100)
     };
     let k = if count == crate::COUNT_MAX {
-        AnalogKind::Short(g)
+        AnalogKind::Int16(g)
     } else {
-        AnalogKind::Long(g)
+        AnalogKind::Int32(g)
     };
     points::fresh_analog(AnalogSetup { class: 1, kind: k })
 }

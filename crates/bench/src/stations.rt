@@ -19,7 +19,7 @@ use point_store::BINARY_WORDS;
 use points::POINTS_MAX;
 use points::Value;
 use restart::AnalogSetupWords;
-use restart::Going;
+use restart::RestartProgress;
 use restart::SetupWords;
 
 // The most points of a kind and the most events, in the types that they are counted in here.
@@ -30,7 +30,7 @@ const POINTS_END: u16 = POINTS_MAX as u16;
 pub const EVENTS: u64 = CAPACITY as u64;
 
 // Adds n analogs, all alike.
-fn added(first: Going, n: usize, analogs: &mut [u32; ANALOG_WORDS]) -> Going {
+fn added(first: RestartProgress, n: usize, analogs: &mut [u32; ANALOG_WORDS]) -> RestartProgress {
     let a = AnalogSetupWords {
         limit: 100,
         gain: 0,
@@ -167,12 +167,12 @@ fn shown_of(i: u64) -> Shown {
         return Shown::State(i % 8 == 0);
     }
     if k == 1 {
-        return Shown::Analog(Value::Long((i % 4096) as i32));
+        return Shown::Analog(Value::Int32((i % 4096) as i32));
     }
     if k == 2 {
-        return Shown::Analog(Value::Short((i % 4096) as i16));
+        return Shown::Analog(Value::Int16((i % 4096) as i16));
     }
-    Shown::Analog(Value::Real(2.25))
+    Shown::Analog(Value::Float32(2.25))
 }
 
 // The kinds and the classes take turns.
@@ -259,7 +259,7 @@ fn clock_and_count(h: Head) -> u64 {
 
 // How many events are held.
 pub fn held_in(h: Head) -> u64 {
-    let t = outstation::status_of(h);
+    let t = outstation::buffer_status(h);
     t.count as u64
 }
 

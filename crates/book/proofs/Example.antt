@@ -11,8 +11,8 @@ use Rattle.points.specs.declared.WholeGate.the-variants as W
 use Rattle.points.specs.declared.AnalogKind.the-variants as Ks
 use Rattle.events.specs.declared.Shown.the-variants.{State}
 use Rattle.events.specs.Placing as E
-use Rattle.request.specs.Headers as H
-use Rattle.request.specs.Parse as A
+use Rattle.read_headers.specs.Headers as H
+use Rattle.read_headers.specs.Parse as A
 use Rattle.application.specs.Fragment as F
 use Rattle.objects.specs.Runs.{encoded, runs, allBytes}
 use Rattle.static_objects.specs.Static.{staticBytes, rangeBytes, pointObjects}
@@ -23,7 +23,7 @@ use Rattle.outstation.specs.Readings as R
 use Rattle.outstation.specs.Requests as Q
 use Rattle.outstation.specs.Step.{Call, reading, fragment}
 use Rattle.book.specs.Book as B
-use Rattle.book.specs.Book.{Book, Said, takes, refuses, carries, accepts, hold!, built!, confirmed!, released, enter, opened}
+use Rattle.book.specs.Book.{Book, BookAnswer, takes, refuses, carries, accepts, hold!, built!, confirmed!, released, enter, bookOf}
 use Rattle.book.specs.Demand3.{bookAfter, historyAfter}
 
 -- one binary, of class 1
@@ -38,7 +38,7 @@ oneBinary =
       «binary_count» = 1;
       «analog_count» = 0;
       classes = 1 ∷ replicate 63 0;
-      analogs = replicate 64 (record { class = 0; kind = Ks.Long W.Never });
+      analogs = replicate 64 (record { class = 0; kind = Ks.Int32 W.Never });
     }
 
 -- the binary is so, from this time on
@@ -55,19 +55,19 @@ calls =
     ∷ []
 
 -- what the book says of each call
-abbrev sayings : List Call → Book → List Said
+abbrev sayings : List Call → Book → List BookAnswer
 sayings [] b = []
-sayings (c ∷ cs) b = enter c b .said ∷ sayings cs (enter c b .book)
+sayings (c ∷ cs) b = enter c b .answer ∷ sayings cs (enter c b .book)
 
 -- one event was raised, carried and released; the wrong CONFIRM was refused
 run :
-    (bookAfter calls (opened oneBinary) .master .rows
+    (bookAfter calls (bookOf oneBinary) .master .rows
     ≡ record { event = record { point = 0; shown = State true; flags = 1; time = 1000; class = 1 }; mark = released } ∷ [])
-    × (sayings calls (opened oneBinary)
+    × (sayings calls (bookOf oneBinary)
     ≡ takes 1 0 ∷ takes 1 0 ∷ carries (0 ∷ []) [] ∷ refuses 32 ∷ accepts ∷ [])
-    × (historyAfter calls (opened oneBinary) [] ≡ confirmed! 0 ∷ built! 0 (0 ∷ []) ∷ hold! 0 ∷ [])
-unfolding B.opened B.enter B.readingEntry B.enterReading B.readingNews B.enterEvent B.full B.fragmentEntry B.readEntry B.confirmEntry B.confirmedEntry
-    U.binaryClasses U.analogSetups R.hear R.badTime P.binaryReading P.reports P.raises
-    Q.ask Q.confirmed F.classified F.malformed A.headersOf H.frontHeader H.objectOf H.classHeader A.asksFor
-    E.fits E.packed E.costOf staticBytes rangeBytes pointObjects encoded runs allBytes
+    × (historyAfter calls (bookOf oneBinary) [] ≡ confirmed! 0 ∷ built! 0 (0 ∷ []) ∷ hold! 0 ∷ [])
+unfolding B.bookOf B.enter B.readingEntry B.enterReading B.readingEntries B.enterEvent B.full B.fragmentEntry B.readEntry B.confirmEntry B.confirmedEntry
+    U.binaryClasses U.analogSetups R.applyReading R.badTime P.readBinary P.isReported P.isRaised
+    Q.ask Q.isConfirmed F.classified F.malformed A.headersOf H.frontHeader H.objectOf H.classHeader A.asksFor
+    E.fits E.spaceAfter E.costOf staticBytes rangeBytes pointObjects encoded runs allBytes
 run = (refl, refl, refl)

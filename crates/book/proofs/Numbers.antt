@@ -15,7 +15,7 @@ use Rattle.outstation.specs.Setup.{Setup}
 use Rattle.outstation.specs.Step.{Call}
 use Rattle.book.specs.Book as B
 use Rattle.book.specs.Book.{Book, Row, rowHeld, Wait, idle, awaiting, picks, release}
-use Rattle.book.specs.Book.{hold!, drop!, built!, confirmed!, Happening}
+use Rattle.book.specs.Book.{hold!, drop!, built!, confirmed!, HistoryEntry}
 use Rattle.book.specs.Demand3.{rowsOf, without, heldAfter}
 use Rattle.laws.proofs.Choices.{by, both, cond-eq}
 use Rattle.book.proofs.Rows.{heldRow, droppedRow}
@@ -59,39 +59,39 @@ count-release ws i (r ∷ rs) =
 
 -- ---- a history in which events are dropped exactly while 256 are held
 
-abbrev pub Sound : List Happening → Type 0
+abbrev pub Sound : List HistoryEntry → Type 0
 Sound [] = Unit {0}
 Sound (hold! row ∷ h) = (length (heldAfter h) < eventsMax) × Sound h
 Sound (drop! row ∷ h) = (length (heldAfter h) ≡ eventsMax) × Sound h
 Sound (built! number rows ∷ h) = Sound h
 Sound (confirmed! number ∷ h) = Sound h
 
-sound-back : (later h : List Happening) → Sound (later ++ h) → Sound h
+sound-back : (later h : List HistoryEntry) → Sound (later ++ h) → Sound h
 sound-back [] h s = s
 sound-back (hold! row ∷ l) h s = sound-back l h (s .1)
 sound-back (drop! row ∷ l) h s = sound-back l h (s .1)
 sound-back (built! number rows ∷ l) h s = sound-back l h s
 sound-back (confirmed! number ∷ l) h s = sound-back l h s
 
-pub sound-drop : (i : ℕ) (later earlier : List Happening) → Sound (later ++ drop! i ∷ earlier) → length (heldAfter earlier) ≡ eventsMax
+pub sound-drop : (i : ℕ) (later earlier : List HistoryEntry) → Sound (later ++ drop! i ∷ earlier) → length (heldAfter earlier) ≡ eventsMax
 sound-drop i later earlier s = sound-back later (drop! i ∷ earlier) s .0
 
-pub sound-hold : (i : ℕ) (later earlier : List Happening) → Sound (later ++ hold! i ∷ earlier) → length (heldAfter earlier) < eventsMax
+pub sound-hold : (i : ℕ) (later earlier : List HistoryEntry) → Sound (later ++ hold! i ∷ earlier) → length (heldAfter earlier) < eventsMax
 sound-hold i later earlier s = sound-back later (hold! i ∷ earlier) s .0
 
 -- ---- kept by every call
 
-abbrev Awaited : Wait → List Happening → Type 0
+abbrev Awaited : Wait → List HistoryEntry → Type 0
 Awaited idle h = Unit {0}
 Awaited (awaiting q t ws n k) h = rowsOf k h ≡ ws
 
-pub record Numbered (w : Wait) (rows : List Row) (h : List Happening) : Type 0 where
+pub record Numbered (w : Wait) (rows : List Row) (h : List HistoryEntry) : Type 0 where
   holds : heldAfter h ≡ numbersFrom 0 rows
   most : count rowHeld rows ≤ eventsMax
   pub sound : Sound h
   awaited : Awaited w h
 
-module _ (rows : List Row) (h : List Happening) where
+module _ (rows : List Row) (h : List HistoryEntry) where
   -- how many the history has
   counted : (w : Wait) → Numbered w rows h → length (heldAfter h) ≡ count rowHeld rows
   counted w k = ap length (k .holds) ∙ length-numbers 0 rows
@@ -152,7 +152,7 @@ module _ (rows : List Row) (h : List Happening) where
       }
 
 -- K with the warning and the number of responses, which this does not depend on
-abbrev NumberedOf : Wait → List Row → Bool → ℕ → List Happening → Type 0
+abbrev NumberedOf : Wait → List Row → Bool → ℕ → List HistoryEntry → Type 0
 NumberedOf w rows warning built h = Numbered w rows h
 
 numbered-steps : Steps NumberedOf
@@ -163,15 +163,15 @@ numbered-steps =
       ended = λ w rows warning built h k. numbered-idle rows h w k;
       built = λ w rows warning built h ws k. numbered-built rows h w built ws k;
       awaited = λ w rows warning built h q t m p k. numbered-awaiting rows h w q t built (picks m p 0 rows) (length rows) k;
-      confirmed = λ rows warning built h q t ws n j k. numbered-confirmed rows h q t ws n j k;
+      isConfirmed = λ rows warning built h q t ws n j k. numbered-confirmed rows h q t ws n j k;
     }
 
-abbrev pub NumberedBy : Book → List Happening → Type 0
+abbrev pub NumberedBy : Book → List HistoryEntry → Type 0
 NumberedBy b h = Numbered (b .master .wait) (b .master .rows) h
 
-pub enter-numbered : (c : Call) (b : Book) (h : List Happening) → NumberedBy b h → NumberedBy (B.enter c b .book) (B.enter c b .news ++ h)
+pub enter-numbered : (c : Call) (b : Book) (h : List HistoryEntry) → NumberedBy b h → NumberedBy (B.enter c b .book) (B.enter c b .entries ++ h)
 enter-numbered c b h k = enter-on NumberedOf numbered-steps c b h k
 
-pub opened-numbered : (u : Setup) → NumberedBy (B.opened u) []
-unfolding B.opened
+pub opened-numbered : (u : Setup) → NumberedBy (B.bookOf u) []
+unfolding B.bookOf
 opened-numbered u = record { holds = refl; most = omega arith; sound = tt; awaited = tt }

@@ -15,40 +15,40 @@ use Rattle.events.specs.declared.Event.{Event}
 use Rattle.outstation.specs.Setup.{Setup}
 use Rattle.outstation.specs.Step.{Call}
 use Rattle.book.specs.Book as B
-use Rattle.book.specs.Book.{Book, Row, Happening, hold!, drop!, built!, confirmed!, dropSince, picks, release, idle, awaiting, Wait}
+use Rattle.book.specs.Book.{Book, Row, HistoryEntry, hold!, drop!, built!, confirmed!, dropSince, picks, release, idle, awaiting, Wait}
 use Rattle.book.specs.Demand3.{Has, Pending}
 use Rattle.laws.proofs.Choices.{by}
 use Rattle.book.proofs.Walk.{Steps, enter-on}
 use Rattle.book.proofs.Rows.{since-held, since-dropped, heldRow, droppedRow}
 
-abbrev NoDrop : List Happening → Type 0
+abbrev NoDrop : List HistoryEntry → Type 0
 NoDrop h = (r : ℕ) → Has (drop! r) h → ⊥
 
 -- response k was built and nothing was dropped after it
-record Quiet (k : ℕ) (h : List Happening) : Type 0 where
-  later : List Happening
+record Quiet (k : ℕ) (h : List HistoryEntry) : Type 0 where
+  later : List HistoryEntry
   ws : List ℕ
-  earlier : List Happening
+  earlier : List HistoryEntry
   split : h ≡ later ++ built! k ws ∷ earlier
   quiet : NoDrop later
 
 -- response k was built before the latest drop
-abbrev Before : ℕ → List Happening → Type 0
+abbrev Before : ℕ → List HistoryEntry → Type 0
 Before k h =
-    (later : List Happening) (r : ℕ) (earlier : List Happening) → h ≡ later ++ drop! r ∷ earlier → NoDrop later → (ws : List ℕ)
+    (later : List HistoryEntry) (r : ℕ) (earlier : List HistoryEntry) → h ≡ later ++ drop! r ∷ earlier → NoDrop later → (ws : List ℕ)
     → Has (built! k ws) later → ⊥
 
-record Awaits (rows : List Row) (n k built : ℕ) (h : List Happening) : Type 0 where
+record Awaits (rows : List Row) (n k built : ℕ) (h : List HistoryEntry) : Type 0 where
   number : k < built
   from : n ≤ length rows
   before : dropSince n rows ≡ true → Before k h
   quiet : dropSince n rows ≡ false → Quiet k h
 
-abbrev Awaited : Wait → List Row → ℕ → List Happening → Type 0
+abbrev Awaited : Wait → List Row → ℕ → List HistoryEntry → Type 0
 Awaited idle rows built h = Unit {0}
 Awaited (awaiting q t ws n k) rows built h = Awaits rows n k built h
 
-pub record Kept (w : Wait) (rows : List Row) (warning : Bool) (built : ℕ) (h : List Happening) : Type 0 where
+pub record Kept (w : Wait) (rows : List Row) (warning : Bool) (built : ℕ) (h : List HistoryEntry) : Type 0 where
   pub warned : warning ≡ true → Pending h
   pub clear : warning ≡ false → Pending h → ⊥
   pub numbers : (k : ℕ) → Has (confirmed! k) h → k < built
@@ -57,18 +57,18 @@ pub record Kept (w : Wait) (rows : List Row) (warning : Bool) (built : ℕ) (h :
 no-nil : NoDrop []
 no-nil r m = List·Memᴰ·not-nil m
 
--- a history with a newest happening x that is no drop
-module _ (x : Happening) (n : (r : ℕ) → drop! r ≡ x → ⊥) where
-  quiet-more : (h : List Happening) → NoDrop h → NoDrop (x ∷ h)
+-- a history with a newest entry x that is no drop
+module _ (x : HistoryEntry) (n : (r : ℕ) → drop! r ≡ x → ⊥) where
+  quiet-more : (h : List HistoryEntry) → NoDrop h → NoDrop (x ∷ h)
   quiet-more h q r m = elim (List·Memᴰ·cases-cons m) [ inl e ↦ n r e | inr m′ ↦ q r m′ ]
 
   -- x stands in what came after a drop
-  peel : (h later : List Happening) (r : ℕ) (earlier : List Happening) → x ∷ h ≡ later ++ drop! r ∷ earlier
-      → (l : List Happening) × (later ≡ x ∷ l) × (h ≡ l ++ drop! r ∷ earlier)
+  peel : (h later : List HistoryEntry) (r : ℕ) (earlier : List HistoryEntry) → x ∷ h ≡ later ++ drop! r ∷ earlier
+      → (l : List HistoryEntry) × (later ≡ x ∷ l) × (h ≡ l ++ drop! r ∷ earlier)
   peel h [] r earlier e = absurd (n r (sym (head-eq-of-cons-eq e)))
   peel h (y ∷ l) r earlier e = (l, ap (λ z. z ∷ l) (sym (head-eq-of-cons-eq e)), tail-eq-of-cons-eq e)
 
-  pending-on : (h : List Happening) → (p : Pending h)
+  pending-on : (h : List HistoryEntry) → (p : Pending h)
       → ((k : ℕ) (ws : List ℕ) → Has (built! k ws) (x ∷ p .later) → Has (confirmed! k) (x ∷ h) → ⊥) → Pending (x ∷ h)
   pending-on h p u =
       record {
@@ -80,7 +80,7 @@ module _ (x : Happening) (n : (r : ℕ) → drop! r ≡ x → ⊥) where
         unconfirmed = u;
       }
 
-  pending-back : (h : List Happening) → Pending (x ∷ h) → Pending h
+  pending-back : (h : List HistoryEntry) → Pending (x ∷ h) → Pending h
   pending-back h p =
       let (l, e, s) = peel h (p .later) (p .row) (p .earlier) (p .split) in
       record {
@@ -93,11 +93,11 @@ module _ (x : Happening) (n : (r : ℕ) → drop! r ≡ x → ⊥) where
       }
 
 -- a drop
-pending-drop : (r : ℕ) (h : List Happening) → Pending (drop! r ∷ h)
+pending-drop : (r : ℕ) (h : List HistoryEntry) → Pending (drop! r ∷ h)
 pending-drop r h =
     record { later = []; row = r; earlier = h; split = refl; latest = no-nil; unconfirmed = λ k ws m. absurd (List·Memᴰ·not-nil m) }
 
-before-drop : (k r : ℕ) (h : List Happening) → Before k (drop! r ∷ h)
+before-drop : (k r : ℕ) (h : List HistoryEntry) → Before k (drop! r ∷ h)
 before-drop k r h [] r₁ earlier e q ws m = List·Memᴰ·not-nil m
 before-drop k r h (y ∷ l) r₁ earlier e q ws m = q r (List·Memᴰ·head (head-eq-of-cons-eq e))
 
@@ -118,7 +118,7 @@ built-hold : (k : ℕ) (ws : List ℕ) (i : ℕ) → built! k ws ≡ hold! i →
 built-hold k ws i e = let z : _≡_ {A = ℕ} 0 1 = cc in omega arith
 
 -- an event held
-quiet-hold : (k i : ℕ) (h : List Happening) → Quiet k h → Quiet k (hold! i ∷ h)
+quiet-hold : (k i : ℕ) (h : List HistoryEntry) → Quiet k h → Quiet k (hold! i ∷ h)
 quiet-hold k i h q =
     record {
       later = hold! i ∷ q .later;
@@ -128,7 +128,7 @@ quiet-hold k i h q =
       quiet = quiet-more (hold! i) (λ r. drop-hold r i) (q .later) (q .quiet);
     }
 
-before-hold : (k i : ℕ) (h : List Happening) → Before k h → Before k (hold! i ∷ h)
+before-hold : (k i : ℕ) (h : List HistoryEntry) → Before k h → Before k (hold! i ∷ h)
 before-hold k i h b later r earlier e n ws m =
     let (l, f, s) = peel (hold! i) (λ r. drop-hold r i) h later r earlier e in
     elim (List·Memᴰ·cases-cons (rw f at m)) [
@@ -136,8 +136,8 @@ before-hold k i h b later r earlier e n ws m =
       | inr m′ ↦ b l r earlier s (λ r′ d. n r′ (rw f (List·Memᴰ·tail d))) ws m′
     ]
 
--- an older confirmation, where the newest happening is none
-older : (x : Happening) (k : ℕ) (h : List Happening) → (confirmed! k ≡ x → ⊥) → Has (confirmed! k) (x ∷ h) → Has (confirmed! k) h
+-- an older confirmation, where the newest entry is none
+older : (x : HistoryEntry) (k : ℕ) (h : List HistoryEntry) → (confirmed! k ≡ x → ⊥) → Has (confirmed! k) (x ∷ h) → Has (confirmed! k) h
 older x k h n m = elim (List·Memᴰ·cases-cons m) [ inl e ↦ absurd (n e) | inr m′ ↦ m′ ]
 
 confirmed-drop : (k r : ℕ) → confirmed! k ≡ drop! r → ⊥
@@ -146,7 +146,7 @@ confirmed-drop k r e = drop-confirmed r k (sym e)
 confirmed-built : (k j : ℕ) (ws : List ℕ) → confirmed! k ≡ built! j ws → ⊥
 confirmed-built k j ws e = let z : _≡_ {A = ℕ} 0 1 = cc in omega arith
 
-module _ (rows : List Row) (warning : Bool) (built : ℕ) (h : List Happening) where
+module _ (rows : List Row) (warning : Bool) (built : ℕ) (h : List HistoryEntry) where
   awaited-held : (w : Wait) (e : Event) (i : ℕ) → Awaited w rows built h → Awaited w (rows ++ (heldRow e ∷ [])) built (hold! i ∷ h)
   awaited-held idle e i a = tt
   awaited-held (awaiting q t ws n k) e i a =
@@ -225,7 +225,7 @@ module _ (rows : List Row) (warning : Bool) (built : ℕ) (h : List Happening) w
       }
 
 -- where response k was built after the latest drop, it stands in what came after that drop
-built-after : (k : ℕ) (ws : List ℕ) (later earlier l : List Happening) (r : ℕ) (e : List Happening)
+built-after : (k : ℕ) (ws : List ℕ) (later earlier l : List HistoryEntry) (r : ℕ) (e : List HistoryEntry)
     → later ++ built! k ws ∷ earlier ≡ l ++ drop! r ∷ e → NoDrop later → Has (built! k ws) l
 built-after k ws [] earlier [] r e p q = absurd (drop-built r k ws (sym (head-eq-of-cons-eq p)))
 built-after k ws [] earlier (y ∷ l) r e p q = List·Memᴰ·head (head-eq-of-cons-eq p)
@@ -236,7 +236,7 @@ built-after k ws (x ∷ later) earlier (y ∷ l) r e p q =
 built-confirmed : (k : ℕ) (ws : List ℕ) (j : ℕ) → built! k ws ≡ confirmed! j → ⊥
 built-confirmed k ws j e = confirmed-built j k ws (sym e)
 
-module _ (q t : ℕ) (ws : List ℕ) (n k : ℕ) (rows after : List Row) (warning : Bool) (built : ℕ) (h : List Happening)
+module _ (q t : ℕ) (ws : List ℕ) (n k : ℕ) (rows after : List Row) (warning : Bool) (built : ℕ) (h : List HistoryEntry)
     (kept : Kept (awaiting q t ws n k) rows warning built h) where
   numbers-on : (j : ℕ) → Has (confirmed! j) (confirmed! k ∷ h) → j < built
   numbers-on j m = elim (List·Memᴰ·cases-cons m) [ inl e ↦ (let f : j ≡ k = cc in omega (arith, kept .awaited .number)) | inr m′ ↦ kept .numbers j m′ ]
@@ -285,20 +285,20 @@ kept-steps =
       built = λ w rows warning built h ws k. kept-built rows warning built h w ws k;
       awaited = λ w rows warning built h q t m p k.
           kept-awaiting rows warning built h q t (picks m p 0 rows) (kept-built rows warning built h w (picks m p 0 rows) k);
-      confirmed = λ rows warning built h q t ws n j k. kept-confirmed q t ws n j rows (release ws 0 rows) warning built h k;
+      isConfirmed = λ rows warning built h q t ws n j k. kept-confirmed q t ws n j rows (release ws 0 rows) warning built h k;
     }
 
-abbrev pub KeptBy : Book → List Happening → Type 0
+abbrev pub KeptBy : Book → List HistoryEntry → Type 0
 KeptBy b h = Kept (b .master .wait) (b .master .rows) (b .master .warning) (b .master .built) h
 
-pub enter-kept : (c : Call) (b : Book) (h : List Happening) → KeptBy b h → KeptBy (B.enter c b .book) (B.enter c b .news ++ h)
+pub enter-kept : (c : Call) (b : Book) (h : List HistoryEntry) → KeptBy b h → KeptBy (B.enter c b .book) (B.enter c b .entries ++ h)
 enter-kept c b h k = enter-on Kept kept-steps c b h k
 
 no-pending : Pending [] → ⊥
 no-pending p = omega (arith, simp length-append at (ap length (p .split)))
 
-pub opened-kept : (u : Setup) → KeptBy (B.opened u) []
-unfolding B.opened
+pub opened-kept : (u : Setup) → KeptBy (B.bookOf u) []
+unfolding B.bookOf
 opened-kept u =
     record {
       warned = λ w. absurd (let z : _≡_ {A = ℕ} 0 1 = cc in omega arith);

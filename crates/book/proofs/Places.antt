@@ -13,13 +13,13 @@ use borrow.Author.Tests.{eqb-true, ltb-true, ltb-false}
 use Rattle.laws.specs.Lists.{member}
 use Rattle.events.specs.declared.Event.{Event}
 use Rattle.events.specs.declared.Classes.{Classes}
-use Rattle.events.specs.declared.Pack.{Pack}
-use Rattle.events.specs.Placing.{asked, fits, packed}
+use Rattle.events.specs.declared.Space.{Space}
+use Rattle.events.specs.Placing.{isAsked, fits, spaceAfter}
 use Rattle.outstation.specs.Setup.{Setup}
 use Rattle.outstation.specs.Step.{Call}
 use Rattle.book.specs.Book as B
 use Rattle.book.specs.Book.{Book, Row, Mark, held, released, dropped, isHeld, rowHeld, Wait, idle, awaiting, picks, release}
-use Rattle.book.specs.Book.{hold!, drop!, built!, confirmed!, Happening}
+use Rattle.book.specs.Book.{hold!, drop!, built!, confirmed!, HistoryEntry}
 use Rattle.book.specs.Demand3.{Has, noRow, markAt, DroppedAt, HeldAt, ReleasedBy, Placed}
 use Rattle.laws.proofs.Choices.{by}
 use Rattle.book.proofs.Rows.{heldRow, droppedRow, picks-below}
@@ -33,17 +33,17 @@ is-held released e = cc
 is-held dropped e = cc
 
 -- the rows that a READ picks are held; pre are the rows before row i
-picks-held : (m : Classes) (k : Pack) (pre : List Row) (j i : ℕ) (rows : List Row) → length pre ≡ i
+picks-held : (m : Classes) (k : Space) (pre : List Row) (j i : ℕ) (rows : List Row) → length pre ≡ i
     → member j (picks m k i rows) ≡ true → markAt (pre ++ rows) j ≡ held
 picks-held m k pre j i [] e = λ h. cc
 picks-held m k pre j i (r ∷ rs) e =
     let l : length (pre ++ (r ∷ [])) ≡ suc i = omega (arith, length-append pre (r ∷ [])) in
     by (rowHeld r)
-    (λ t. by (asked m (r .event .class))
+    (λ t. by (isAsked m (r .event .class))
     (λ a. by (fits k (r .event))
     (λ f. rw (t, a, f) (λ h. by (eqb j i)
     (λ q. rw (eqb-true j i q) (ap (λ (x : Row). x .mark) (getD-at pre r rs noRow i e) ∙ is-held (r .mark) t))
-    (λ q. rw append-snoc at (picks-held m (packed k (r .event)) (pre ++ (r ∷ [])) j (suc i) rs l (rw q at h)))))
+    (λ q. rw append-snoc at (picks-held m (spaceAfter k (r .event)) (pre ++ (r ∷ [])) j (suc i) rs l (rw q at h)))))
     (λ f. rw (t, a, f) (λ h. cc)))
     (λ a. rw (t, a) (rw append-snoc at (picks-held m k (pre ++ (r ∷ [])) j (suc i) rs l))))
     (λ t. rw t (rw append-snoc at (picks-held m k (pre ++ (r ∷ [])) j (suc i) rs l)))
@@ -67,24 +67,24 @@ mark-last rows r i h = ap (λ (x : Row). x .mark) (getD-at rows r [] noRow i h)
 -- ---- the history of each place
 
 -- event i was carried by a response that was confirmed, in any order
-record Freed (h : List Happening) (i : ℕ) : Type 0 where
+record Freed (h : List HistoryEntry) (i : ℕ) : Type 0 where
   number : ℕ
   rows : List ℕ
   built : Has (built! number rows) h
   carried : member i rows ≡ true
-  confirmed : Has (confirmed! number) h
+  isConfirmed : Has (confirmed! number) h
 
-record Awaits (rows : List Row) (ws : List ℕ) (k : ℕ) (h : List Happening) : Type 0 where
+record Awaits (rows : List Row) (ws : List ℕ) (k : ℕ) (h : List HistoryEntry) : Type 0 where
   built : Has (built! k ws) h
   only : (vs : List ℕ) → Has (built! k vs) h → vs ≡ ws
   below : (i : ℕ) → member i ws ≡ true → i < length rows
   holds : (i : ℕ) → member i ws ≡ true → markAt rows i ≡ held
 
-abbrev Awaited : Wait → List Row → List Happening → Type 0
+abbrev Awaited : Wait → List Row → List HistoryEntry → Type 0
 Awaited idle rows h = Unit {0}
 Awaited (awaiting q t ws n k) rows h = Awaits rows ws k h
 
-pub record Placing (w : Wait) (rows : List Row) (built : ℕ) (h : List Happening) : Type 0 where
+pub record Placing (w : Wait) (rows : List Row) (built : ℕ) (h : List HistoryEntry) : Type 0 where
   dropAt : (i : ℕ) → i < length rows → markAt rows i ≡ dropped → Has (drop! i) h
   dropOf : (i : ℕ) → Has (drop! i) h → (i < length rows) × (markAt rows i ≡ dropped)
   releaseAt : (i : ℕ) → i < length rows → markAt rows i ≡ released → ReleasedBy h i
@@ -92,14 +92,14 @@ pub record Placing (w : Wait) (rows : List Row) (built : ℕ) (h : List Happenin
   holdAt : (i : ℕ) → i < length rows → (markAt rows i ≡ dropped → ⊥) → Has (hold! i) h
   holdOf : (i : ℕ) → Has (hold! i) h → (i < length rows) × (markAt rows i ≡ dropped → ⊥)
   numbers : (k : ℕ) (ws : List ℕ) → Has (built! k ws) h → k < built
-  confirmed : (k : ℕ) → Has (confirmed! k) h → k < built
+  isConfirmed : (k : ℕ) → Has (confirmed! k) h → k < built
   awaited : Awaited w rows h
 
--- a happening in a longer history, and one that is not its newest
-older : (x y : Happening) (h : List Happening) → (y ≡ x → ⊥) → Has y (x ∷ h) → Has y h
+-- an entry in a longer history, and one that is not its newest
+older : (x y : HistoryEntry) (h : List HistoryEntry) → (y ≡ x → ⊥) → Has y (x ∷ h) → Has y h
 older x y h n m = elim (List·Memᴰ·cases-cons m) [ inl e ↦ absurd (n e) | inr m′ ↦ m′ ]
 
-released-on : (x : Happening) (h : List Happening) (i : ℕ) → ReleasedBy h i → ReleasedBy (x ∷ h) i
+released-on : (x : HistoryEntry) (h : List HistoryEntry) (i : ℕ) → ReleasedBy h i → ReleasedBy (x ∷ h) i
 released-on x h i r =
     record {
       later = x ∷ r .later;
@@ -112,7 +112,7 @@ released-on x h i r =
     }
 
 -- one that neither built nor confirmed a response releases nothing
-freed-back : (x : Happening) (h : List Happening) (i : ℕ) → ((k : ℕ) (ws : List ℕ) → built! k ws ≡ x → ⊥)
+freed-back : (x : HistoryEntry) (h : List HistoryEntry) (i : ℕ) → ((k : ℕ) (ws : List ℕ) → built! k ws ≡ x → ⊥)
     → ((k : ℕ) → confirmed! k ≡ x → ⊥) → Freed (x ∷ h) i → Freed h i
 freed-back x h i nb nc r =
     record {
@@ -120,16 +120,16 @@ freed-back x h i nb nc r =
       rows = r .rows;
       carried = r .carried;
       built = older x (built! (r .number) (r .rows)) h (nb (r .number) (r .rows)) (r .built);
-      confirmed = older x (confirmed! (r .number)) h (nc (r .number)) (r .confirmed);
+      isConfirmed = older x (confirmed! (r .number)) h (nc (r .number)) (r .isConfirmed);
     }
 
--- where a happening stands in a history
-record Found (x : Happening) (h : List Happening) : Type 0 where
-  later : List Happening
-  earlier : List Happening
+-- where an entry stands in a history
+record Found (x : HistoryEntry) (h : List HistoryEntry) : Type 0 where
+  later : List HistoryEntry
+  earlier : List HistoryEntry
   split : h ≡ later ++ x ∷ earlier
 
-found : (x : Happening) (h : List Happening) → Has x h → Found x h
+found : (x : HistoryEntry) (h : List HistoryEntry) → Has x h → Found x h
 found x [] m = absurd (List·Memᴰ·not-nil m)
 found x (y ∷ h) m =
     elim (List·Memᴰ·cases-cons m) [
@@ -137,7 +137,7 @@ found x (y ∷ h) m =
       | inr m′ ↦ (let f = found x h m′ in record { later = y ∷ f .later; earlier = f .earlier; split = ap (λ z. y ∷ z) (f .split) })
     ]
 
-has-at : (x : Happening) (h later earlier : List Happening) → h ≡ later ++ x ∷ earlier → Has x h
+has-at : (x : HistoryEntry) (h later earlier : List HistoryEntry) → h ≡ later ++ x ∷ earlier → Has x h
 has-at x h later earlier e = rw e (Memᴰ·append-right later (List·Memᴰ·head refl))
 
 -- below or at the end
@@ -147,9 +147,9 @@ at-end i n h = by (ltb i n) (λ t. inl (ltb-true i n t)) (λ t. let u = ltb-fals
 len : (rows : List Row) (r : Row) → length (rows ++ (r ∷ [])) ≡ length rows + 1
 len rows r = length-append rows (r ∷ [])
 
-module _ (rows : List Row) (built : ℕ) (h : List Happening) where
-  -- one more row, and a newest happening that built no response
-  awaited-snoc : (w : Wait) (r : Row) (x : Happening) → ((k : ℕ) (ws : List ℕ) → built! k ws ≡ x → ⊥) → Awaited w rows h
+module _ (rows : List Row) (built : ℕ) (h : List HistoryEntry) where
+  -- one more row, and a newest entry that built no response
+  awaited-snoc : (w : Wait) (r : Row) (x : HistoryEntry) → ((k : ℕ) (ws : List ℕ) → built! k ws ≡ x → ⊥) → Awaited w rows h
       → Awaited w (rows ++ (r ∷ [])) (x ∷ h)
   awaited-snoc idle r x nb a = tt
   awaited-snoc (awaiting q t ws n k) r x nb a =
@@ -200,7 +200,7 @@ module _ (rows : List Row) (built : ℕ) (h : List Happening) where
           | inr m′ ↦ other-on r i dropped (p .holdOf i m′)
         ];
         numbers = λ k ws m. p .numbers k ws (older x (built! k ws) h (nb k ws) m);
-        confirmed = λ k m. p .confirmed k (older x (confirmed! k) h (nc k) m);
+        isConfirmed = λ k m. p .isConfirmed k (older x (confirmed! k) h (nc k) m);
         awaited = awaited-snoc w r x nb (p .awaited);
       }
 
@@ -228,7 +228,7 @@ module _ (rows : List Row) (built : ℕ) (h : List Happening) where
         ];
         holdOf = λ i m. other-on r i dropped (p .holdOf i (older x (hold! i) h (λ q. let y : _≡_ {A = ℕ} 0 1 = cc in omega arith) m));
         numbers = λ k ws m. p .numbers k ws (older x (built! k ws) h (nb k ws) m);
-        confirmed = λ k m. p .confirmed k (older x (confirmed! k) h (nc k) m);
+        isConfirmed = λ k m. p .isConfirmed k (older x (confirmed! k) h (nc k) m);
         awaited = awaited-snoc w r x nb (p .awaited);
       }
 
@@ -242,7 +242,7 @@ module _ (rows : List Row) (built : ℕ) (h : List Happening) where
         holdAt = p .holdAt;
         holdOf = p .holdOf;
         numbers = p .numbers;
-        confirmed = p .confirmed;
+        isConfirmed = p .isConfirmed;
         awaited = tt;
       }
 
@@ -256,15 +256,15 @@ module _ (rows : List Row) (built : ℕ) (h : List Happening) where
         dropOf = λ i m. p .dropOf i (older x (drop! i) h (λ q. let y : _≡_ {A = ℕ} 0 1 = cc in omega arith) m);
         releaseAt = λ i l m. released-on x h i (p .releaseAt i l m);
         releaseOf = λ i r.
-            let c : Has (confirmed! (r .number)) h = older x (confirmed! (r .number)) h (nc (r .number)) (r .confirmed) in
+            let c : Has (confirmed! (r .number)) h = older x (confirmed! (r .number)) h (nc (r .number)) (r .isConfirmed) in
             elim (List·Memᴰ·cases-cons (r .built)) [
-              | inl q ↦ absurd (let l = p .confirmed (r .number) c in let s : r .number ≡ built = cc in omega arith)
-              | inr m ↦ p .releaseOf i (record { number = r .number; rows = r .rows; built = m; carried = r .carried; confirmed = c })
+              | inl q ↦ absurd (let l = p .isConfirmed (r .number) c in let s : r .number ≡ built = cc in omega arith)
+              | inr m ↦ p .releaseOf i (record { number = r .number; rows = r .rows; built = m; carried = r .carried; isConfirmed = c })
             ];
         holdAt = λ i l m. List·Memᴰ·tail (p .holdAt i l m);
         holdOf = λ i m. p .holdOf i (older x (hold! i) h (λ q. let y : _≡_ {A = ℕ} 0 1 = cc in omega arith) m);
         numbers = λ k vs m. elim (List·Memᴰ·cases-cons m) [ inl q ↦ (let s : k ≡ built = cc in omega arith) | inr m′ ↦ omega (arith, p .numbers k vs m′) ];
-        confirmed = λ k m. omega (arith, p .confirmed k (older x (confirmed! k) h (nc k) m));
+        isConfirmed = λ k m. omega (arith, p .isConfirmed k (older x (confirmed! k) h (nc k) m));
         awaited = tt;
       }
 
@@ -282,7 +282,7 @@ module _ (rows : List Row) (built : ℕ) (h : List Happening) where
         holdAt = r .holdAt;
         holdOf = r .holdOf;
         numbers = r .numbers;
-        confirmed = r .confirmed;
+        isConfirmed = r .isConfirmed;
         awaited = record {
           built = List·Memᴰ·head refl;
           only = λ vs m. elim (List·Memᴰ·cases-cons m) [ inl s ↦ cc | inr m′ ↦ absurd (let l = p .numbers built vs m′ in omega arith) ];
@@ -292,7 +292,7 @@ module _ (rows : List Row) (built : ℕ) (h : List Happening) where
       }
 
 -- a CONFIRM
-module _ (rows : List Row) (built : ℕ) (h : List Happening) (q t : ℕ) (ws : List ℕ) (n k : ℕ) (p : Placing (awaiting q t ws n k) rows built h) where
+module _ (rows : List Row) (built : ℕ) (h : List HistoryEntry) (q t : ℕ) (ws : List ℕ) (n k : ℕ) (p : Placing (awaiting q t ws n k) rows built h) where
   mark-in : (i : ℕ) → i < length rows → member i ws ≡ true → markAt (release ws 0 rows) i ≡ released
   mark-in i l m = let e : 0 + i ≡ i = omega arith in mark-release ws 0 i rows l ∙ rw (e, m)
 
@@ -320,13 +320,13 @@ module _ (rows : List Row) (built : ℕ) (h : List Happening) (q t : ℕ) (ws : 
   release-of i r =
       let same-length = length-release ws 0 rows in
       let b = older (confirmed! k) (built! (r .number) (r .rows)) h (no-built (r .number) (r .rows)) (r .built) in
-      elim (List·Memᴰ·cases-cons (r .confirmed)) [
+      elim (List·Memᴰ·cases-cons (r .isConfirmed)) [
         | inl s ↦ (let e : r .number ≡ k = cc in
             let v : r .rows ≡ ws = p .awaited .only (r .rows) (rw e at b) in
             let c : member i ws ≡ true = rw v at (r .carried) in
             let l = p .awaited .below i c in
             (omega arith, mark-in i l c))
-        | inr m ↦ (let d = p .releaseOf i (record { number = r .number; rows = r .rows; built = b; carried = r .carried; confirmed = m }) in
+        | inr m ↦ (let d = p .releaseOf i (record { number = r .number; rows = r .rows; built = b; carried = r .carried; isConfirmed = m }) in
             (omega (arith, d .0), by (member i ws) (λ c. mark-in i (d .0) c) (λ c. mark-out i (d .0) c ∙ d .1)))
       ]
 
@@ -368,15 +368,15 @@ module _ (rows : List Row) (built : ℕ) (h : List Happening) (q t : ℕ) (ws : 
         holdAt = λ i l m. List·Memᴰ·tail (hold-at i (omega arith) m);
         holdOf = λ i m. hold-of i (p .holdOf i (older x (hold! i) h (λ s. let y : _≡_ {A = ℕ} 0 1 = cc in omega arith) m));
         numbers = λ j vs m. p .numbers j vs (older x (built! j vs) h (no-built j vs) m);
-        confirmed = λ j m. elim (List·Memᴰ·cases-cons m) [
+        isConfirmed = λ j m. elim (List·Memᴰ·cases-cons m) [
           | inl s ↦ (let e : j ≡ k = cc in omega (arith, p .numbers k ws (p .awaited .built)))
-          | inr m′ ↦ p .confirmed j m′
+          | inr m′ ↦ p .isConfirmed j m′
         ];
         awaited = tt;
       }
 
 -- K with the warning, which the places do not depend on
-abbrev PlacingOf : Wait → List Row → Bool → ℕ → List Happening → Type 0
+abbrev PlacingOf : Wait → List Row → Bool → ℕ → List HistoryEntry → Type 0
 PlacingOf w rows warning built h = Placing w rows built h
 
 placing-steps : Steps PlacingOf
@@ -390,17 +390,17 @@ placing-steps =
           placing-awaiting rows built h w q t (picks m p 0 rows) (length rows)
           (λ i c. omega (arith, picks-below m p i 0 rows c))
           (λ i c. picks-held m p [] i 0 rows refl c) k;
-      confirmed = λ rows warning built h q t ws n j k. placing-confirmed rows built h q t ws n j k;
+      isConfirmed = λ rows warning built h q t ws n j k. placing-confirmed rows built h q t ws n j k;
     }
 
-abbrev pub PlacingBy : Book → List Happening → Type 0
+abbrev pub PlacingBy : Book → List HistoryEntry → Type 0
 PlacingBy b h = Placing (b .master .wait) (b .master .rows) (b .master .built) h
 
-pub enter-placing : (c : Call) (b : Book) (h : List Happening) → PlacingBy b h → PlacingBy (B.enter c b .book) (B.enter c b .news ++ h)
+pub enter-placing : (c : Call) (b : Book) (h : List HistoryEntry) → PlacingBy b h → PlacingBy (B.enter c b .book) (B.enter c b .entries ++ h)
 enter-placing c b h k = enter-on PlacingOf placing-steps c b h k
 
-pub opened-placing : (u : Setup) → PlacingBy (B.opened u) []
-unfolding B.opened
+pub opened-placing : (u : Setup) → PlacingBy (B.bookOf u) []
+unfolding B.bookOf
 opened-placing u =
     record {
       dropAt = λ i l m. let z : ⊥ = omega arith in absurd z;
@@ -410,19 +410,19 @@ opened-placing u =
       holdAt = λ i l m. let z : ⊥ = omega arith in absurd z;
       holdOf = λ i m. absurd (List·Memᴰ·not-nil m);
       numbers = λ k ws m. absurd (List·Memᴰ·not-nil m);
-      confirmed = λ k m. absurd (List·Memᴰ·not-nil m);
+      isConfirmed = λ k m. absurd (List·Memᴰ·not-nil m);
       awaited = tt;
     }
 
 -- carried and confirmed in that order, so in any
-freed : (h : List Happening) (i : ℕ) → ReleasedBy h i → Freed h i
+freed : (h : List HistoryEntry) (i : ℕ) → ReleasedBy h i → Freed h i
 freed h i r =
     record {
       number = r .number;
       rows = r .rows;
       carried = r .carried;
       built = rw (r .split) (Memᴰ·append-right (r .later) (List·Memᴰ·tail (Memᴰ·append-right (r .between) (List·Memᴰ·head refl))));
-      confirmed = has-at (confirmed! (r .number)) h (r .later) (r .between ++ built! (r .number) (r .rows) ∷ r .earlier) (r .split);
+      isConfirmed = has-at (confirmed! (r .number)) h (r .later) (r .between ++ built! (r .number) (r .rows) ∷ r .earlier) (r .split);
     }
 
 -- a mark that is neither of the others
@@ -431,7 +431,7 @@ else-held held d r = refl
 else-held released d r = absurd (r refl)
 else-held dropped d r = absurd (d refl)
 
-module _ (w : Wait) (rows : List Row) (built : ℕ) (h : List Happening) (p : Placing w rows built h) (s : Sound h) (i : ℕ) (l : i < length rows) where
+module _ (w : Wait) (rows : List Row) (built : ℕ) (h : List HistoryEntry) (p : Placing w rows built h) (s : Sound h) (i : ℕ) (l : i < length rows) where
   dropped-at : markAt rows i ≡ dropped → DroppedAt h i
   dropped-at m =
       let f = found (drop! i) h (p .dropAt i l m) in

@@ -1,4 +1,4 @@
--- What both sides say of a request: when it is a repeat, what it does to the queue and the wait, and the bits of its response.
+-- What both sides say of a request: when it is a repeat, what it does to the held events and the wait, and the bits of its response.
 -- Assumes nothing.
 use Prim.Native.Nat.{ℕ, _+_, _/_, _%_, _<_}
 use mathlib.Core.Path.{_≡_, refl, _∙_}
@@ -11,34 +11,34 @@ use lib.Seq.{take-all}
 use lib.Dec.{eqb, ltb}
 use borrow.Author.Tests.{ltb-false, eqb-true}
 use Rattle.laws.specs.Lists.{same}
-use Rattle.points.specs.Inputs.{Inputs}
+use Rattle.points.specs.PointsView.{PointsView}
 use Rattle.application.specs.declared.Fault.{Fault}
 use Rattle.application.specs.declared.Fault.the-variants.{Faultless, FunctionUnknown, ObjectUnknown, BadParameter}
 use Rattle.application.specs.declared.Indications.{Indications}
 use Rattle.application.specs.Fragment as F
 use Rattle.application.specs.Fragment.{classified, functionOf, sequenceOf, controlOf, isConfirm, objectsOf}
 use Rattle.application.specs.Response.{responseOf, faultBits, weight}
-use Rattle.request.specs.declared.Header.{Header}
-use Rattle.request.specs.Parse.{Parsed, headers, fault}
+use Rattle.read_headers.specs.declared.Header.{Header}
+use Rattle.read_headers.specs.Parse.{Parsed, headers, fault}
 use Rattle.control.specs.declared.Crob.{Crob}
 use Rattle.control.specs.declared.Form.{Form}
 use Rattle.control.specs.declared.Form.the-variants.{Wrong, Objects}
 use Rattle.control.proofs.ObjectLaws.{crobs-length}
 use Rattle.control.specs.Objects.{formed, crobs, crobsBy}
 use Rattle.control.specs.Status.{statuses, echoWith}
-use Rattle.select.specs.declared.ControlFunction.{ControlFunction}
-use Rattle.select.specs.declared.ControlFunction.the-variants.{Select, Operate, DirectOperate}
-use Rattle.select.specs.Select.{Selection, isUnanswered, statusesBy, operateStatus, byForm, effectOf}
-use Rattle.repeat.specs.Repeat.{Memory, nothing, kept, isRepeat, answerOf}
-use Rattle.repeat.proofs.ReplyLaws.{length-by}
-use Rattle.events.specs.Queue.{Queue, cleared}
-use Rattle.static_objects.specs.Static.{readOf}
+use Rattle.select_latch.specs.declared.ControlFunction.{ControlFunction}
+use Rattle.select_latch.specs.declared.ControlFunction.the-variants.{Select, Operate, DirectOperate}
+use Rattle.select_latch.specs.Select.{LatchView, isUnanswered, statusesBy, operateStatus, byForm, controlEffect}
+use Rattle.last_request.specs.Repeat.{LastRequestView, nothing, kept, isRepeat, keptAnswer}
+use Rattle.last_request.proofs.ReplyLaws.{length-by}
+use Rattle.events.specs.BufferView.{BufferView, cleared}
+use Rattle.static_objects.specs.Static.{askedOf}
 use Rattle.outstation.specs.declared.Wait.the-variants.{Idle}
-use Rattle.outstation.specs.World.{World}
+use Rattle.outstation.specs.OutstationView.{OutstationView}
 use Rattle.outstation.specs.Requests.{Ask, malformed, confirms, reads, misreads, asks, ask, readAsk}
-use Rattle.outstation.specs.Step.{Deed, deedBy}
+use Rattle.outstation.specs.Step.{RequestEffect, effectBy}
 use Rattle.book.specs.Book as B
-use Rattle.book.specs.Book.{Said, saidOf}
+use Rattle.book.specs.Book.{BookAnswer, bookAnswerOf}
 use Rattle.book.specs.Demand3.{overflowBit}
 use Rattle.laws.proofs.Choices.{by, split}
 use Rattle.laws.proofs.SameLaws.{same-eq}
@@ -46,12 +46,12 @@ use Rattle.laws.proofs.SameLaws.{same-eq}
 -- ---- a repeat
 
 -- the bytes of the request that is kept
-abbrev pub lastBytes : Memory → List ℕ
+abbrev pub lastBytes : LastRequestView → List ℕ
 lastBytes nothing = []
 lastBytes (kept bytes answer) = bytes
 
 -- a fragment that is neither a READ nor empty repeats the one that is kept where the bytes are the same
-pub repeat-same : (m : Memory) (f : List ℕ) → eqb (functionOf f) 1 ≡ false → 0 < length f → isRepeat m f ≡ same f (lastBytes m)
+pub repeat-same : (m : LastRequestView) (f : List ℕ) → eqb (functionOf f) 1 ≡ false → 0 < length f → isRepeat m f ≡ same f (lastBytes m)
 unfolding isRepeat same
 repeat-same nothing [] e l = let z : ⊥ = omega arith in absurd z
 repeat-same nothing (x ∷ f) e l = refl
@@ -76,7 +76,7 @@ well-long : (f : List ℕ) → F.malformed f ≡ false → 0 < length f
 unfolding F.malformed
 well-long f h = let l = ltb-false (length f) 2 (or-left (ltb (length f) 2) _ h) in omega arith
 
-pub asks-inverse : (i : Inputs) (f : List ℕ) (q function : ℕ) → ask i f ≡ asks q function → Asks f function
+pub asks-inverse : (i : PointsView) (f : List ℕ) (q function : ℕ) → ask i f ≡ asks q function → Asks f function
 unfolding ask classified
 asks-inverse i f q function =
     by (F.malformed f)
@@ -84,7 +84,7 @@ asks-inverse i f q function =
     (λ t. rw t (by (isConfirm f)
     (λ c. rw c (λ e. absurd (let z : _≡_ {A = ℕ} 0 1 = cc in omega arith)))
     (λ c. rw c (by (eqb (functionOf f) 1)
-    (λ r. rw r (λ e. absurd (asks-read (sequenceOf (controlOf f)) q function (readOf i (objectsOf f)) e)))
+    (λ r. rw r (λ e. absurd (asks-read (sequenceOf (controlOf f)) q function (askedOf i (objectsOf f)) e)))
     (λ r. rw r (λ e. let s : functionOf f ≡ function = cc in record { is = s; other = rw s at r; long = well-long f t }))))))
 
 -- no READ, faultless or not
@@ -96,21 +96,21 @@ NoRead (misreads q n) = ⊥
 NoRead (asks q function) = Unit {0}
 
 -- the function of a READ
-read-function : (i : Inputs) (f : List ℕ) → (NoRead (ask i f) → ⊥) → eqb (functionOf f) 1 ≡ true
+read-function : (i : PointsView) (f : List ℕ) → (NoRead (ask i f) → ⊥) → eqb (functionOf f) 1 ≡ true
 unfolding ask classified
 read-function i f =
     by (F.malformed f)
     (λ t. rw t (λ n. absurd (n tt)))
     (λ t. rw t (by (isConfirm f) (λ c. rw c (λ n. absurd (n tt))) (λ c. rw c (by (eqb (functionOf f) 1) (λ r. λ n. r) (λ r. rw r (λ n. absurd (n tt)))))))
 
-pub reads-function : (i : Inputs) (f : List ℕ) (q : ℕ) (hs : List Header) → ask i f ≡ reads q hs → eqb (functionOf f) 1 ≡ true
+pub reads-function : (i : PointsView) (f : List ℕ) (q : ℕ) (hs : List Header) → ask i f ≡ reads q hs → eqb (functionOf f) 1 ≡ true
 reads-function i f q hs e = read-function i f (rw e (λ z. z))
 
-pub misreads-function : (i : Inputs) (f : List ℕ) (q : ℕ) (n : Fault) → ask i f ≡ misreads q n → eqb (functionOf f) 1 ≡ true
+pub misreads-function : (i : PointsView) (f : List ℕ) (q : ℕ) (n : Fault) → ask i f ≡ misreads q n → eqb (functionOf f) 1 ≡ true
 misreads-function i f q n e = read-function i f (rw e (λ z. z))
 
 -- a repeat is of a request that was kept
-pub repeated : (m : Memory) (f : List ℕ) → 0 < length f → same f (lastBytes m) ≡ true → m ≡ kept f (answerOf m)
+pub repeated : (m : LastRequestView) (f : List ℕ) → 0 < length f → same f (lastBytes m) ≡ true → m ≡ kept f (keptAnswer m)
 unfolding same
 repeated nothing [] l e = let z : ⊥ = omega arith in absurd z
 repeated nothing (x ∷ f) l e = cc
@@ -119,19 +119,19 @@ repeated (kept bytes answer) f l e = rw (same-eq f bytes e)
 -- ---- its effects
 
 -- a request that is no READ ends the wait and takes the marks away
-pub record Ends (k : Queue) (d : Deed) : Type 0 where
-  pub queue : d .queue ≡ cleared k
+pub record Ends (k : BufferView) (d : RequestEffect) : Type 0 where
+  pub buffer : d .buffer ≡ cleared k
   pub wait : d .wait ≡ Idle
 
-pub deed-ends : (w : World) (q function time : ℕ) (o : List ℕ) → Ends (w .master .queue) (deedBy w q function time o)
-deed-ends w q function time o =
-    let P : Deed → Type 0 = Ends (w .master .queue) in
-    split P (eqb function 2) (λ _. record { queue = refl; wait = refl })
-    (λ _. split P (eqb function 3) (λ _. record { queue = refl; wait = refl })
-    (λ _. split P (eqb function 4) (λ _. record { queue = refl; wait = refl })
-    (λ _. split P (eqb function 5) (λ _. record { queue = refl; wait = refl })
-    (λ _. split P (eqb function 6) (λ _. record { queue = refl; wait = refl })
-    (λ _. record { queue = refl; wait = refl })))))
+pub effect-ends : (w : OutstationView) (q function time : ℕ) (o : List ℕ) → Ends (w .master .buffer) (effectBy w q function time o)
+effect-ends w q function time o =
+    let P : RequestEffect → Type 0 = Ends (w .master .buffer) in
+    split P (eqb function 2) (λ _. record { buffer = refl; wait = refl })
+    (λ _. split P (eqb function 3) (λ _. record { buffer = refl; wait = refl })
+    (λ _. split P (eqb function 4) (λ _. record { buffer = refl; wait = refl })
+    (λ _. split P (eqb function 5) (λ _. record { buffer = refl; wait = refl })
+    (λ _. split P (eqb function 6) (λ _. record { buffer = refl; wait = refl })
+    (λ _. record { buffer = refl; wait = refl })))))
 
 -- ---- its objects
 
@@ -141,7 +141,7 @@ pub record Echo (x : Form) (o echo : List ℕ) : Type 0 where
   pub each : length statuses ≡ length (crobsBy x o)
   pub is : echo ≡ echoWith x statuses o
 
-module _ (outputs arm : ℕ) (l : Selection) (g : ControlFunction) (u : isUnanswered g ≡ false) (q time : ℕ) (o : List ℕ) where
+module _ (outputs arm : ℕ) (l : LatchView) (g : ControlFunction) (u : isUnanswered g ≡ false) (q time : ℕ) (o : List ℕ) where
   echo-form : (x : Form) → Echo x o (byForm x outputs arm l g q time o .echo)
   echo-form (Wrong y) = record { statuses = []; each = refl; is = refl }
   echo-form (Objects w n) =
@@ -150,12 +150,12 @@ module _ (outputs arm : ℕ) (l : Selection) (g : ControlFunction) (u : isUnansw
       let k : length ss ≡ length cs = length-by g outputs (operateStatus arm l q time o) cs in
       record { statuses = ss; each = k; is = rw (u, take-all n ss (le-of-eq (k ∙ crobs-length w n (drop (3 + w) o)))) }
 
-  echo-of : Echo (formed o) o (effectOf outputs arm l g q time o .echo)
-  unfolding effectOf
+  echo-of : Echo (formed o) o (controlEffect outputs arm l g q time o .echo)
+  unfolding controlEffect
   echo-of = echo-form (formed o)
 
 -- the objects of a response newly built, by what the book says of it
-abbrev pub Bears : Said → List ℕ → Type 0
+abbrev pub Bears : BookAnswer → List ℕ → Type 0
 Bears (B.takes taken refusal) objects = ⊥
 Bears (B.refuses n) objects = ⊥
 Bears B.accepts objects = ⊥
@@ -165,12 +165,12 @@ Bears (B.echoes o) objects = Echo (formed o) o objects
 Bears B.unanswered objects = ⊥
 Bears B.repeats objects = ⊥
 
-pub deed-bears : (w : World) (q function time : ℕ) (o : List ℕ) → eqb function 6 ≡ false
-    → Bears (saidOf function o) (deedBy w q function time o .objects)
-unfolding saidOf
-deed-bears w q function time o t₆ =
-    let echoed : (g : ControlFunction) → isUnanswered g ≡ false → Echo (formed o) o (effectOf (w .shared .outputs) (w .shared .armTime) (w .master .exchange .latch) g q time o .echo)
-    = λ g u. echo-of (w .shared .outputs) (w .shared .armTime) (w .master .exchange .latch) g u q time o in
+pub effect-bears : (w : OutstationView) (q function time : ℕ) (o : List ℕ) → eqb function 6 ≡ false
+    → Bears (bookAnswerOf function o) (effectBy w q function time o .objects)
+unfolding bookAnswerOf
+effect-bears w q function time o t₆ =
+    let echoed : (g : ControlFunction) → isUnanswered g ≡ false → Echo (formed o) o (controlEffect (w .shared .outputs) (w .shared .armTime) (w .master .session .latch) g q time o .echo)
+    = λ g u. echo-of (w .shared .outputs) (w .shared .armTime) (w .master .session .latch) g u q time o in
     by (eqb function 2)
     (λ t. rw (eqb-true function 2 t) refl)
     (λ t₂. by (eqb function 3)

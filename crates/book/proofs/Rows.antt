@@ -13,10 +13,10 @@ use borrow.Author.Tests.{eq-eqb, ne-eqb, eqb-true}
 use Rattle.laws.specs.Lists.{filter, some, count, isNil, member}
 use Rattle.events.specs.declared.Event.{Event}
 use Rattle.events.specs.declared.Classes.{Classes}
-use Rattle.events.specs.declared.Pack.{Pack}
+use Rattle.events.specs.declared.Space.{Space}
 use Rattle.events.specs.declared.Held.{Held}
-use Rattle.events.specs.Placing.{asked, fits, packed}
-use Rattle.events.specs.Queue.{marked, carry, isCarried, waits}
+use Rattle.events.specs.Placing.{isAsked, fits, spaceAfter}
+use Rattle.events.specs.BufferView.{marked, carry, isCarried, notCarried}
 use Rattle.event_objects.specs.Events.{eventsBytes, carriedBytes, carriedObjects, carriedEvents}
 use Rattle.book.specs.Book.{Row, held, dropped, rowHeld, rowDropped, rowEvent, picks, release, dropSince}
 use Rattle.book.specs.Demand3.{eventAt, noRow}
@@ -64,36 +64,36 @@ collect-skip w ws i (r ∷ rs) h = rw (ne-eqb i w (λ e. omega arith), collect-s
 
 -- ---- a READ
 
-pub picks-above : (m : Classes) (k : Pack) (j i : ℕ) (rows : List Row) → j < i → member j (picks m k i rows) ≡ false
+pub picks-above : (m : Classes) (k : Space) (j i : ℕ) (rows : List Row) → j < i → member j (picks m k i rows) ≡ false
 picks-above m k j i [] h = refl
 picks-above m k j i (r ∷ rs) h =
-    split (λ l. member j l ≡ false) (not (rowHeld r && asked m (r .event .class)))
+    split (λ l. member j l ≡ false) (not (rowHeld r && isAsked m (r .event .class)))
     (λ _. picks-above m k j (suc i) rs (omega arith))
     (λ _. split (λ l. member j l ≡ false) (not (fits k (r .event)))
     (λ _. refl)
-    (λ _. rw (ne-eqb j i (λ e. omega arith)) (picks-above m (packed k (r .event)) j (suc i) rs (omega arith))))
+    (λ _. rw (ne-eqb j i (λ e. omega arith)) (picks-above m (spaceAfter k (r .event)) j (suc i) rs (omega arith))))
 
-pub picks-below : (m : Classes) (k : Pack) (j i : ℕ) (rows : List Row) → member j (picks m k i rows) ≡ true → j < i + length rows
+pub picks-below : (m : Classes) (k : Space) (j i : ℕ) (rows : List Row) → member j (picks m k i rows) ≡ true → j < i + length rows
 picks-below m k j i [] = λ h. let z : _≡_ {A = ℕ} 0 1 = cc in omega arith
 picks-below m k j i (r ∷ rs) =
-    split (λ l. member j l ≡ true → j < i + suc (length rs)) (not (rowHeld r && asked m (r .event .class)))
+    split (λ l. member j l ≡ true → j < i + suc (length rs)) (not (rowHeld r && isAsked m (r .event .class)))
     (λ _ h. omega (arith, picks-below m k j (suc i) rs h))
     (λ _. split (λ l. member j l ≡ true → j < i + suc (length rs)) (not (fits k (r .event)))
     (λ _ h. let z : _≡_ {A = ℕ} 0 1 = cc in omega arith)
     (λ _ h. by (eqb j i)
     (λ e. omega (arith, eqb-true j i e))
-    (λ e. omega (arith, picks-below m (packed k (r .event)) j (suc i) rs (rw e at h)))))
+    (λ e. omega (arith, picks-below m (spaceAfter k (r .event)) j (suc i) rs (rw e at h)))))
 
 -- the marks that the outstation sets are the book's picks
-pub carry-collect : (m : Classes) (k : Pack) (i : ℕ) (rows : List Row) → carry m k (collect [] i rows) ≡ collect (picks m k i rows) i rows
+pub carry-collect : (m : Classes) (k : Space) (i : ℕ) (rows : List Row) → carry m k (collect [] i rows) ≡ collect (picks m k i rows) i rows
 unfolding carry
 carry-collect m k i [] = refl
 carry-collect m k i (r ∷ rs) =
     by (rowHeld r)
-    (λ h. by (asked m (r .event .class))
+    (λ h. by (isAsked m (r .event .class))
     (λ a. by (fits k (r .event))
-    (λ f. let skip = collect-skip i (picks m (packed k (r .event)) (suc i) rs) (suc i) rs (le-refl _) in
-    rw (h, a, f, eq-eqb i i refl, skip, carry-collect m (packed k (r .event)) (suc i) rs))
+    (λ f. let skip = collect-skip i (picks m (spaceAfter k (r .event)) (suc i) rs) (suc i) rs (le-refl _) in
+    rw (h, a, f, eq-eqb i i refl, skip, carry-collect m (spaceAfter k (r .event)) (suc i) rs))
     (λ f. rw (h, a, f)))
     (λ a. rw (h, a, picks-above m k i (suc i) rs (le-refl _), carry-collect m k (suc i) rs)))
     (λ h. rw (h, carry-collect m k (suc i) rs))
@@ -113,22 +113,22 @@ carried-none i [] = refl
 carried-none i (r ∷ rs) = split (λ l. carriedIn l ≡ []) (rowHeld r) (λ _. carried-none (suc i) rs) (λ _. carried-none (suc i) rs)
 
 -- the events that it carries are those of the book's picks, in its order; pre are the rows before row i
-pub carried-events : (m : Classes) (k : Pack) (pre : List Row) (i : ℕ) (rows : List Row) → length pre ≡ i
+pub carried-events : (m : Classes) (k : Space) (pre : List Row) (i : ℕ) (rows : List Row) → length pre ≡ i
     → carriedIn (carry m k (collect [] i rows)) ≡ map (eventAt (pre ++ rows)) (picks m k i rows)
 unfolding carry filter
 carried-events m k pre i [] e = refl
 carried-events m k pre i (r ∷ rs) e =
     let l : length (pre ++ (r ∷ [])) ≡ suc i = omega (arith, length-append pre (r ∷ [])) in
     by (rowHeld r)
-    (λ h. by (asked m (r .event .class))
+    (λ h. by (isAsked m (r .event .class))
     (λ a. by (fits k (r .event))
-    (λ f. rw (h, a, f, getD-at pre r rs noRow i e, ← append-snoc pre r rs, carried-events m (packed k (r .event)) (pre ++ (r ∷ [])) (suc i) rs l))
+    (λ f. rw (h, a, f, getD-at pre r rs noRow i e, ← append-snoc pre r rs, carried-events m (spaceAfter k (r .event)) (pre ++ (r ∷ [])) (suc i) rs l))
     (λ f. rw (h, a, f, carried-none (suc i) rs)))
     (λ a. rw (h, a) (rw append-snoc at (carried-events m k (pre ++ (r ∷ [])) (suc i) rs l))))
     (λ h. rw h (rw append-snoc at (carried-events m k (pre ++ (r ∷ [])) (suc i) rs l)))
 
 -- it carries an event where a row is picked
-pub some-carried : (m : Classes) (k : Pack) (rows : List Row) → some isCarried (carry m k (collect [] 0 rows)) ≡ not (isNil (picks m k 0 rows))
+pub some-carried : (m : Classes) (k : Space) (rows : List Row) → some isCarried (carry m k (collect [] 0 rows)) ≡ not (isNil (picks m k 0 rows))
 some-carried m k rows =
     some-filter isCarried (carry m k (collect [] 0 rows))
     ∙ ap not
@@ -139,7 +139,7 @@ some-carried m k rows =
 -- ---- a CONFIRM
 
 -- the events that the outstation keeps are those of the rows that the book leaves held
-pub keep-collect : (ws : List ℕ) (i : ℕ) (rows : List Row) → filter waits (collect ws i rows) ≡ collect [] i (release ws i rows)
+pub keep-collect : (ws : List ℕ) (i : ℕ) (rows : List Row) → filter notCarried (collect ws i rows) ≡ collect [] i (release ws i rows)
 unfolding filter
 keep-collect ws i [] = refl
 keep-collect ws i (r ∷ rs) =

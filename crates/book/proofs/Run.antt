@@ -11,24 +11,24 @@ use borrow.Author.Tests.{le-leb}
 use Rattle.laws.specs.Limits.{fragmentMax, eventsMax}
 use Rattle.laws.specs.Lists.{filter, some, same}
 use Rattle.points.specs.Reading as P
-use Rattle.points.specs.Inputs.{Inputs}
+use Rattle.points.specs.PointsView.{PointsView}
 use Rattle.events.specs.declared.Classes.{Classes}
 use Rattle.events.specs.declared.Held.{Held}
 use Rattle.events.specs.declared.Shown.the-variants.{State}
 use Rattle.events.specs.Placing as E
-use Rattle.events.specs.Queue as K
+use Rattle.events.specs.BufferView as K
 use Rattle.application.specs.Fragment as F
 use Rattle.application.specs.Response as I
 use Rattle.application.specs.declared.Fault.the-variants.{Faultless}
-use Rattle.request.specs.Headers as H
-use Rattle.request.specs.Headers.{eventsOf}
-use Rattle.request.specs.Parse as A
+use Rattle.read_headers.specs.Headers as H
+use Rattle.read_headers.specs.Headers.{eventsOf}
+use Rattle.read_headers.specs.Parse as A
 use Rattle.objects.specs.Runs.{encoded, runs, allBytes}
 use Rattle.event_objects.specs.Events.{eventsBytes, carriedBytes}
 use Rattle.static_objects.specs.Static.{staticBytes, rangeBytes, pointObjects}
 use Rattle.control.specs.Objects.{answerMax}
-use Rattle.select.specs.Select.{noSelect}
-use Rattle.repeat.specs.Repeat.{Memory, nothing, kept, answerOf, isRepeat}
+use Rattle.select_latch.specs.Select.{noSelect}
+use Rattle.last_request.specs.Repeat.{LastRequestView, nothing, kept, keptAnswer, isRepeat}
 use Rattle.words.specs.Records.{tab, chunk, records}
 use Rattle.point_store.specs.PointWords.{binaryOf, binariesIn}
 use Rattle.outstation.specs.declared.Reading.{Reading}
@@ -36,23 +36,23 @@ use Rattle.outstation.specs.declared.Measured.the-variants as Ms
 use Rattle.outstation.specs.declared.Wait as D
 use Rattle.outstation.specs.declared.Wait.the-variants.{Idle, Awaiting}
 use Rattle.outstation.specs.Setup as U
-use Rattle.outstation.specs.World.{World, Exchange, restarted}
-use Rattle.outstation.specs.Lent.{Counted}
+use Rattle.outstation.specs.OutstationView.{OutstationView, SessionView, restarted}
+use Rattle.outstation.specs.Lent.{CountsWithin}
 use Rattle.outstation.specs.Readings as R
 use Rattle.outstation.specs.Requests as Q
 use Rattle.outstation.specs.Step as S
 use Rattle.outstation.specs.Step.{Call, table, fragment, Answer, took, answers, accepts, refuses, step}
-use Rattle.outstation.specs.Contracts.{Did}
+use Rattle.outstation.specs.Contracts.{StepHolds}
 use Rattle.book.proofs.Rows.{carried-bytes}
 use Rattle.book.proofs.Example.{oneBinary}
-use Rattle.book.proofs.Memory.{outstationFor, Coded, none-coded, event-coded, Fits, world-for}
+use Rattle.book.proofs.LentMemory.{outstationFor, Coded, none-coded, event-coded, Fits, view-for}
 
 -- ---- calls of the outstation for a state
 
 -- the call c of the outstation for w, which leaves one whose counts do not pass their arrays: so what is padded has the array's length
-pub did-for : (w w₁ : World) (c : Call) (a : Answer) → Fits w → Fits w₁ → Counted (outstationFor w₁) → step c w ≡ record { state = w₁; answer = a }
-    → Did (outstationFor w) c a (outstationFor w₁)
-did-for w w₁ c a f f₁ n e = record { result = rw (world-for w f, world-for w₁ f₁) (sym e); counted = λ _. n }
+pub did-for : (w w₁ : OutstationView) (c : Call) (a : Answer) → Fits w → Fits w₁ → CountsWithin (outstationFor w₁) → step c w ≡ record { state = w₁; answer = a }
+    → StepHolds (outstationFor w) c a (outstationFor w₁)
+did-for w w₁ c a f f₁ n e = record { result = rw (view-for w f, view-for w₁ f₁) (sym e); counted = λ _. n }
 
 -- ---- the calls
 
@@ -111,8 +111,8 @@ abbrev pub all256 : (carried : Bool) → List Held
 all256 carried = events carried 226 1 true ++ newest
 
 -- behind the table, at this time
-abbrev pub stateAt : (clock : ℕ) → List Held → (overflow : Bool) → Exchange → World
-stateAt clock held overflow exchange =
+abbrev pub stateAt : (clock : ℕ) → List Held → (overflow : Bool) → SessionView → OutstationView
+stateAt clock held overflow session =
     record {
       shared =
           record {
@@ -120,44 +120,44 @@ stateAt clock held overflow exchange =
             confirmTime = 5000;
             outputs = 16;
             clock = clock;
-            inputs = record { binaries = record { class = 1; seen = true; state = true; flags = 1; reported = 1 } ∷ []; analogs = [] };
+            inputs = record { binaries = record { class = 1; seen = true; state = true; flags = 1; «reported_flags» = 1 } ∷ []; analogs = [] };
           };
-      master = record { queue = record { held = held; overflow = overflow }; exchange = exchange };
+      master = record { buffer = record { held = held; overflow = overflow }; session = session };
     }
 
-abbrev pub exchangeWith : (restarted : Bool) → D.Wait → Memory → Exchange
-exchangeWith restarted wait last = record { restarted = restarted; wait = wait; last = last; latch = noSelect }
+abbrev pub sessionWith : (restarted : Bool) → D.Wait → LastRequestView → SessionView
+sessionWith restarted wait last = record { restarted = restarted; wait = wait; last = last; latch = noSelect }
 
 -- a response with this sequence was built at this time; it showed IIN2.3, and nothing was dropped since
 abbrev pub awaits : ℕ → ℕ → D.Wait
 awaits q time = Awaiting (record { 0 = q }) time true false
 
-abbrev bytesOf : Memory → List ℕ
+abbrev bytesOf : LastRequestView → List ℕ
 bytesOf nothing = []
 bytesOf (kept f a) = f
 
-abbrev pub w₁ : World
-w₁ = stateAt 257 (all256 false) true (exchangeWith true Idle nothing)
+abbrev pub w₁ : OutstationView
+w₁ = stateAt 257 (all256 false) true (sessionWith true Idle nothing)
 
-abbrev pub w₂ : World
-w₂ = stateAt 2000 (all256 true) true (exchangeWith true (awaits 1 2000) (kept (read 0xC1) []))
+abbrev pub w₂ : OutstationView
+w₂ = stateAt 2000 (all256 true) true (sessionWith true (awaits 1 2000) (kept (read 0xC1) []))
 
-abbrev pub w₄ : World
-w₄ = stateAt 8000 (all256 true) true (exchangeWith true (awaits 2 8000) (kept (read 0xC2) []))
+abbrev pub w₄ : OutstationView
+w₄ = stateAt 8000 (all256 true) true (sessionWith true (awaits 2 8000) (kept (read 0xC2) []))
 
-abbrev pub w₅ : World
-w₅ = stateAt 9000 newest false (exchangeWith true Idle (kept (read 0xC2) []))
+abbrev pub w₅ : OutstationView
+w₅ = stateAt 9000 newest false (sessionWith true Idle (kept (read 0xC2) []))
 
-abbrev pub w₆ : World
-w₆ = stateAt 9500 newest false (exchangeWith false Idle (kept write written))
+abbrev pub w₆ : OutstationView
+w₆ = stateAt 9500 newest false (sessionWith false Idle (kept write written))
 
-abbrev pub w₇ : World
-w₇ = stateAt 9600 newest false (exchangeWith false Idle (kept write written))
+abbrev pub w₇ : OutstationView
+w₇ = stateAt 9600 newest false (sessionWith false Idle (kept write written))
 
 -- no count passes its array, by the numbers of the events and of the kept bytes
-pub counted-at : (clock : ℕ) (held : List Held) (overflow restarted : Bool) (wait : D.Wait) (m : Memory) → length held ≤ eventsMax
-    → length (bytesOf m) ≤ fragmentMax → length (answerOf m) ≤ answerMax
-    → Counted (outstationFor (stateAt clock held overflow (exchangeWith restarted wait m)))
+pub counted-at : (clock : ℕ) (held : List Held) (overflow restarted : Bool) (wait : D.Wait) (m : LastRequestView) → length held ≤ eventsMax
+    → length (bytesOf m) ≤ fragmentMax → length (keptAnswer m) ≤ answerMax
+    → CountsWithin (outstationFor (stateAt clock held overflow (sessionWith restarted wait m)))
 counted-at clock held overflow restarted wait nothing e f a =
     record { binaries = omega arith; analogs = omega arith; events = e; request = omega arith; answer = omega arith; objects = omega arith }
 counted-at clock held overflow restarted wait (kept g b) e f a =
@@ -175,8 +175,8 @@ coded-newest = rw (← (append-nil newest)) (coded-events false 30 227 true [] (
 pub coded-256 : (carried : Bool) → Coded (all256 carried)
 coded-256 carried = coded-events carried 226 1 true newest (omega arith) coded-newest
 
-pub fits-at : (clock : ℕ) (held : List Held) (overflow restarted : Bool) (wait : D.Wait) (m : Memory) → length held ≤ eventsMax → Coded held
-    → Fits (stateAt clock held overflow (exchangeWith restarted wait m))
+pub fits-at : (clock : ℕ) (held : List Held) (overflow restarted : Bool) (wait : D.Wait) (m : LastRequestView) → length held ≤ eventsMax → Coded held
+    → Fits (stateAt clock held overflow (sessionWith restarted wait m))
 unfolding binariesIn records tab chunk binaryOf
 fits-at clock held overflow restarted wait m few coded = record { binaries = refl; analogs = refl; events = coded; few = few; latch = refl }
 
@@ -187,7 +187,7 @@ fits-restarted = record { binaries = refl; analogs = refl; events = none-coded; 
 -- ---- each step
 
 pub by-table : step (table readings) (restarted oneBinary) ≡ record { state = w₁; answer = took 258 4 }
-unfolding restarted U.binaryClasses U.analogSetups S.step S.tableFrom S.takenWith S.raise R.hear R.badTime P.binaryReading P.reports P.raises K.pushed
+unfolding restarted U.binaryClasses U.analogSetups S.step S.tableFrom S.takenWith S.raise R.applyReading R.badTime P.readBinary P.isReported P.isRaised K.pushed
 by-table = refl
 
 abbrev pub class1 : Classes
@@ -202,25 +202,25 @@ unmarked c (suc n) t on l = rw (unmarked c n (suc t) (not on) l)
 more-fit : (n r t : ℕ) (on : Bool) (l : List Held)
     → K.carry class1 (record { left = n * 9 + r; kind = 1 }) (events false n t on ++ l)
     ≡ events true n t on ++ K.carry class1 (record { left = r; kind = 1 }) l
-unfolding K.carry E.fits E.packed E.costOf
+unfolding K.carry E.fits E.spaceAfter E.costOf
 more-fit zero r t on l = let e : 0 * 9 + r ≡ r = omega arith in rw e
 more-fit (suc n) r t on l =
     let e : suc n * 9 + r - 9 ≡ n * 9 + r = omega arith in
     rw (le-leb 9 (suc n * 9 + r) (omega arith), e, more-fit n r (suc t) (not on) l)
 
 first-fit : (n r t : ℕ) (on : Bool) (l : List Held)
-    → K.carry class1 (E.emptyPack (n * 9 + r + 14)) (events false (suc n) t on ++ l)
+    → K.carry class1 (E.emptySpace (n * 9 + r + 14)) (events false (suc n) t on ++ l)
     ≡ events true (suc n) t on ++ K.carry class1 (record { left = r; kind = 1 }) l
-unfolding K.carry E.fits E.packed E.costOf
+unfolding K.carry E.fits E.spaceAfter E.costOf
 first-fit n r t on l =
     let e : n * 9 + r + 14 - 14 ≡ n * 9 + r = omega arith in
     rw (le-leb 14 (n * 9 + r + 14) (omega arith), e, more-fit n r (suc t) (not on) l)
 
 none-fits : (n t : ℕ) (on : Bool) → K.carry class1 (record { left = 5; kind = 1 }) (events false (suc n) t on) ≡ events false (suc n) t on
-unfolding K.carry E.fits E.packed E.costOf
+unfolding K.carry E.fits E.spaceAfter E.costOf
 none-fits n t on = refl
 
-marks : K.carry class1 (E.emptyPack 2044) (all256 false) ≡ all256 true
+marks : K.carry class1 (E.emptySpace 2044) (all256 false) ≡ all256 true
 marks = first-fit 225 5 1 true newest ∙ ap (λ (l : List Held). events true 226 1 true ++ l) (none-fits 29 227 true)
 
 -- a response carries the marked ones, and a CONFIRM leaves the others
@@ -234,12 +234,12 @@ unfolding filter
 carried-none zero t on = refl
 carried-none (suc n) t on = carried-none n (suc t) (not on)
 
-waits-none : (n t : ℕ) (on : Bool) (l : List Held) → filter K.waits (events true n t on ++ l) ≡ filter K.waits l
+waits-none : (n t : ℕ) (on : Bool) (l : List Held) → filter K.notCarried (events true n t on ++ l) ≡ filter K.notCarried l
 unfolding filter
 waits-none zero t on l = refl
 waits-none (suc n) t on l = waits-none n (suc t) (not on) l
 
-waits-all : (n t : ℕ) (on : Bool) → filter K.waits (events false n t on) ≡ events false n t on
+waits-all : (n t : ℕ) (on : Bool) → filter K.notCarried (events false n t on) ≡ events false n t on
 unfolding filter
 waits-all zero t on = refl
 waits-all (suc n) t on = rw (waits-all n (suc t) (not on))
@@ -253,7 +253,7 @@ carried-226 =
     ∙ ap (λ (l : List Held). events true 226 1 true ++ l) (carried-none 30 227 true)
     ∙ append-nil (events true 226 1 true)
 
-waiting-30 : filter K.waits (all256 true) ≡ newest
+waiting-30 : filter K.notCarried (all256 true) ≡ newest
 waiting-30 = waits-none 226 1 true newest ∙ waits-all 30 227 true
 
 -- ---- READ: IIN1.7, restarted; IIN1.1, events of class 1 are left; IIN2.3, events dropped
@@ -262,20 +262,20 @@ abbrev pub readAnswer : (control : ℕ) → Answer
 readAnswer control = answers (control ∷ 0x81 ∷ 0x82 ∷ 0x08 ∷ eventsBytes (map (λ (h : Held). h .event) (events true 226 1 true))) []
 
 -- of any state behind the table, by the events that are marked
-module _ (clock time q : ℕ) (f : List ℕ) (held after : List Held) (x : Exchange) where
+module _ (clock time q : ℕ) (f : List ℕ) (held after : List Held) (x : SessionView) where
   read-at : R.badTime clock time ≡ false → Q.ask (stateAt clock held true x .shared .inputs) f ≡ Q.reads q (eventsOf 1 ∷ [])
-      → K.carry class1 (E.emptyPack 2044) (map (K.marked false) held) ≡ after
+      → K.carry class1 (E.emptySpace 2044) (map (K.marked false) held) ≡ after
       → step (fragment time f 2048) (stateAt clock held true x)
       ≡ record {
-        state = stateAt time after true (exchangeWith (x .restarted) (awaits q time) (kept f []));
+        state = stateAt time after true (sessionWith (x .restarted) (awaits q time) (kept f []));
         answer = answers (I.responseOf q true (S.indicationsOf (record { held = after; overflow = true }) (x .restarted)) Faultless ++ (carriedBytes after ++ [])) [];
       }
   unfolding S.step S.fragmentStep S.readStep A.asksFor staticBytes rangeBytes pointObjects encoded runs allBytes
   read-at b a e = rw (b, a, e, or-true (some K.isCarried after))
 
 -- the classes are read from the state's own inputs, whatever it holds
-abbrev pub points : Inputs
-points = stateAt 0 [] false (exchangeWith true Idle nothing) .shared .inputs
+abbrev pub points : PointsView
+points = stateAt 0 [] false (sessionWith true Idle nothing) .shared .inputs
 
 pub asks₁ : Q.ask points (read 0xC1) ≡ Q.reads 1 (eventsOf 1 ∷ [])
 unfolding Q.ask F.classified F.malformed A.headersOf H.frontHeader H.objectOf H.classHeader A.asksFor staticBytes rangeBytes pointObjects encoded runs allBytes
@@ -303,34 +303,34 @@ read-bytes q control e =
 pub by-read₁ : step (fragment 2000 (read 0xC1) 2048) w₁ ≡ record { state = w₂; answer = readAnswer 0xE1 }
 unfolding I.responseOf
 by-read₁ =
-    read-at 257 2000 1 (read 0xC1) (all256 false) (all256 true) (exchangeWith true Idle nothing) (in-time .0) asks₁
-    (ap (K.carry class1 (E.emptyPack 2044)) (unmarked-all false) ∙ marks)
+    read-at 257 2000 1 (read 0xC1) (all256 false) (all256 true) (sessionWith true Idle nothing) (in-time .0) asks₁
+    (ap (K.carry class1 (E.emptySpace 2044)) (unmarked-all false) ∙ marks)
     ∙ ap (λ (a : Answer). record { state = w₂; answer = a }) (read-bytes 1 0xE1 refl)
 
 pub by-read₂ : step (fragment 8000 (read 0xC2) 2048) w₂ ≡ record { state = w₄; answer = readAnswer 0xE2 }
 unfolding I.responseOf
 by-read₂ =
-    read-at 2000 8000 2 (read 0xC2) (all256 true) (all256 true) (w₂ .master .exchange) (in-time .1) asks₂
-    (ap (K.carry class1 (E.emptyPack 2044)) (unmarked-all true) ∙ marks)
+    read-at 2000 8000 2 (read 0xC2) (all256 true) (all256 true) (w₂ .master .session) (in-time .1) asks₂
+    (ap (K.carry class1 (E.emptySpace 2044)) (unmarked-all true) ∙ marks)
     ∙ ap (λ (a : Answer). record { state = w₄; answer = a }) (read-bytes 2 0xE2 refl)
 
 -- ---- CONFIRM, too late and in time, of any events
 
-pub by-late : (held : List Held) (m : Memory) → let w = stateAt 2000 held true (exchangeWith true (awaits 1 2000) m) in
+pub by-late : (held : List Held) (m : LastRequestView) → let w = stateAt 2000 held true (sessionWith true (awaits 1 2000) m) in
     step (fragment 7001 (confirm 0xC1) 2048) w ≡ record { state = w; answer = refuses 32 }
-unfolding S.step S.fragmentStep S.confirmStep R.badTime Q.ask Q.confirmed F.classified F.malformed
+unfolding S.step S.fragmentStep S.confirmStep R.badTime Q.ask Q.isConfirmed F.classified F.malformed
 by-late held m = refl
 
-confirm-at : (held : List Held) (m : Memory)
-    → step (fragment 9000 (confirm 0xC2) 2048) (stateAt 8000 held true (exchangeWith true (awaits 2 8000) m))
-    ≡ record { state = stateAt 9000 (filter K.waits held) false (exchangeWith true Idle m); answer = accepts }
-unfolding S.step S.fragmentStep S.confirmStep S.confirmedStep R.badTime Q.ask Q.confirmed F.classified F.malformed
+confirm-at : (held : List Held) (m : LastRequestView)
+    → step (fragment 9000 (confirm 0xC2) 2048) (stateAt 8000 held true (sessionWith true (awaits 2 8000) m))
+    ≡ record { state = stateAt 9000 (filter K.notCarried held) false (sessionWith true Idle m); answer = accepts }
+unfolding S.step S.fragmentStep S.confirmStep S.confirmedStep R.badTime Q.ask Q.isConfirmed F.classified F.malformed
 confirm-at held m = refl
 
 pub by-confirm : step (fragment 9000 (confirm 0xC2) 2048) w₄ ≡ record { state = w₅; answer = accepts }
 by-confirm =
     confirm-at (all256 true) (kept (read 0xC2) [])
-    ∙ ap (λ (l : List Held). record { state = stateAt 9000 l false (w₅ .master .exchange); answer = accepts }) waiting-30
+    ∙ ap (λ (l : List Held). record { state = stateAt 9000 l false (w₅ .master .session); answer = accepts }) waiting-30
 
 -- ---- WRITE, and its repeat
 

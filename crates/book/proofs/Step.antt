@@ -17,32 +17,32 @@ use Rattle.application.specs.Fragment.{functionOf, objectsOf}
 use Rattle.control.specs.declared.Crob.{Crob}
 use Rattle.control.specs.Objects.{formed}
 use Rattle.control.specs.Status.{echoWith}
-use Rattle.select.specs.Select.{Selection, noSelect}
-use Rattle.repeat.specs.Repeat.{Memory, nothing, kept, isRepeat, answerOf}
+use Rattle.select_latch.specs.Select.{LatchView, noSelect}
+use Rattle.last_request.specs.Repeat.{LastRequestView, nothing, kept, isRepeat, keptAnswer}
 use Rattle.events.specs.declared.Event.{Event}
-use Rattle.events.specs.Placing.{emptyPack}
-use Rattle.events.specs.Queue.{pushed, newly, marked}
+use Rattle.events.specs.Placing.{emptySpace}
+use Rattle.events.specs.BufferView.{pushed, newly, marked}
 use Rattle.event_objects.specs.Events.{eventsBytes}
 use Rattle.static_objects.specs.Static.{staticBytes}
-use Rattle.request.specs.declared.Header.{Header}
+use Rattle.read_headers.specs.declared.Header.{Header}
 use Rattle.outstation.specs.Setup.{Setup}
 use Rattle.outstation.specs.declared.Reading.{Reading}
 use Rattle.outstation.specs.declared.Wait as D
 use Rattle.outstation.specs.declared.Wait.the-variants.{Idle, Awaiting}
-use Rattle.outstation.specs.World.{World, withMaster, restarted}
-use Rattle.outstation.specs.Readings.{badTime, Heard, hear}
+use Rattle.outstation.specs.OutstationView.{OutstationView, withMaster, restarted}
+use Rattle.outstation.specs.Readings.{badTime, ReadingEffect, applyReading}
 use Rattle.read.specs.Response.{classesOf, roomBeside}
-use Rattle.outstation.specs.Requests.{Ask, malformed, confirms, reads, misreads, asks, ask, confirmed}
+use Rattle.outstation.specs.Requests.{Ask, malformed, confirms, reads, misreads, asks, ask, isConfirmed}
 use Rattle.outstation.specs.Step as S
-use Rattle.outstation.specs.Step.{Call, reading, table, fragment, Answer, answers, silent, Result, Deed, onHeard}
+use Rattle.outstation.specs.Step.{Call, reading, table, fragment, Answer, answers, silent, Result, RequestEffect, onEffect}
 use Rattle.book.specs.Book as B
-use Rattle.book.specs.Book.{Book, Row, Entry, Said, Happening, rowHeld, dropSince, picked, release}
-use Rattle.book.specs.Demand3.{Pending, eventAt, Response, Building, again, keptBy, Told}
+use Rattle.book.specs.Book.{Book, Row, Entry, BookAnswer, HistoryEntry, rowHeld, dropSince, picked, release}
+use Rattle.book.specs.Demand3.{Pending, eventAt, Response, Building, again, keptBy, AnswerAgrees}
 use Rattle.laws.proofs.Choices.{by, both, split, isNil-nil, nor-left}
 use Rattle.book.proofs.Rows.{collect, length-collect, collect-snoc, collect-none, heldRow, droppedRow, since-held, since-dropped}
 use Rattle.book.proofs.Rows.{picks-below, carry-collect, carried-bytes, carried-events, some-carried, keep-collect}
-use Rattle.book.proofs.Requests.{lastBytes, repeat-same, repeated, asks-inverse, reads-function, misreads-function, Ends, deed-ends}
-use Rattle.book.proofs.Requests.{Bears, deed-bears, response-long, response-objects, response-bit}
+use Rattle.book.proofs.Requests.{lastBytes, repeat-same, repeated, asks-inverse, reads-function, misreads-function, Ends, effect-ends}
+use Rattle.book.proofs.Requests.{Bears, effect-bears, response-long, response-objects, response-bit}
 
 -- ---- the outstation that a book stands for
 
@@ -51,8 +51,8 @@ pub record Extra : Type 0 where
   pub armTime : ℕ
   pub outputs : ℕ
   pub restarted : Bool
-  pub last : Memory
-  pub latch : Selection
+  pub last : LastRequestView
+  pub latch : LatchView
   pub shown : Bool
 
 abbrev pub waitRows : B.Wait → List ℕ
@@ -67,7 +67,7 @@ abbrev pub waitView : Bool → List Row → B.Wait → D.Wait
 waitView shown rows B.idle = Idle
 waitView shown rows (B.awaiting q t ws n k) = Awaiting (record { 0 = q }) t shown (dropSince n rows)
 
-abbrev pub view : Book → Extra → World
+abbrev pub view : Book → Extra → OutstationView
 view b x =
     record {
       shared =
@@ -80,8 +80,8 @@ view b x =
           };
       master =
           record {
-            queue = record { held = collect (waitRows (b .master .wait)) 0 (b .master .rows); overflow = b .master .warning };
-            exchange =
+            buffer = record { held = collect (waitRows (b .master .wait)) 0 (b .master .rows); overflow = b .master .warning };
+            session =
                 record {
                   restarted = x .restarted;
                   wait = waitView (x .shown) (b .master .rows) (b .master .wait);
@@ -98,7 +98,7 @@ pub record Inv (w : B.Wait) (rows : List Row) (warning shown : Bool) : Type 0 wh
   pub quiet : shown ≡ false → dropSince (waitFrom w) rows ≡ false → warning ≡ false
 
 -- what a repeat of the kept request would be answered, is its own answer
-abbrev pub Stored : Memory → Answer → Type 0
+abbrev pub Stored : LastRequestView → Answer → Type 0
 Stored nothing last = Unit {0}
 Stored (kept f answer) last = eqb (functionOf f) 1 ≡ false → again last ≡ cond (eqb (functionOf f) 6) (silent []) (answers answer [])
 
@@ -108,15 +108,15 @@ pub record Fits (b : Book) (x : Extra) (last : Answer) : Type 0 where
   pub request : lastBytes (x .last) ≡ b .master .last
   pub stored : Stored (x .last) last
 
-pub record Sim (w : World) (b : Book) (last : Answer) : Type 0 where
+pub record Sim (w : OutstationView) (b : Book) (last : Answer) : Type 0 where
   pub extra : Extra
   pub is : w ≡ view b extra
   pub fits : Fits b extra last
 
 -- a step and an entry, h the history before the call and last the answer to the last request
-pub record Match (h : List Happening) (last : Answer) (r : Result) (e : Entry) : Type 0 where
-  pub sim : Sim (r .state) (e .book) (keptBy (e .said) last (r .answer))
-  pub told : Told h last (e .book .master .rows) (e .said) (r .answer)
+pub record Match (h : List HistoryEntry) (last : Answer) (r : Result) (e : Entry) : Type 0 where
+  pub sim : Sim (r .state) (e .book) (keptBy (e .answer) last (r .answer))
+  pub agrees : AnswerAgrees h last (e .book .master .rows) (e .answer) (r .answer)
 
 -- ---- an event raised
 
@@ -176,12 +176,12 @@ raise-ok b x last e i =
 -- ---- readings
 
 -- two terms that branch on one reading
-on-heard {ℓ} : {A C : Type 0} (R : A → C → Type ℓ) (v : Outcome Heard) {x : Heard → A} {y : ℕ → A} {x′ : Heard → C} {y′ : ℕ → C}
-    → ((h : Heard) → R (x h) (x′ h)) → ((n : ℕ) → R (y n) (y′ n)) → R (onHeard v x y) (onHeard v x′ y′)
-on-heard R (accepted h) p q = p h
-on-heard R (refused n) p q = q n
+on-effect {ℓ} : {A C : Type 0} (R : A → C → Type ℓ) (v : Outcome ReadingEffect) {x : ReadingEffect → A} {y : ℕ → A} {x′ : ReadingEffect → C} {y′ : ℕ → C}
+    → ((h : ReadingEffect) → R (x h) (x′ h)) → ((n : ℕ) → R (y n) (y′ n)) → R (onEffect v x y) (onEffect v x′ y′)
+on-effect R (accepted h) p q = p h
+on-effect R (refused n) p q = q n
 
-taken-ok : (b : Book) (x : Extra) (last : Answer) (r : Reading) (a : Heard) → Fits b x last → Sim (S.taken (view b x) r a) (B.enterReading b r a) last
+taken-ok : (b : Book) (x : Extra) (last : Answer) (r : Reading) (a : ReadingEffect) → Fits b x last → Sim (S.taken (view b x) r a) (B.enterReading b r a) last
 unfolding S.takenWith B.enterReading
 taken-ok b x last r a i =
     let b₁ = B.withShared (B.withInputs (a .inputs) (B.withClock (r .time) (b .shared))) b in
@@ -189,26 +189,26 @@ taken-ok b x last r a i =
     (λ _. raise-ok b₁ x last (a .event) (record { inv = i .inv; request = i .request; stored = i .stored }))
     (λ _. record { extra = x; is = refl; fits = record { inv = i .inv; request = i .request; stored = i .stored } })
 
-module _ (h : List Happening) (last : Answer) where
+module _ (h : List HistoryEntry) (last : Answer) where
   reading-ok : (r : Reading) (b : Book) (x : Extra) → Fits b x last → Match h last (S.readingStep r (view b x)) (B.readingEntry r b)
   unfolding S.readingStep B.readingEntry
   reading-ok r b x i =
-      on-heard (Match h last) (hear (b .shared .clock) (b .shared .inputs) r)
-      (λ a. record { sim = taken-ok b x last r a i; told = refl })
-      (λ n. record { sim = record { extra = x; is = refl; fits = i }; told = refl })
+      on-effect (Match h last) (applyReading (b .shared .clock) (b .shared .inputs) r)
+      (λ a. record { sim = taken-ok b x last r a i; agrees = refl })
+      (λ n. record { sim = record { extra = x; is = refl; fits = i }; agrees = refl })
 
-  table-ok : (rs : List Reading) (k : ℕ) (ns : List Happening) (b : Book) (x : Extra) → Fits b x last
+  table-ok : (rs : List Reading) (k : ℕ) (ns : List HistoryEntry) (b : Book) (x : Extra) → Fits b x last
       → Match h last (S.tableFrom rs k (view b x)) (B.tableFrom rs k ns b)
   unfolding S.tableFrom B.tableFrom
-  table-ok [] k ns b x i = record { sim = record { extra = x; is = refl; fits = i }; told = refl }
+  table-ok [] k ns b x i = record { sim = record { extra = x; is = refl; fits = i }; agrees = refl }
   table-ok (r ∷ rs) k ns b x i =
-      on-heard (Match h last) (hear (b .shared .clock) (b .shared .inputs) r)
+      on-effect (Match h last) (applyReading (b .shared .clock) (b .shared .inputs) r)
       (λ a. let m = taken-ok b x last r a i in
-      rw (m .is) (table-ok rs (suc k) (B.readingNews (b .master) a ++ ns) (B.enterReading b r a) (m .extra) (m .fits)))
-      (λ n. record { sim = record { extra = x; is = refl; fits = i }; told = refl })
+      rw (m .is) (table-ok rs (suc k) (B.readingEntries (b .master) a ++ ns) (B.enterReading b r a) (m .extra) (m .fits)))
+      (λ n. record { sim = record { extra = x; is = refl; fits = i }; agrees = refl })
 
   refused-ok : (n : ℕ) (b : Book) (x : Extra) → Fits b x last → Match h last (S.refusal n (view b x)) (B.refusedEntry n b)
-  refused-ok n b x i = record { sim = record { extra = x; is = refl; fits = i }; told = refl }
+  refused-ok n b x i = record { sim = record { extra = x; is = refl; fits = i }; agrees = refl }
 
 -- ---- requests
 
@@ -219,12 +219,12 @@ idle-inv rows warning = record { below = λ j h. let z : _≡_ {A = ℕ} 0 1 = c
 abbrev afterRequest : Book → ℕ → List ℕ → B.Wait → ℕ → Book
 afterRequest b time f wait built = B.atTime time (B.withMaster (B.withWait wait (B.withRequest f built (b .master))) b)
 
--- the outstation that it leaves, by what it does to the queue and the wait, and its answer a
-done-ok : (b : Book) (x : Extra) (time : ℕ) (f answer : List ℕ) (a : Answer) (d : Deed) (wait : B.Wait) (built : ℕ) (shown : Bool)
-    → d .queue ≡ record { held = collect (waitRows wait) 0 (b .master .rows); overflow = b .master .warning } → d .wait ≡ waitView shown (b .master .rows) wait
+-- the outstation that it leaves, by what it does to the held events and the wait, and its answer a
+after-request-ok : (b : Book) (x : Extra) (time : ℕ) (f answer : List ℕ) (a : Answer) (d : RequestEffect) (wait : B.Wait) (built : ℕ) (shown : Bool)
+    → d .buffer ≡ record { held = collect (waitRows wait) 0 (b .master .rows); overflow = b .master .warning } → d .wait ≡ waitView shown (b .master .rows) wait
     → Inv wait (b .master .rows) (b .master .warning) shown → Stored (kept f answer) a
-    → Sim (S.done (view b x) time f answer d) (afterRequest b time f wait built) a
-done-ok b x time f answer a d wait built shown queued waited inv stored =
+    → Sim (S.afterRequest (view b x) time f answer d) (afterRequest b time f wait built) a
+after-request-ok b x time f answer a d wait built shown queued waited inv stored =
     record {
       extra = record { armTime = x .armTime; outputs = x .outputs; restarted = d .restarted; last = kept f answer; latch = d .latch; shown = shown };
       is = rw (queued, waited);
@@ -236,7 +236,7 @@ read-stored : (f answer : List ℕ) (a : Answer) → eqb (functionOf f) 1 ≡ tr
 read-stored f answer a t = λ e. absurd (let g : true ≡ false = sym t ∙ e in let z : _≡_ {A = ℕ} 0 1 = cc in omega arith)
 
 -- the response's IIN2.3 is the overflow
-response-of : (h : List Happening) (q : ℕ) (d : Deed) (operated : List Crob) → ((d .queue .overflow ≡ true) ↔ Pending h)
+response-of : (h : List HistoryEntry) (q : ℕ) (d : RequestEffect) (operated : List Crob) → ((d .buffer .overflow ≡ true) ↔ Pending h)
     → Response h (answers (S.responseBytes q d) operated)
 response-of h q d operated p =
     record {
@@ -246,8 +246,8 @@ response-of h q d operated p =
       overflow = rw (response-bit q (d .con) (S.indications d) (d .fault) (d .objects)) p;
     }
 
-building-of : (h : List Happening) (q : ℕ) (d : Deed) (operated : List Crob) (o : List ℕ) → d .objects ≡ o
-    → ((d .queue .overflow ≡ true) ↔ Pending h) → Building h (answers (S.responseBytes q d) operated) o
+building-of : (h : List HistoryEntry) (q : ℕ) (d : RequestEffect) (operated : List Crob) (o : List ℕ) → d .objects ≡ o
+    → ((d .buffer .overflow ≡ true) ↔ Pending h) → Building h (answers (S.responseBytes q d) operated) o
 unfolding response-of
 building-of h q d operated o e p =
     record {
@@ -257,10 +257,10 @@ building-of h q d operated o e p =
     }
 
 -- its objects are those that the book says
-told-of : (h : List Happening) (last : Answer) (rows : List Row) (said : Said) (q : ℕ) (d : Deed) (operated : List Crob) → Bears said (d .objects)
-    → ((d .queue .overflow ≡ true) ↔ Pending h)
-    → (keptBy said last (answers (S.responseBytes q d) operated) ≡ answers (S.responseBytes q d) operated)
-    × Told h last rows said (answers (S.responseBytes q d) operated)
+told-of : (h : List HistoryEntry) (last : Answer) (rows : List Row) (answer : BookAnswer) (q : ℕ) (d : RequestEffect) (operated : List Crob) → Bears answer (d .objects)
+    → ((d .buffer .overflow ≡ true) ↔ Pending h)
+    → (keptBy answer last (answers (S.responseBytes q d) operated) ≡ answers (S.responseBytes q d) operated)
+    × AnswerAgrees h last rows answer (answers (S.responseBytes q d) operated)
 told-of h last rows (B.takes taken refusal) q d operated e p = absurd e
 told-of h last rows (B.refuses n) q d operated e p = absurd e
 told-of h last rows B.accepts q d operated e p = absurd e
@@ -273,10 +273,10 @@ told-of h last rows (B.echoes o) q d operated e p = (
 told-of h last rows B.unanswered q d operated e p = absurd e
 told-of h last rows B.repeats q d operated e p = absurd e
 
--- a READ: the queue and the wait that it leaves are those of the rows picked
+-- a READ: the held events and the wait that it leaves are those of the rows picked
 module _ (q time : ℕ) (hs : List Header) (b : Book) (x : Extra) where
-  abbrev deed : Deed
-  deed = S.readDeed (view b x) q time hs
+  abbrev effect : RequestEffect
+  effect = S.readEffect (view b x) q time hs
 
   abbrev newWait : B.Wait
   newWait = B.readWait b q time hs
@@ -284,94 +284,94 @@ module _ (q time : ℕ) (hs : List Header) (b : Book) (x : Extra) where
   unmarked : map (marked false) (collect (waitRows (b .master .wait)) 0 (b .master .rows)) ≡ collect [] 0 (b .master .rows)
   unmarked = collect-none (waitRows (b .master .wait)) 0 (b .master .rows)
 
-  read-objects : deed .objects ≡ eventsBytes (map (eventAt (b .master .rows)) (picked b hs)) ++ staticBytes (b .shared .inputs) hs
-  read-objects = rw (unmarked, carried-bytes, carried-events (classesOf hs) (emptyPack (roomBeside (b .shared .inputs) hs)) [] 0 (b .master .rows) refl)
+  read-objects : effect .objects ≡ eventsBytes (map (eventAt (b .master .rows)) (picked b hs)) ++ staticBytes (b .shared .inputs) hs
+  read-objects = rw (unmarked, carried-bytes, carried-events (classesOf hs) (emptySpace (roomBeside (b .shared .inputs) hs)) [] 0 (b .master .rows) refl)
 
-  read-queue : deed .queue ≡ record { held = collect (waitRows newWait) 0 (b .master .rows); overflow = b .master .warning }
-  read-queue =
-      rw (unmarked, carry-collect (classesOf hs) (emptyPack (roomBeside (b .shared .inputs) hs)) 0 (b .master .rows))
+  read-buffer : effect .buffer ≡ record { held = collect (waitRows newWait) 0 (b .master .rows); overflow = b .master .warning }
+  read-buffer =
+      rw (unmarked, carry-collect (classesOf hs) (emptySpace (roomBeside (b .shared .inputs) hs)) 0 (b .master .rows))
       (by (not (isNil (picked b hs)) || b .master .warning)
       (λ c. rw c)
       (λ c. rw (c, isNil-nil (picked b hs) (nor-left (isNil (picked b hs)) (b .master .warning) c))))
 
-  read-wait : deed .wait ≡ waitView (b .master .warning) (b .master .rows) newWait
+  read-wait : effect .wait ≡ waitView (b .master .warning) (b .master .rows) newWait
   read-wait =
-      rw (unmarked, some-carried (classesOf hs) (emptyPack (roomBeside (b .shared .inputs) hs)) (b .master .rows))
+      rw (unmarked, some-carried (classesOf hs) (emptySpace (roomBeside (b .shared .inputs) hs)) (b .master .rows))
       (by (not (isNil (picked b hs)) || b .master .warning) (λ c. rw (c, drop-length)) (λ c. rw c))
 
   read-inv : Inv newWait (b .master .rows) (b .master .warning) (b .master .warning)
   read-inv =
       split (λ w. Inv w (b .master .rows) (b .master .warning) (b .master .warning)) (not (isNil (picked b hs)) || b .master .warning)
       (λ _. record {
-        below = λ j h. omega (arith, picks-below (classesOf hs) (emptyPack (roomBeside (b .shared .inputs) hs)) j 0 (b .master .rows) h);
+        below = λ j h. omega (arith, picks-below (classesOf hs) (emptySpace (roomBeside (b .shared .inputs) hs)) j 0 (b .master .rows) h);
         from = le-refl _;
         quiet = λ h d. h;
       })
       (λ _. record { below = idle-inv (b .master .rows) (b .master .warning) .below; from = omega arith; quiet = λ h d. h })
 
-  read-ok : (h : List Happening) (last : Answer) (f : List ℕ) → eqb (functionOf f) 1 ≡ true → ((b .master .warning ≡ true) ↔ Pending h)
-      → Match h last (S.readStep (view b x) q time f deed) (B.readEntry b q time f hs)
+  read-ok : (h : List HistoryEntry) (last : Answer) (f : List ℕ) → eqb (functionOf f) 1 ≡ true → ((b .master .warning ≡ true) ↔ Pending h)
+      → Match h last (S.readStep (view b x) q time f effect) (B.readEntry b q time f hs)
   unfolding S.readStep B.readEntry
   read-ok h last f t p =
-      let a = answers (S.responseBytes q deed) [] in
+      let a = answers (S.responseBytes q effect) [] in
       record {
-        sim = done-ok b x time f [] a deed newWait (suc (b .master .built)) (b .master .warning) read-queue read-wait read-inv (read-stored f [] a t);
-        told = building-of h q deed [] (eventsBytes (map (eventAt (b .master .rows)) (picked b hs)) ++ staticBytes (b .shared .inputs) hs) read-objects p;
+        sim = after-request-ok b x time f [] a effect newWait (suc (b .master .built)) (b .master .warning) read-buffer read-wait read-inv (read-stored f [] a t);
+        agrees = building-of h q effect [] (eventsBytes (map (eventAt (b .master .rows)) (picked b hs)) ++ staticBytes (b .shared .inputs) hs) read-objects p;
       }
 
 -- any other request that is no repeat; d is what it does
-module _ (h : List Happening) (last : Answer) (q time : ℕ) (f : List ℕ) (b : Book) (x : Extra) (d : Deed) (e : Ends (view b x .master .queue) d)
+module _ (h : List HistoryEntry) (last : Answer) (q time : ℕ) (f : List ℕ) (b : Book) (x : Extra) (d : RequestEffect) (e : Ends (view b x .master .buffer) d)
     (p : (b .master .warning ≡ true) ↔ Pending h) where
-  other-queue : d .queue ≡ record { held = collect [] 0 (b .master .rows); overflow = b .master .warning }
-  other-queue = e .queue ∙ rw (collect-none (waitRows (b .master .wait)) 0 (b .master .rows))
+  other-buffer : d .buffer ≡ record { held = collect [] 0 (b .master .rows); overflow = b .master .warning }
+  other-buffer = e .buffer ∙ rw (collect-none (waitRows (b .master .wait)) 0 (b .master .rows))
 
   other-sim : (answer : List ℕ) (a : Answer) (built : ℕ) → Stored (kept f answer) a
-      → Sim (S.done (view b x) time f answer d) (afterRequest b time f B.idle built) a
+      → Sim (S.afterRequest (view b x) time f answer d) (afterRequest b time f B.idle built) a
   other-sim answer a built stored =
-      done-ok b x time f answer a d B.idle built true other-queue (e .wait) (idle-inv (b .master .rows) (b .master .warning)) stored
+      after-request-ok b x time f answer a d B.idle built true other-buffer (e .wait) (idle-inv (b .master .rows) (b .master .warning)) stored
 
   misread-ok : d .objects ≡ [] → eqb (functionOf f) 1 ≡ true → Match h last (S.readStep (view b x) q time f d) (B.otherEntry b true B.plain time f)
   unfolding S.readStep B.otherEntry
   misread-ok o t =
       let a = answers (S.responseBytes q d) [] in
-      record { sim = other-sim [] a (suc (b .master .built)) (read-stored f [] a t); told = building-of h q d [] [] o (rw (e .queue) p) }
+      record { sim = other-sim [] a (suc (b .master .built)) (read-stored f [] a t); agrees = building-of h q d [] [] o (rw (e .buffer) p) }
 
   -- function 6, and all others
   silent-ok : eqb (functionOf f) 6 ≡ true
-      → Match h last (record { state = S.done (view b x) time f [] d; answer = silent (d .operated) }) (B.otherEntry b false B.unanswered time f)
+      → Match h last (record { state = S.afterRequest (view b x) time f [] d; answer = silent (d .operated) }) (B.otherEntry b false B.unanswered time f)
   unfolding B.otherEntry
-  silent-ok t = record { sim = other-sim [] (silent (d .operated)) (b .master .built) (λ r. rw t); told = record { operated = d .operated; is = refl } }
+  silent-ok t = record { sim = other-sim [] (silent (d .operated)) (b .master .built) (λ r. rw t); agrees = record { operated = d .operated; is = refl } }
 
-  answered-ok : (said : Said) → Bears said (d .objects) → eqb (functionOf f) 6 ≡ false
-      → Match h last (record { state = S.done (view b x) time f (S.responseBytes q d) d; answer = answers (S.responseBytes q d) (d .operated) })
-      (B.otherEntry b true said time f)
+  answered-ok : (answer : BookAnswer) → Bears answer (d .objects) → eqb (functionOf f) 6 ≡ false
+      → Match h last (record { state = S.afterRequest (view b x) time f (S.responseBytes q d) d; answer = answers (S.responseBytes q d) (d .operated) })
+      (B.otherEntry b true answer time f)
   unfolding B.otherEntry
-  answered-ok said bears t =
-      let (same, told) = told-of h last (b .master .rows) said q d (d .operated) bears (rw (e .queue) p) in
+  answered-ok answer bears t =
+      let (same, agrees) = told-of h last (b .master .rows) answer q d (d .operated) bears (rw (e .buffer) p) in
       record {
         sim = rw same (other-sim (S.responseBytes q d) (answers (S.responseBytes q d) (d .operated)) (suc (b .master .built)) (λ r. rw t));
-        told = told;
+        agrees = agrees;
       }
 
-  request-ok : (function : ℕ) → functionOf f ≡ function → (eqb function 6 ≡ false → Bears (B.saidOf function (objectsOf f)) (d .objects))
+  request-ok : (function : ℕ) → functionOf f ≡ function → (eqb function 6 ≡ false → Bears (B.bookAnswerOf function (objectsOf f)) (d .objects))
       → Match h last (S.requestStep (view b x) q function time f d)
-      (B.otherEntry b (not (eqb function 6)) (B.saidOf function (objectsOf f)) time f)
-  unfolding S.requestStep B.saidOf
+      (B.otherEntry b (not (eqb function 6)) (B.bookAnswerOf function (objectsOf f)) time f)
+  unfolding S.requestStep B.bookAnswerOf
   request-ok function is bears =
       by (eqb function 6)
       (λ t. rw t (silent-ok (rw is t)))
       (λ t. rw t (answered-ok (cond (member function (3 ∷ 4 ∷ 5 ∷ [])) (B.echoes (objectsOf f)) B.plain) (rw t at (bears t)) (rw is t)))
 
 -- a repeat moves the clock, and has the same answer again
-repeat-ok : (h : List Happening) (last : Answer) (function time : ℕ) (f : List ℕ) (b : Book) (x : Extra) → Fits b x last
-    → functionOf f ≡ function → eqb function 1 ≡ false → x .last ≡ kept f (answerOf (x .last))
+repeat-ok : (h : List HistoryEntry) (last : Answer) (function time : ℕ) (f : List ℕ) (b : Book) (x : Extra) → Fits b x last
+    → functionOf f ≡ function → eqb function 1 ≡ false → x .last ≡ kept f (keptAnswer (x .last))
     → Match h last (S.repeatStep (view b x) function time) (B.repeatEntry b time)
 unfolding S.repeatStep B.repeatEntry
 repeat-ok h last function time f b x i is other was =
-    let s : Stored (kept f (answerOf (x .last))) last = subst (λ m. Stored m last) was (i .stored) in
+    let s : Stored (kept f (keptAnswer (x .last))) last = subst (λ m. Stored m last) was (i .stored) in
     record {
       sim = record { extra = x; is = refl; fits = record { inv = i .inv; request = i .request; stored = i .stored } };
-      told = sym (rw is at (s (rw is other)));
+      agrees = sym (rw is at (s (rw is other)));
     }
 
 -- ---- CONFIRM
@@ -382,7 +382,7 @@ clear-eq true false w h = refl
 clear-eq false true w h = refl
 clear-eq false false w h = h refl refl
 
-module _ (h : List Happening) (last : Answer) where
+module _ (h : List HistoryEntry) (last : Answer) where
   confirmed-ok : (time q t : ℕ) (ws : List ℕ) (n k : ℕ) (b : Book) (x : Extra) → b .master .wait ≡ B.awaiting q t ws n k → Fits b x last
       → Match h last (S.confirmedStep (view b x) time (x .shown) (dropSince n (b .master .rows))) (B.confirmedEntry b time ws n k)
   unfolding S.confirmedStep B.confirmedEntry
@@ -399,7 +399,7 @@ module _ (h : List Happening) (last : Answer) where
                     stored = i .stored;
                   };
             };
-        told = refl;
+        agrees = refl;
       }
 
   confirm-ok : (q : ℕ) (uns : Bool) (time : ℕ) (b : Book) (x : Extra) (w : B.Wait) → b .master .wait ≡ w → Fits b x last
@@ -407,29 +407,29 @@ module _ (h : List Happening) (last : Answer) where
   unfolding S.confirmStep B.confirmEntry
   confirm-ok q uns time b x B.idle e i = refused-ok h last 32 b x i
   confirm-ok q uns time b x (B.awaiting q₁ t₁ ws n k) e i =
-      both (Match h last) (confirmed (b .shared .confirmTime) q uns time q₁ t₁)
+      both (Match h last) (isConfirmed (b .shared .confirmTime) q uns time q₁ t₁)
       (λ _. confirmed-ok time q₁ t₁ ws n k b x e i)
       (λ _. refused-ok h last 32 b x i)
 
 -- ---- fragments
 
-module _ (h : List Happening) (last : Answer) (b : Book) (x : Extra) (i : Fits b x last) (p : (b .master .warning ≡ true) ↔ Pending h) where
+module _ (h : List HistoryEntry) (last : Answer) (b : Book) (x : Extra) (i : Fits b x last) (p : (b .master .warning ≡ true) ↔ Pending h) where
   ask-ok : (a : Ask) (time : ℕ) (f : List ℕ) → ask (b .shared .inputs) f ≡ a → Match h last (S.onAsk a (view b x) time f) (B.askEntry a b time f)
   ask-ok malformed time f e = refused-ok h last 31 b x i
   ask-ok (confirms q uns) time f e = confirm-ok h last q uns time b x (b .master .wait) refl i
   ask-ok (reads q hs) time f e = read-ok q time hs b x h last f (reads-function (b .shared .inputs) f q hs e) p
   ask-ok (misreads q n) time f e =
-      misread-ok h last q time f b x (S.plainDeed (view b x) n (x .restarted)) (record { queue = refl; wait = refl }) p refl
+      misread-ok h last q time f b x (S.plainEffect (view b x) n (x .restarted)) (record { buffer = refl; wait = refl }) p refl
       (misreads-function (b .shared .inputs) f q n e)
   ask-ok (asks q function) time f e =
       let a = asks-inverse (b .shared .inputs) f q function e in
       let s : isRepeat (x .last) f ≡ same f (b .master .last) = rw (← i .request) (repeat-same (x .last) f (rw (a .is) (a .other)) (a .long)) in
-      let d = S.deedBy (view b x) q function time (objectsOf f) in
+      let d = S.effectBy (view b x) q function time (objectsOf f) in
       rw s
       (both (Match h last) (same f (b .master .last))
       (λ t. repeat-ok h last function time f b x i (a .is) (a .other) (repeated (x .last) f (a .long) (rw (i .request) t)))
-      (λ _. request-ok h last q time f b x d (deed-ends (view b x) q function time (objectsOf f)) p function (a .is)
-      (deed-bears (view b x) q function time (objectsOf f))))
+      (λ _. request-ok h last q time f b x d (effect-ends (view b x) q function time (objectsOf f)) p function (a .is)
+      (effect-bears (view b x) q function time (objectsOf f))))
 
   fragment-ok : (time : ℕ) (f : List ℕ) (room : ℕ) → Match h last (S.fragmentStep time f room (view b x)) (B.fragmentEntry time f room b)
   unfolding S.fragmentStep B.fragmentEntry
@@ -445,12 +445,12 @@ module _ (h : List Happening) (last : Answer) (b : Book) (x : Extra) (i : Fits b
   step-view (fragment time f room) = fragment-ok time f room
 
 -- one call, from any outstation that is a view of the book
-pub step-ok : (h : List Happening) (last : Answer) (c : Call) (w : World) (b : Book) → ((b .master .warning ≡ true) ↔ Pending h) → Sim w b last
+pub step-ok : (h : List HistoryEntry) (last : Answer) (c : Call) (w : OutstationView) (b : Book) → ((b .master .warning ≡ true) ↔ Pending h) → Sim w b last
     → Match h last (S.step c w) (B.enter c b)
 step-ok h last c w b p m = rw (m .is) (step-view h last b (m .extra) (m .fits) p c)
 
-pub start-ok : (u : Setup) → Sim (restarted u) (B.opened u) (silent [])
-unfolding restarted B.opened
+pub start-ok : (u : Setup) → Sim (restarted u) (B.bookOf u) (silent [])
+unfolding restarted B.bookOf
 start-ok u =
     record {
       extra =

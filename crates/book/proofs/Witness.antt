@@ -15,27 +15,27 @@ use Rattle.events.specs.declared.Event.{Event}
 use Rattle.events.specs.declared.Shown.the-variants.{State}
 use Rattle.events.specs.Placing as E
 use Rattle.application.specs.Fragment as F
-use Rattle.request.specs.Headers.{eventsOf}
-use Rattle.request.specs.Parse as A
+use Rattle.read_headers.specs.Headers.{eventsOf}
+use Rattle.read_headers.specs.Parse as A
 use Rattle.objects.specs.Runs.{encoded, runs, allBytes}
 use Rattle.static_objects.specs.Static.{staticBytes, rangeBytes, pointObjects}
-use Rattle.repeat.specs.Repeat.{nothing, kept}
+use Rattle.last_request.specs.Repeat.{nothing, kept}
 use Rattle.outstation.specs.Setup.{Setup}
 use Rattle.outstation.specs.declared.Wait.the-variants.{Idle}
 use Rattle.outstation.specs.Setup as U
 use Rattle.outstation.specs.Setup.{setupOk}
-use Rattle.outstation.specs.World.{restarted}
-use Rattle.outstation.specs.Lent.{Outstation, world}
+use Rattle.outstation.specs.OutstationView.{restarted}
+use Rattle.outstation.specs.Lent.{Outstation, outstationView}
 use Rattle.outstation.specs.Readings as R
 use Rattle.outstation.specs.Requests as Q
 use Rattle.outstation.specs.Step.{Call, table, fragment, Answer, took, answers, silent, accepts, refuses}
-use Rattle.outstation.specs.Contracts.{Did}
+use Rattle.outstation.specs.Contracts.{StepHolds}
 use Rattle.book.specs.Book as B
 use Rattle.book.specs.Book.{Book, Row, Mark, held, released, dropped, rowReleased, rowDropped, Wait, idle, awaiting, picks, release}
-use Rattle.book.specs.Book.{dropSince, enter, opened}
+use Rattle.book.specs.Book.{dropSince, enter, bookOf}
 use Rattle.book.specs.Demand3.{overflowBit, bookAfter, Ran, none, more}
 use Rattle.book.proofs.Example.{oneBinary}
-use Rattle.book.proofs.Memory.{outstationFor, world-for}
+use Rattle.book.proofs.LentMemory.{outstationFor, view-for}
 use Rattle.book.proofs.Run.{did-for, counted-at, coded-newest, coded-256, fits-at, fits-restarted, calls, readings, read, confirm, write, written, readAnswer}
 use Rattle.book.proofs.Run.{class1, points, all256, newest, awaits, w₁, w₂, w₄, w₅, w₆, w₇, asks₁, asks₂, in-time}
 use Rattle.book.proofs.Run.{by-table, by-read₁, by-late, by-read₂, by-confirm, by-write, by-repeat}
@@ -61,7 +61,7 @@ upTo (suc n) i = i ∷ upTo n (suc i)
 more-picked : (n r i t : ℕ) (on : Bool) (l : List Row)
     → picks class1 (record { left = n * 9 + r; kind = 1 }) i (rowsAt held n t on ++ l)
     ≡ upTo n i ++ picks class1 (record { left = r; kind = 1 }) (n + i) l
-unfolding E.fits E.packed E.costOf
+unfolding E.fits E.spaceAfter E.costOf
 more-picked zero r i t on l = let e : 0 * 9 + r ≡ r = omega arith in let j : 0 + i ≡ i = omega arith in rw (e, j)
 more-picked (suc n) r i t on l =
     let e : suc n * 9 + r - 9 ≡ n * 9 + r = omega arith in
@@ -69,18 +69,18 @@ more-picked (suc n) r i t on l =
     rw (le-leb 9 (suc n * 9 + r) (omega arith), e, more-picked n r (suc i) (suc t) (not on) l, j)
 
 first-picked : (n r i t : ℕ) (on : Bool) (l : List Row)
-    → picks class1 (E.emptyPack (n * 9 + r + 14)) i (rowsAt held (suc n) t on ++ l)
+    → picks class1 (E.emptySpace (n * 9 + r + 14)) i (rowsAt held (suc n) t on ++ l)
     ≡ upTo (suc n) i ++ picks class1 (record { left = r; kind = 1 }) (n + suc i) l
-unfolding E.fits E.packed E.costOf
+unfolding E.fits E.spaceAfter E.costOf
 first-picked n r i t on l =
     let e : n * 9 + r + 14 - 14 ≡ n * 9 + r = omega arith in
     rw (le-leb 14 (n * 9 + r + 14) (omega arith), e, more-picked n r (suc i) (suc t) (not on) l)
 
 none-picked : (n i t : ℕ) (on : Bool) (l : List Row) → picks class1 (record { left = 5; kind = 1 }) i (rowsAt held (suc n) t on ++ l) ≡ []
-unfolding E.fits E.packed E.costOf
+unfolding E.fits E.spaceAfter E.costOf
 none-picked n i t on l = refl
 
-picked-226 : picks class1 (E.emptyPack 2044) 0 (all257 held) ≡ upTo 226 0
+picked-226 : picks class1 (E.emptySpace 2044) 0 (all257 held) ≡ upTo 226 0
 picked-226 =
     first-picked 225 5 0 1 true (rowsAt held 30 227 true ++ rowsAt dropped 1 257 true)
     ∙ ap (λ (l : List ℕ). upTo 226 0 ++ l) (none-picked 29 226 227 true (rowsAt dropped 1 257 true))
@@ -98,14 +98,14 @@ bookAt clock rows wait warning last built =
       master = record { rows = rows; wait = wait; warning = warning; last = last; built = built };
     }
 
-book-table : enter (table readings) (opened oneBinary) .book ≡ bookAt 257 (all257 held) idle true [] 0
-unfolding B.opened B.enter B.tableFrom B.enterReading B.readingNews B.enterEvent B.full U.binaryClasses U.analogSetups
-    R.hear R.badTime P.binaryReading P.reports P.raises
+book-table : enter (table readings) (bookOf oneBinary) .book ≡ bookAt 257 (all257 held) idle true [] 0
+unfolding B.bookOf B.enter B.tableFrom B.enterReading B.readingEntries B.enterEvent B.full U.binaryClasses U.analogSetups
+    R.applyReading R.badTime P.readBinary P.isReported P.isRaised
 book-table = refl
 
 module _ (rows : List Row) where
   abbrev picked : List ℕ
-  picked = picks class1 (E.emptyPack 2044) 0 rows
+  picked = picks class1 (E.emptySpace 2044) 0 rows
 
   book-read : (clock time q : ℕ) (f last : List ℕ) (wait : Wait) (built : ℕ) → R.badTime clock time ≡ false → Q.ask points f ≡ Q.reads q (eventsOf 1 ∷ [])
       → enter (fragment time f 2048) (bookAt clock rows wait true last built) .book
@@ -115,13 +115,13 @@ module _ (rows : List Row) where
 
   book-late : (ws : List ℕ) (n k : ℕ) (last : List ℕ) (built : ℕ) → let b = bookAt 2000 rows (awaiting 1 2000 ws n k) true last built in
       enter (fragment 7001 (confirm 0xC1) 2048) b .book ≡ b
-  unfolding B.enter B.fragmentEntry B.confirmEntry R.badTime Q.ask Q.confirmed F.classified F.malformed
+  unfolding B.enter B.fragmentEntry B.confirmEntry R.badTime Q.ask Q.isConfirmed F.classified F.malformed
   book-late ws n k last built = refl
 
   book-confirm : (ws : List ℕ) (n k : ℕ) (last : List ℕ) (built : ℕ)
       → enter (fragment 9000 (confirm 0xC2) 2048) (bookAt 8000 rows (awaiting 2 8000 ws n k) true last built) .book
       ≡ bookAt 9000 (release ws 0 rows) idle (cond (dropSince n rows) true false) last built
-  unfolding B.enter B.fragmentEntry B.confirmEntry B.confirmedEntry R.badTime Q.ask Q.confirmed F.classified F.malformed
+  unfolding B.enter B.fragmentEntry B.confirmEntry B.confirmedEntry R.badTime Q.ask Q.isConfirmed F.classified F.malformed
   book-confirm ws n k last built = refl
 
   book-write : (warning : Bool) (built : ℕ)
@@ -135,7 +135,7 @@ module _ (rows : List Row) where
   book-repeat warning built = refl
 
 -- the rows after the calls
-rows-after : bookAfter calls (opened oneBinary) .master .rows ≡ all257 released
+rows-after : bookAfter calls (bookOf oneBinary) .master .rows ≡ all257 released
 rows-after =
     let rows = all257 held in
     let ws = picked rows in
@@ -190,7 +190,7 @@ ans =
     ∷ answers written []
     ∷ []
 
-run : Ran Outstation Did (outstationFor (restarted oneBinary)) calls ans (outstationFor w₇)
+run : Ran Outstation StepHolds (outstationFor (restarted oneBinary)) calls ans (outstationFor w₇)
 run =
     let l : length (all256 false) ≤ eventsMax = leb-true (length (all256 false)) eventsMax refl in
     let m : length (all256 true) ≤ eventsMax = leb-true (length (all256 true)) eventsMax refl in
@@ -237,8 +237,8 @@ bytesOf (refuses n) = []
 -- such a run
 pub record Witness (u : Setup) (o : Outstation) (cs : List Call) (l : List Answer) (o₂ : Outstation) : Type 0 where
   pub accepted : setupOk u ≡ true
-  pub start : world o ≡ restarted u
-  pub ran : Ran Outstation Did o cs l o₂
+  pub start : outstationView o ≡ restarted u
+  pub ran : Ran Outstation StepHolds o cs l o₂
   -- a table of 260 readings is stopped at the refused one
   pub stopped : answerAt l 0 ≡ took 258 4
   -- READ shows IIN2.3, and its CONFIRM is too late
@@ -246,27 +246,27 @@ pub record Witness (u : Setup) (o : Outstation) (cs : List Call) (l : List Answe
   pub late : answerAt l 2 ≡ refuses 32
   -- READ again, and its CONFIRM, which clears it
   pub still : overflowBit (bytesOf (answerAt l 3)) ≡ true
-  pub confirmed : answerAt l 4 ≡ accepts
+  pub isConfirmed : answerAt l 4 ≡ accepts
   pub cleared : overflowBit (bytesOf (answerAt l 5)) ≡ false
   -- a repeat has the same answer again
   pub repeated : answerAt l 6 ≡ answerAt l 5
   -- of 257 events raised one was dropped, and 226 were released
-  pub raised : length (bookAfter cs (opened u) .master .rows) ≡ 257
-  pub dropped : count rowDropped (bookAfter cs (opened u) .master .rows) ≡ 1
-  pub released : count rowReleased (bookAfter cs (opened u) .master .rows) ≡ 226
+  pub raised : length (bookAfter cs (bookOf u) .master .rows) ≡ 257
+  pub dropped : count rowDropped (bookAfter cs (bookOf u) .master .rows) ≡ 1
+  pub released : count rowReleased (bookAfter cs (bookOf u) .master .rows) ≡ 226
 
 pub witness : Witness oneBinary (outstationFor (restarted oneBinary)) calls ans (outstationFor w₇)
 unfolding setupOk U.binaryClasses U.analogSetups
 witness =
     record {
       accepted = refl;
-      start = world-for (restarted oneBinary) fits-restarted;
+      start = view-for (restarted oneBinary) fits-restarted;
       ran = run;
       stopped = refl;
       shown = refl;
       late = refl;
       still = refl;
-      confirmed = refl;
+      isConfirmed = refl;
       cleared = refl;
       repeated = refl;
       raised = ap length rows-after;

@@ -9,21 +9,21 @@ use Rattle.laws.specs.First.{first, _⇒_}
 use Rattle.laws.specs.Limits.{fragmentMax, eventsMax}
 use Rattle.laws.specs.Lists.{some, count, isNil, member, same}
 use Rattle.application.specs.Fragment.{objectsOf}
-use Rattle.points.specs.Inputs.{Inputs}
+use Rattle.points.specs.PointsView.{PointsView}
 use Rattle.points.specs.Setup.{freshBinary, freshAnalog}
 use Rattle.events.specs.declared.Event.{Event}
 use Rattle.events.specs.declared.Classes.{Classes}
-use Rattle.events.specs.declared.Pack.{Pack}
-use Rattle.events.specs.Placing.{asked, emptyPack, fits, packed}
-use Rattle.request.specs.declared.Header.{Header}
+use Rattle.events.specs.declared.Space.{Space}
+use Rattle.events.specs.Placing.{isAsked, emptySpace, fits, spaceAfter}
+use Rattle.read_headers.specs.declared.Header.{Header}
 use Rattle.static_objects.specs.Static.{staticBytes}
 use Rattle.outstation.specs.Setup.{Setup}
 use Rattle.outstation.specs.declared.Reading.{Reading}
 use Rattle.outstation.specs.Setup.{binaryClasses, analogSetups}
-use Rattle.outstation.specs.Readings.{badTime, Heard, hear}
+use Rattle.outstation.specs.Readings.{badTime, ReadingEffect, applyReading}
 use Rattle.read.specs.Response.{classesOf, roomBeside}
-use Rattle.outstation.specs.Requests.{Ask, malformed, confirms, reads, misreads, asks, ask, confirmed}
-use Rattle.outstation.specs.Step.{Call, reading, table, fragment, onHeard}
+use Rattle.outstation.specs.Requests.{Ask, malformed, confirms, reads, misreads, asks, ask, isConfirmed}
+use Rattle.outstation.specs.Step.{Call, reading, table, fragment, onEffect}
 
 -- ---- "It keeps the clock, each point as "Readings" needs it, the last request, the wait, a warning (its IIN2.3) and a row for
 -- each event raised: point, shown value and flags, time, mark."
@@ -42,13 +42,13 @@ pub data Wait : Type 0 where
   awaiting : (sequence time : ℕ) (rows : List ℕ) (upto number : ℕ) → Wait
 
 -- what all masters share: the confirm time, the clock and the points
-pub record Shared : Type 0 where
+pub record BookShared : Type 0 where
   pub confirmTime : ℕ
   pub clock : ℕ
-  pub inputs : Inputs
+  pub inputs : PointsView
 
 -- what belongs to one master; built: how many responses were newly built for it
-pub record Master : Type 0 where
+pub record BookMaster : Type 0 where
   pub rows : List Row
   pub wait : Wait
   pub warning : Bool
@@ -56,34 +56,34 @@ pub record Master : Type 0 where
   pub built : ℕ
 
 pub record Book : Type 0 where
-  pub shared : Shared
-  pub master : Master
+  pub shared : BookShared
+  pub master : BookMaster
 
 -- ---- one part set, all else as it was
 
-abbrev pub withClock : ℕ → Shared → Shared
+abbrev pub withClock : ℕ → BookShared → BookShared
 withClock time s = record { confirmTime = s .confirmTime; clock = time; inputs = s .inputs }
 
-abbrev pub withInputs : Inputs → Shared → Shared
+abbrev pub withInputs : PointsView → BookShared → BookShared
 withInputs i s = record { confirmTime = s .confirmTime; clock = s .clock; inputs = i }
 
-abbrev pub withRows : List Row → Master → Master
+abbrev pub withRows : List Row → BookMaster → BookMaster
 withRows rows m = record { rows = rows; wait = m .wait; warning = m .warning; last = m .last; built = m .built }
 
-abbrev pub withWait : Wait → Master → Master
+abbrev pub withWait : Wait → BookMaster → BookMaster
 withWait wait m = record { rows = m .rows; wait = wait; warning = m .warning; last = m .last; built = m .built }
 
-abbrev pub withWarning : Bool → Master → Master
+abbrev pub withWarning : Bool → BookMaster → BookMaster
 withWarning warning m = record { rows = m .rows; wait = m .wait; warning = warning; last = m .last; built = m .built }
 
 -- the last request, and how many responses were newly built with its own
-abbrev pub withRequest : (last : List ℕ) (built : ℕ) → Master → Master
+abbrev pub withRequest : (last : List ℕ) (built : ℕ) → BookMaster → BookMaster
 withRequest last built m = record { rows = m .rows; wait = m .wait; warning = m .warning; last = last; built = built }
 
-abbrev pub withShared : Shared → Book → Book
+abbrev pub withShared : BookShared → Book → Book
 withShared s b = record { shared = s; master = b .master }
 
-abbrev pub withMaster : Master → Book → Book
+abbrev pub withMaster : BookMaster → Book → Book
 withMaster m b = record { shared = b .shared; master = m }
 
 -- "an accepted one sets the clock"
@@ -125,82 +125,82 @@ rowEvent r = r .event
 -- response newly built, with the rows that it carries and its static part; another response newly built, without objects (a READ's
 -- fault, WRITE, an unknown function); a control request's newly built, the echo of these object bytes of the request; function 6,
 -- newly accepted and not answered; a repeat
-pub data Said : Type 0 where
-  takes : (taken refusal : ℕ) → Said
-  refuses : ℕ → Said
-  accepts : Said
-  carries : (rows : List ℕ) (static : List ℕ) → Said
-  plain : Said
-  echoes : (objects : List ℕ) → Said
-  unanswered : Said
-  repeats : Said
+pub data BookAnswer : Type 0 where
+  takes : (taken refusal : ℕ) → BookAnswer
+  refuses : ℕ → BookAnswer
+  accepts : BookAnswer
+  carries : (rows : List ℕ) (static : List ℕ) → BookAnswer
+  plain : BookAnswer
+  echoes : (objects : List ℕ) → BookAnswer
+  unanswered : BookAnswer
+  repeats : BookAnswer
 
 -- what happened: a row held when it was raised; one dropped; response k newly built with these rows; response k confirmed
-pub data Happening : Type 0 where
-  hold! : (row : ℕ) → Happening
-  drop! : (row : ℕ) → Happening
-  built! : (number : ℕ) (rows : List ℕ) → Happening
-  confirmed! : (number : ℕ) → Happening
+pub data HistoryEntry : Type 0 where
+  hold! : (row : ℕ) → HistoryEntry
+  drop! : (row : ℕ) → HistoryEntry
+  built! : (number : ℕ) (rows : List ℕ) → HistoryEntry
+  confirmed! : (number : ℕ) → HistoryEntry
 
 -- the book after a call, what it says of it, and what happened, newest first
 pub record Entry : Type 0 where
   pub book : Book
-  pub said : Said
-  pub news : List Happening
+  pub answer : BookAnswer
+  pub entries : List HistoryEntry
 
 -- "A call refused by the table below changes nothing"
 abbrev pub refusedEntry : ℕ → Book → Entry
-refusedEntry n b = record { book = b; said = refuses n; news = [] }
+refusedEntry n b = record { book = b; answer = refuses n; entries = [] }
 
 -- ---- readings: "A raised event is a new row, dropped if 256 are held, else held; a drop sets the warning."
 
-unfoldable pub full : Master → Bool
+unfoldable pub full : BookMaster → Bool
 full m = not (ltb (count rowHeld (m .rows)) eventsMax)
 
-unfoldable pub enterEvent : Event → Master → Master
+unfoldable pub enterEvent : Event → BookMaster → BookMaster
 enterEvent e m =
     cond (full m)
     (withWarning true (withRows (m .rows ++ (record { event = e; mark = dropped } ∷ [])) m))
     (withRows (m .rows ++ (record { event = e; mark = held } ∷ [])) m)
 
 -- a reading that is taken sets clock and points, and enters its event, if it raises one
-unfoldable pub enterReading : Book → Reading → Heard → Book
+unfoldable pub enterReading : Book → Reading → ReadingEffect → Book
 enterReading b r h =
     withShared (withInputs (h .inputs) (withClock (r .time) (b .shared)))
     (withMaster (cond (h .raised) (enterEvent (h .event) (b .master)) (b .master)) b)
 
-unfoldable pub readingNews : Master → Heard → List Happening
-readingNews m h = cond (h .raised) (cond (full m) (drop! (length (m .rows)) ∷ []) (hold! (length (m .rows)) ∷ [])) []
+unfoldable pub readingEntries : BookMaster → ReadingEffect → List HistoryEntry
+readingEntries m h = cond (h .raised) (cond (full m) (drop! (length (m .rows)) ∷ []) (hold! (length (m .rows)) ∷ [])) []
 
 unfoldable pub readingEntry : Reading → Book → Entry
 readingEntry r b =
-    onHeard (hear (b .shared .clock) (b .shared .inputs) r)
-    (λ h. record { book = enterReading b r h; said = takes 1 0; news = readingNews (b .master) h })
-    (λ n. record { book = b; said = takes 0 n; news = [] })
+    onEffect (applyReading (b .shared .clock) (b .shared .inputs) r)
+    (λ h. record { book = enterReading b r h; answer = takes 1 0; entries = readingEntries (b .master) h })
+    (λ n. record { book = b; answer = takes 0 n; entries = [] })
 
 -- "A table counts as its readings up to a refused one": from the k-th on, the news so far handed on
-unfoldable pub tableFrom : List Reading → ℕ → List Happening → Book → Entry
-tableFrom [] k ns b = record { book = b; said = takes k 0; news = ns }
+unfoldable pub tableFrom : List Reading → ℕ → List HistoryEntry → Book → Entry
+tableFrom [] k ns b = record { book = b; answer = takes k 0; entries = ns }
 tableFrom (r ∷ rs) k ns b =
-    onHeard (hear (b .shared .clock) (b .shared .inputs) r)
-    (λ h. tableFrom rs (suc k) (readingNews (b .master) h ++ ns) (enterReading b r h))
-    (λ n. record { book = b; said = takes k n; news = ns })
+    onEffect (applyReading (b .shared .clock) (b .shared .inputs) r)
+    (λ h. tableFrom rs (suc k) (readingEntries (b .master) h ++ ns) (enterReading b r h))
+    (λ n. record { book = b; answer = takes k n; entries = ns })
 
 -- ---- requests: "Requests except repeats end the wait. A faultless READ carries the held rows that its rule picks; with CON it
 -- waits for its CONFIRM."
 
 -- the numbers of the rows that a READ picks, from row i on: held, asked for, oldest first, up to the first that does not fit
-abbrev pub picks : Classes → Pack → ℕ → List Row → List ℕ
+abbrev pub picks : Classes → Space → ℕ → List Row → List ℕ
 picks m k i [] = []
 picks m k i (r ∷ rs) =
     first
-    (not (rowHeld r && asked m (r .event .class)) ⇒ picks m k (suc i) rs
+    (not (rowHeld r && isAsked m (r .event .class)) ⇒ picks m k (suc i) rs
     ∷ not (fits k (r .event)) ⇒ []
     ∷ [])
-    (i ∷ picks m (packed k (r .event)) (suc i) rs)
+    (i ∷ picks m (spaceAfter k (r .event)) (suc i) rs)
 
 abbrev pub picked : Book → List Header → List ℕ
-picked b hs = picks (classesOf hs) (emptyPack (roomBeside (b .shared .inputs) hs)) 0 (b .master .rows)
+picked b hs = picks (classesOf hs) (emptySpace (roomBeside (b .shared .inputs) hs)) 0 (b .master .rows)
 
 -- CON is set where it carries a row or shows the warning
 abbrev pub readWait : Book → ℕ → ℕ → List Header → Wait
@@ -211,27 +211,27 @@ unfoldable pub readEntry : Book → ℕ → ℕ → List ℕ → List Header →
 readEntry b q time f hs =
     record {
       book = atTime time (withMaster (withWait (readWait b q time hs) (withRequest f (suc (b .master .built)) (b .master))) b);
-      said = carries (picked b hs) (staticBytes (b .shared .inputs) hs);
-      news = built! (b .master .built) (picked b hs) ∷ [];
+      answer = carries (picked b hs) (staticBytes (b .shared .inputs) hs);
+      entries = built! (b .master .built) (picked b hs) ∷ [];
     }
 
 -- a request that is no READ and no repeat, by its function: "Function 6 is never answered"; the answer to 3 to 5 "echoes header and
 -- objects with status"
-unfoldable pub saidOf : (function : ℕ) (objects : List ℕ) → Said
-saidOf function o = first (eqb function 6 ⇒ unanswered ∷ member function (3 ∷ 4 ∷ 5 ∷ []) ⇒ echoes o ∷ []) plain
+unfoldable pub bookAnswerOf : (function : ℕ) (objects : List ℕ) → BookAnswer
+bookAnswerOf function o = first (eqb function 6 ⇒ unanswered ∷ member function (3 ∷ 4 ∷ 5 ∷ []) ⇒ echoes o ∷ []) plain
 
 -- a request that is no faultless READ and no repeat, and what is said of it; answered: it has a response
-unfoldable pub otherEntry : Book → (answered : Bool) → Said → ℕ → List ℕ → Entry
-otherEntry b answered said time f =
+unfoldable pub otherEntry : Book → (answered : Bool) → BookAnswer → ℕ → List ℕ → Entry
+otherEntry b answered answer time f =
     record {
       book = atTime time (withMaster (withWait idle (withRequest f (cond answered (suc (b .master .built)) (b .master .built)) (b .master))) b);
-      said = said;
-      news = cond answered (built! (b .master .built) [] ∷ []) [];
+      answer = answer;
+      entries = cond answered (built! (b .master .built) [] ∷ []) [];
     }
 
 -- "A repeat's answer is not newly built."
 unfoldable pub repeatEntry : Book → ℕ → Entry
-repeatEntry b time = record { book = atTime time b; said = repeats; news = [] }
+repeatEntry b time = record { book = atTime time b; answer = repeats; entries = [] }
 
 -- ---- CONFIRM: "An accepted CONFIRM ends the wait, marks those rows released and, with no drop since that response, clears the
 -- warning."
@@ -245,7 +245,7 @@ release ws i (r ∷ rs) = record { event = r .event; mark = cond (member i ws) r
 abbrev pub dropSince : ℕ → List Row → Bool
 dropSince n rows = some rowDropped (drop n rows)
 
-abbrev pub confirmedMaster : List ℕ → (upto : ℕ) → Master → Master
+abbrev pub confirmedMaster : List ℕ → (upto : ℕ) → BookMaster → BookMaster
 confirmedMaster ws upto m =
     withWait idle
     (withWarning (cond (dropSince upto (m .rows)) (m .warning) false)
@@ -255,14 +255,14 @@ unfoldable pub confirmedEntry : Book → ℕ → List ℕ → ℕ → ℕ → En
 confirmedEntry b time ws upto number =
     record {
       book = atTime time (withMaster (confirmedMaster ws upto (b .master)) b);
-      said = accepts;
-      news = confirmed! number ∷ [];
+      answer = accepts;
+      entries = confirmed! number ∷ [];
     }
 
 unfoldable pub confirmEntry : Book → Wait → ℕ → Bool → ℕ → Entry
 confirmEntry b idle q uns time = refusedEntry 32 b
 confirmEntry b (awaiting awaited sent ws upto number) q uns time =
-    cond (confirmed (b .shared .confirmTime) q uns time awaited sent) (confirmedEntry b time ws upto number) (refusedEntry 32 b)
+    cond (isConfirmed (b .shared .confirmTime) q uns time awaited sent) (confirmedEntry b time ws upto number) (refusedEntry 32 b)
 
 -- ---- fragments
 
@@ -272,7 +272,7 @@ askEntry (confirms q uns) b time f = confirmEntry b (b .master .wait) q uns time
 askEntry (reads q hs) b time f = readEntry b q time f hs
 askEntry (misreads q n) b time f = otherEntry b true plain time f
 askEntry (asks q function) b time f =
-    cond (same f (b .master .last)) (repeatEntry b time) (otherEntry b (not (eqb function 6)) (saidOf function (objectsOf f)) time f)
+    cond (same f (b .master .last)) (repeatEntry b time) (otherEntry b (not (eqb function 6)) (bookAnswerOf function (objectsOf f)) time f)
 
 unfoldable pub fragmentEntry : (time : ℕ) (bytes : List ℕ) (room : ℕ) → Book → Entry
 fragmentEntry time f room b =
@@ -288,8 +288,8 @@ enter (table rs) b = tableFrom rs 0 [] b
 enter (fragment time f room) b = fragmentEntry time f room b
 
 -- the book of a setup
-unfoldable pub opened : Setup → Book
-opened u =
+unfoldable pub bookOf : Setup → Book
+bookOf u =
     record {
       shared =
           record {

@@ -10,9 +10,9 @@ use Rattle.outstation.specs.Step.{Answer, Result}
 use Rattle.fragments.specs.declared.FragmentAnswer.{FragmentAnswer}
 use Rattle.fragments.specs.declared.FragmentAnswer.the-variants as Fs
 use Rattle.fragments.specs.declared.FragmentResult.{FragmentResult}
-use Rattle.fragments.specs.Given.{answerBy, sizeBy, sizeIn, Given, answeredBy}
+use Rattle.fragments.specs.FragmentMeets.{answerBy, sizeBy, sizeIn, FragmentMeets, answeredBy}
 use Rattle.c_api.specs.declared.FragmentWords.{FragmentWords}
-use Rattle.c_api.specs.Fragments.{answerWords, fragmentResult, HostGiven}
+use Rattle.c_api.specs.Fragments.{answerWords, fragmentResult, HostMeets}
 
 -- the number of bytes and the case are those of the step's answer
 answer-is : (a : FragmentAnswer) (d : List ℕ) (operated : List Crob) (x : Answer) → answerBy a d operated ≡ x → sizeBy a ≡ sizeIn x → answerWords a ≡ fragmentResult x
@@ -22,10 +22,10 @@ answer-is Fs.Confirmed d operated x e z = ap fragmentResult e
 answer-is Fs.Time d operated x e z = ap fragmentResult e
 answer-is Fs.Malformed d operated x e z = ap fragmentResult e
 answer-is Fs.NotConfirmed d operated x e z = ap fragmentResult e
-answer-is Fs.AnswerLent d operated x e z = ap fragmentResult e
+answer-is Fs.OutputTooSmall d operated x e z = ap fragmentResult e
 
-pub host-given : (o : Outstation) (t : FragmentResult) (m₁ : Lent) (before after : List ℕ) (x : Result) (a : FragmentWords) → Given o (answeredBy t m₁) before after x
-    → a ≡ answerWords (t .answer) → HostGiven o (record { head = t .head; operated = t .operated; answer = a }) m₁ before after x
+pub host-given : (o : Outstation) (t : FragmentResult) (m₁ : Lent) (before after : List ℕ) (x : Result) (a : FragmentWords) → FragmentMeets o (answeredBy t m₁) before after x
+    → a ≡ answerWords (t .answer) → HostMeets o (record { head = t .head; operated = t .operated; answer = a }) m₁ before after x
 host-given o t m₁ before after x a g e =
     record {
       state = g .state;

@@ -1,4 +1,4 @@
--- The laws of `SetupWords`, `AnalogSetupWords`, `Going` and `Restarted` as a walk uses them: the machine value (`val`), what whoever holds a
+-- The laws of `SetupWords`, `AnalogSetupWords`, `RestartProgress` and `Restarted` as a walk uses them: the machine value (`val`), what whoever holds a
 -- value knows (`Is`), that this tells the machine value, makes what the type owns, and is of the MIR type.
 -- Assumes nothing, but for `copyR` and `typed`, which assume `Given`.
 use mathlib.Core.List.{List, [], _∷_}
@@ -12,14 +12,14 @@ use denote.Laws.{Is, Tells, Makes, Copy}
 use denote.Struct.Laws as LL
 use Rattle.restart.specs.declared.SetupWords.{SetupWords}
 use Rattle.restart.specs.declared.AnalogSetupWords.{AnalogSetupWords}
-use Rattle.restart.specs.declared.Going.{Going}
+use Rattle.restart.specs.declared.RestartProgress.{RestartProgress}
 use Rattle.restart.specs.declared.Restarted.{Restarted}
 use Rattle.restart.proofs.SetupWords as S
 use Rattle.restart.proofs.SetupWords.Laws as S′
 use Rattle.restart.proofs.AnalogSetupWords as R
 use Rattle.restart.proofs.AnalogSetupWords.Laws as R′
-use Rattle.restart.proofs.Going as G
-use Rattle.restart.proofs.Going.Laws as G′
+use Rattle.restart.proofs.RestartProgress as G
+use Rattle.restart.proofs.RestartProgress.Laws as G′
 use Rattle.restart.proofs.Restarted as D
 use Rattle.restart.proofs.Restarted.Laws as D′
 
@@ -29,7 +29,7 @@ valS = LL.val S.the-type S′.the-laws
 abbrev pub valR : AnalogSetupWords → Val
 valR = LL.val R.the-type R′.the-laws
 
-abbrev pub valG : Going → Val
+abbrev pub valG : RestartProgress → Val
 valG = LL.val G.the-type G′.the-laws
 
 abbrev pub valD : Restarted → Val
@@ -44,7 +44,7 @@ IsS s = Is S.the-row s (valS s ∷ [])
 abbrev pub IsR : AnalogSetupWords → Type 0
 IsR r = Is R.the-row r (valR r ∷ [])
 
-abbrev pub IsG : Going → Type 0
+abbrev pub IsG : RestartProgress → Type 0
 IsG g = Is G.the-row g (valG g ∷ [])
 
 abbrev pub IsD : Restarted → Type 0
@@ -85,7 +85,7 @@ module _ {M : Type 1} (𝓤 : URA M) (H : Heap 𝓤) (A : Atoms 𝓤) where
     pub typedR : (r : AnalogSetupWords) → IsR r → Holds (hasTy R′.mir (valR r)) × WT (valR r)
     typedR r is = LL.lawful R.the-type R′.the-laws 𝓤 H A W .typed r _ is .0
 
-    pub typedG : (g : Going) → IsG g → Holds (hasTy G′.mir (valG g)) × WT (valG g)
+    pub typedG : (g : RestartProgress) → IsG g → Holds (hasTy G′.mir (valG g)) × WT (valG g)
     typedG g is = LL.lawful G.the-type G′.the-laws 𝓤 H A W .typed g _ is .0
 
     pub typedD : (d : Restarted) → IsD d → Holds (hasTy D′.mir (valD d)) × WT (valD d)

@@ -203,7 +203,7 @@ pub fn held(
     if !s.have {
         return unit::told_all(u, out, at, b"none");
     }
-    let t = outstation::status_of(u.head);
+    let t = outstation::buffer_status(u.head);
     let b = held::put_held(events, t.count, out, at);
     unit::told_all(u, out, b, b"")
 }

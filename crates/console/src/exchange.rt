@@ -145,7 +145,7 @@ fn outcome_of(a: FragmentAnswer) -> Outcome {
         FragmentAnswer::Time => answers::refused(1),
         FragmentAnswer::Malformed => answers::refused(31),
         FragmentAnswer::NotConfirmed => answers::refused(32),
-        FragmentAnswer::AnswerLent => answers::refused(33),
+        FragmentAnswer::OutputTooSmall => answers::refused(33),
     }
 }
 

@@ -1,13 +1,13 @@
 // What is kept from call to call, beside the arrays that are lent.
 use line_calls::answers;
 use line_calls::session;
-use line_calls::session::Session;
+use line_calls::session::LineSession;
 use outstation::Head;
 use restart::SetupWords;
 
 // The session, the outstation's head, and how long the line was that set it up.
 pub struct Unit {
-    pub session: Session,
+    pub session: LineSession,
     pub head: Head,
     pub setup_len: usize,
 }
@@ -24,7 +24,7 @@ pub fn fresh() -> Unit {
             outputs: 0,
         },
         0,
-        restart::Going { at: 0, refusal: 5 },
+        restart::RestartProgress { at: 0, refusal: 5 },
     );
     let head = r.head;
     Unit {

@@ -230,7 +230,7 @@ fn status(c: Crob, outputs: u16, again: bool) -> u8
 }
 
 // The status of each object, for SELECT and direct operation.
-pub fn judged(cs: Crobs, outputs: u16) -> [u8; OBJECTS_MAX]
+pub fn statuses(cs: Crobs, outputs: u16) -> [u8; OBJECTS_MAX]
     ensures { λ r. ⌜ (take (cs .count) r ≡ statuses outputs [] (listOf cs)) × (length r ≡ objectsMax) ⌝ }
 {
     let n = filled(cs.count);

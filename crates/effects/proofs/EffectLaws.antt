@@ -10,59 +10,59 @@ use lib.ListN.{length}
 use Rattle.application.specs.declared.Fault.the-variants.{FunctionUnknown}
 use Rattle.application.specs.declared.ApplicationSequence.{ApplicationSequence}
 use Rattle.control.specs.Objects.{answerMax}
-use Rattle.select.specs.declared.ControlFunction.{ControlFunction}
-use Rattle.select.specs.declared.ControlFunction.the-variants.{Select, Operate, DirectOperate, DirectOperateNoResponse}
-use Rattle.repeat.proofs.ReplyLaws.{echo-most, unanswered-echo}
-use Rattle.events.specs.Queue.{Queue, cleared}
+use Rattle.select_latch.specs.declared.ControlFunction.{ControlFunction}
+use Rattle.select_latch.specs.declared.ControlFunction.the-variants.{Select, Operate, DirectOperate, DirectOperateNoResponse}
+use Rattle.last_request.proofs.ReplyLaws.{echo-most, unanswered-echo}
+use Rattle.events.specs.BufferView.{BufferView, cleared}
 use Rattle.outstation.specs.declared.Wait.{Wait}
 use Rattle.outstation.specs.declared.Wait.the-variants.{Idle, Awaiting}
-use Rattle.outstation.specs.Requests.{confirmed}
-use Rattle.outstation.specs.World.{World}
-use Rattle.outstation.specs.Step.{Result, refusal, controlDeed, writeDeed, plainDeed, deedBy, confirmedStep, confirmStep}
+use Rattle.outstation.specs.Requests.{isConfirmed}
+use Rattle.outstation.specs.OutstationView.{OutstationView}
+use Rattle.outstation.specs.Step.{Result, refusal, controlRequestEffect, writeEffect, plainEffect, effectBy, confirmedStep, confirmStep}
 use Rattle.effects.specs.declared.Confirmation.{Confirmation}
-use Rattle.effects.specs.declared.Deed.{Deed}
-use Rattle.effects.specs.declared.Seen.{Seen}
-use Rattle.effects.specs.Effects.{WorkedWith, seenWorld, confirmBy, Confirms}
+use Rattle.effects.specs.declared.RequestEffect.{RequestEffect}
+use Rattle.effects.specs.declared.RequestContext.{RequestContext}
+use Rattle.effects.specs.Effects.{EffectMeetsWith, contextView, confirmBy, Confirms}
 
 -- ---- a CONFIRM
 
-module _ (w : World) (v : Wait) (q : ℕ) (uns : Bool) (time : ℕ) where
+module _ (w : OutstationView) (v : Wait) (q : ℕ) (uns : Bool) (time : ℕ) where
   pub confirm-idle : v ≡ Idle → confirmStep w v q uns time ≡ refusal 32 w
   unfolding confirmStep
   confirm-idle e = rw e
 
-  module _ (awaited : ApplicationSequence) (sent : ℕ) (shown since : Bool) (e : v ≡ Awaiting awaited sent shown since) (limit : ℕ)
+  module _ (awaited : ApplicationSequence) (sent : ℕ) (showedOverflow droppedSince : Bool) (e : v ≡ Awaiting awaited sent showedOverflow droppedSince) (limit : ℕ)
       (same : w .shared .confirmTime ≡ limit) where
-    pub confirm-late : confirmed limit q uns time (awaited .0) sent ≡ false → confirmStep w v q uns time ≡ refusal 32 w
+    pub confirm-late : isConfirmed limit q uns time (awaited .0) sent ≡ false → confirmStep w v q uns time ≡ refusal 32 w
     unfolding confirmStep
     confirm-late t = rw (e, same, t)
 
-    pub confirm-good : confirmed limit q uns time (awaited .0) sent ≡ true → confirmStep w v q uns time ≡ confirmedStep w time shown since
+    pub confirm-good : isConfirmed limit q uns time (awaited .0) sent ≡ true → confirmStep w v q uns time ≡ confirmedStep w time showedOverflow droppedSince
     unfolding confirmStep
     confirm-good t = rw (e, same, t)
 
 -- the step of a CONFIRM, by what it comes to
-pub confirm-given : (w : World) (P : Result → Type 0) (v : Wait) (q : ℕ) (uns : Bool) (time : ℕ) (x y : Confirmation)
+pub confirm-given : (w : OutstationView) (P : Result → Type 0) (v : Wait) (q : ℕ) (uns : Bool) (time : ℕ) (x y : Confirmation)
     → Confirms x (w .shared .confirmTime) v q uns time → x ≡ y → P (confirmBy y w time) → P (confirmStep w v q uns time)
 confirm-given w P v q uns time x y is e h = subst P (sym (is w refl ∙ ap (λ (z : Confirmation). confirmBy z w time) e)) h
 
--- ---- a deed's objects
+-- ---- an effect's objects
 
 -- an answer that is kept has at most 113 bytes
-pub objects-most : (w : World) (q function time : ℕ) (o : List ℕ) → length (deedBy w q function time o .objects) ≤ 109
+pub objects-most : (w : OutstationView) (q function time : ℕ) (o : List ℕ) → length (effectBy w q function time o .objects) ≤ 109
 objects-most w q function time o = go (eqb function 2) (eqb function 3) (eqb function 4) (eqb function 5) (eqb function 6)
   where
-    most : (f : ControlFunction) → length (controlDeed w f q time o .objects) ≤ 109
-    most f = echo-most (w .shared .outputs) (w .shared .armTime) (w .master .exchange .latch) f q time o
+    most : (f : ControlFunction) → length (controlRequestEffect w f q time o .objects) ≤ 109
+    most f = echo-most (w .shared .outputs) (w .shared .armTime) (w .master .session .latch) f q time o
 
     go : (a b c d e : Bool)
         → length
-        (cond a (writeDeed w o)
-        (cond b (controlDeed w Select q time o)
-        (cond c (controlDeed w Operate q time o)
-        (cond d (controlDeed w DirectOperate q time o)
-        (cond e (controlDeed w DirectOperateNoResponse q time o)
-        (plainDeed w FunctionUnknown (w .master .exchange .restarted)))))) .objects) ≤ 109
+        (cond a (writeEffect w o)
+        (cond b (controlRequestEffect w Select q time o)
+        (cond c (controlRequestEffect w Operate q time o)
+        (cond d (controlRequestEffect w DirectOperate q time o)
+        (cond e (controlRequestEffect w DirectOperateNoResponse q time o)
+        (plainEffect w FunctionUnknown (w .master .session .restarted)))))) .objects) ≤ 109
     go true b c d e = omega arith
     go false true c d e = most Select
     go false false true d e = most Operate
@@ -71,23 +71,23 @@ objects-most w q function time o = go (eqb function 2) (eqb function 3) (eqb fun
     go false false false false false = omega arith
 
 -- function 6 is never answered, so it has no objects
-pub silent-objects : (w : World) (q function time : ℕ) (o : List ℕ) → function ≡ 6 → deedBy w q function time o .objects ≡ []
+pub silent-objects : (w : OutstationView) (q function time : ℕ) (o : List ℕ) → function ≡ 6 → effectBy w q function time o .objects ≡ []
 silent-objects w q function time o e =
-    ap (λ (n : ℕ). deedBy w q n time o .objects) e
-    ∙ unanswered-echo (w .shared .outputs) (w .shared .armTime) (w .master .exchange .latch) DirectOperateNoResponse q time o refl
+    ap (λ (n : ℕ). effectBy w q n time o .objects) e
+    ∙ unanswered-echo (w .shared .outputs) (w .shared .armTime) (w .master .session .latch) DirectOperateNoResponse q time o refl
 
 -- the events that a request other than READ leaves
-pub deed-queue : (w : World) (q function time : ℕ) (o : List ℕ) → cleared (w .master .queue) ≡ deedBy w q function time o .queue
-deed-queue w q function time o = go (eqb function 2) (eqb function 3) (eqb function 4) (eqb function 5) (eqb function 6)
+pub effect-buffer : (w : OutstationView) (q function time : ℕ) (o : List ℕ) → cleared (w .master .buffer) ≡ effectBy w q function time o .buffer
+effect-buffer w q function time o = go (eqb function 2) (eqb function 3) (eqb function 4) (eqb function 5) (eqb function 6)
   where
     go : (a b c d e : Bool)
-        → cleared (w .master .queue)
-        ≡ (cond a (writeDeed w o)
-        (cond b (controlDeed w Select q time o)
-        (cond c (controlDeed w Operate q time o)
-        (cond d (controlDeed w DirectOperate q time o)
-        (cond e (controlDeed w DirectOperateNoResponse q time o)
-        (plainDeed w FunctionUnknown (w .master .exchange .restarted)))))) .queue)
+        → cleared (w .master .buffer)
+        ≡ (cond a (writeEffect w o)
+        (cond b (controlRequestEffect w Select q time o)
+        (cond c (controlRequestEffect w Operate q time o)
+        (cond d (controlRequestEffect w DirectOperate q time o)
+        (cond e (controlRequestEffect w DirectOperateNoResponse q time o)
+        (plainEffect w FunctionUnknown (w .master .session .restarted)))))) .buffer)
     go true b c d e = refl
     go false true c d e = refl
     go false false true d e = refl
@@ -96,16 +96,16 @@ deed-queue w q function time o = go (eqb function 2) (eqb function 3) (eqb funct
     go false false false false false = refl
 
 -- it awaits nothing
-pub deed-idle : (w : World) (q function time : ℕ) (o : List ℕ) → deedBy w q function time o .wait ≡ Idle
-deed-idle w q function time o = go (eqb function 2) (eqb function 3) (eqb function 4) (eqb function 5) (eqb function 6)
+pub effect-idle : (w : OutstationView) (q function time : ℕ) (o : List ℕ) → effectBy w q function time o .wait ≡ Idle
+effect-idle w q function time o = go (eqb function 2) (eqb function 3) (eqb function 4) (eqb function 5) (eqb function 6)
   where
     go : (a b c d e : Bool)
-        → (cond a (writeDeed w o)
-        (cond b (controlDeed w Select q time o)
-        (cond c (controlDeed w Operate q time o)
-        (cond d (controlDeed w DirectOperate q time o)
-        (cond e (controlDeed w DirectOperateNoResponse q time o)
-        (plainDeed w FunctionUnknown (w .master .exchange .restarted)))))) .wait)
+        → (cond a (writeEffect w o)
+        (cond b (controlRequestEffect w Select q time o)
+        (cond c (controlRequestEffect w Operate q time o)
+        (cond d (controlRequestEffect w DirectOperate q time o)
+        (cond e (controlRequestEffect w DirectOperateNoResponse q time o)
+        (plainEffect w FunctionUnknown (w .master .session .restarted)))))) .wait)
         ≡ Idle
     go true b c d e = refl
     go false true c d e = refl
@@ -115,8 +115,8 @@ deed-idle w q function time o = go (eqb function 2) (eqb function 3) (eqb functi
     go false false false false false = refl
 
 -- its answer has at most 113 bytes
-pub deed-small : (seen : Seen) (q function time : ℕ) (o : List ℕ) (r : Deed) (b a : List ℕ) → WorkedWith r b a (λ u. deedBy (seenWorld seen u) q function time o)
+pub effect-small : (seen : RequestContext) (q function time : ℕ) (o : List ℕ) (r : RequestEffect) (b a : List ℕ) → EffectMeetsWith r b a (λ u. effectBy (contextView seen u) q function time o)
     → r .size ≤ answerMax
-deed-small seen q function time o r b a worked =
-    let u : Queue = record { held = []; overflow = false } in
-    omega (arith, objects-most (seenWorld seen u) q function time o, worked u .size)
+effect-small seen q function time o r b a worked =
+    let u : BufferView = record { held = []; overflow = false } in
+    omega (arith, objects-most (contextView seen u) q function time o, worked u .size)

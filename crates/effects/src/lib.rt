@@ -5,24 +5,27 @@ ghost use mathlib.Core.Bool.{cond, false, _||_, _&&_, not};
 ghost use Prim.Native.Nat.{_≤_};
 ghost use lib.ListN.{length};
 ghost use Rattle.laws.specs.Limits.{fragmentMax};
-ghost use Rattle.outstation.specs.Requests.{confirmed};
-ghost use Rattle.outstation.specs.Step.{plainDeed, controlDeed, deedBy};
-ghost use Rattle.effects.specs.Effects.{WorkedWith, WorkedStill, Confirms, seenWorld, writeDeedBy};
+ghost use Rattle.outstation.specs.Requests.{isConfirmed};
+ghost use Rattle.outstation.specs.Step.{plainEffect, controlRequestEffect, effectBy};
+ghost use Rattle.effects.specs.Effects.{EffectMeetsWith, EffectMeetsStill, Confirms, contextView, writeEffectBy};
 use application::ApplicationSequence;
 use application::Fault;
 use control::Crobs;
 use outstation::Wait;
-use select::ControlFunction;
-use select::Latch;
+use select_latch::ControlFunction;
+use select_latch::Latch;
 
 // What a CONFIRM comes to; of one that is accepted, whether its response showed IIN2.3 and whether an event was dropped since.
 pub enum Confirmation {
     Refused,
-    Accepted { shown: bool, since: bool },
+    Accepted {
+        showed_overflow: bool,
+        dropped_since: bool,
+    },
 }
 
 // What a request other than READ sees of the state.
-pub struct Seen {
+pub struct RequestContext {
     pub outputs: u16,
     pub arm_time: u64,
     pub restarted: bool,
@@ -30,7 +33,7 @@ pub struct Seen {
 }
 
 // What a request does beside the events, before its answer is put together.
-pub struct Deed {
+pub struct RequestEffect {
     pub fault: Fault,
     pub con: bool,
     pub size: usize,
@@ -43,7 +46,7 @@ pub struct Deed {
 // ---- CONFIRM
 
 // Whether a CONFIRM is the one awaited, and in time.
-fn in_time(
+fn is_confirmed(
     confirm_time: u64,
     q: ApplicationSequence,
     uns: bool,
@@ -51,7 +54,7 @@ fn in_time(
     awaited: ApplicationSequence,
     sent: u64,
 ) -> bool
-    ensures { λ r. ⌜ r ≡ confirmed «confirm_time» (q .0) uns time (awaited .0) sent ⌝ }
+    ensures { λ r. ⌜ r ≡ isConfirmed «confirm_time» (q .0) uns time (awaited .0) sent ⌝ }
 {
     if uns {
         return false;
@@ -63,11 +66,11 @@ fn in_time(
 }
 
 // IIN2.3 after an accepted CONFIRM.
-pub fn still_dropped(shown: bool, since: bool, overflow: bool) -> bool
-    ensures { λ r. ⌜ r ≡ cond (shown && not since) false overflow ⌝ }
+pub fn still_dropped(showed_overflow: bool, dropped_since: bool, overflow: bool) -> bool
+    ensures { λ r. ⌜ r ≡ cond («showed_overflow» && not «dropped_since») false overflow ⌝ }
 {
-    if shown {
-        if since { overflow } else { false }
+    if showed_overflow {
+        if dropped_since { overflow } else { false }
     } else {
         overflow
     }
@@ -88,11 +91,14 @@ pub fn confirm(
         Wait::Awaiting {
             sequence,
             time: sent,
-            shown,
-            since,
+            showed_overflow,
+            dropped_since,
         } => {
-            if in_time(confirm_time, q, uns, time, sequence, sent) {
-                return Confirmation::Accepted { shown, since };
+            if is_confirmed(confirm_time, q, uns, time, sequence, sent) {
+                return Confirmation::Accepted {
+                    showed_overflow,
+                    dropped_since,
+                };
             }
             Confirmation::Refused
         }
@@ -102,13 +108,13 @@ pub fn confirm(
 // ---- what a request does
 
 // A request without objects in its answer: it ends the wait and empties the latch.
-fn plain_deed(fault: Fault, restarted: bool) -> Deed
-    ensures { λ r. ⌜ WorkedStill r (λ w. plainDeed w fault restarted) ⌝ }
+fn plain_effect(fault: Fault, restarted: bool) -> RequestEffect
+    ensures { λ r. ⌜ EffectMeetsStill r (λ w. plainEffect w fault restarted) ⌝ }
 {
     let w = Wait::Idle;
     let none = control::none();
-    let latch = select::empty();
-    Deed {
+    let latch = select_latch::empty();
+    RequestEffect {
         fault: fault,
         con: false,
         size: 4,
@@ -119,35 +125,35 @@ fn plain_deed(fault: Fault, restarted: bool) -> Deed
     }
 }
 
-fn write_deed(restarted: bool, s: &[u8]) -> Deed
-    ensures { λ r. ⌜ WorkedStill r (λ w. writeDeedBy w restarted (now (s .entry))) ⌝ }
+fn write_effect(restarted: bool, s: &[u8]) -> RequestEffect
+    ensures { λ r. ⌜ EffectMeetsStill r (λ w. writeEffectBy w restarted (now (s .entry))) ⌝ }
 {
     let fault = application::write_fault(s);
     if application::is_faultless(fault) {
-        plain_deed(fault, false)
+        plain_effect(fault, false)
     } else {
-        plain_deed(fault, restarted)
+        plain_effect(fault, restarted)
     }
 }
 
-fn control_deed(
-    seen: Seen,
+fn control_request_effect(
+    seen: RequestContext,
     g: ControlFunction,
     q: ApplicationSequence,
     time: u64,
     s: &[u8],
     out: &mut [u8],
-) -> Deed
+) -> RequestEffect
     requires { ⌜ fragmentMax ≤ length (now out) ⌝ }
-    ensures { λ r. ⌜ WorkedWith r (now (out .entry)) (now (out .exit)) (λ k. controlDeed (seenWorld seen k) g (q .0) time (now (s .entry))) ⌝ }
+    ensures { λ r. ⌜ EffectMeetsWith r (now (out .entry)) (now (out .exit)) (λ k. controlRequestEffect (contextView seen k) g (q .0) time (now (s .entry))) ⌝ }
 {
     let latch = seen.latch;
-    let c = select::control(latch, seen.outputs, seen.arm_time, g, q, time, s, out);
+    let c = select_latch::control_effect(latch, seen.outputs, seen.arm_time, g, q, time, s, out);
     let w = Wait::Idle;
     let fault = c.fault;
     let operated = c.carried;
     let after = c.latch;
-    Deed {
+    RequestEffect {
         fault: fault,
         con: false,
         size: 4 + c.len,
@@ -165,31 +171,31 @@ pub fn either(a: bool, b: bool) -> bool
 }
 
 // What a request other than READ does, by its function, of the bytes after control and function.
-pub fn deed_of(
-    seen: Seen,
+pub fn effect_by(
+    seen: RequestContext,
     q: ApplicationSequence,
     function: u8,
     time: u64,
     s: &[u8],
     out: &mut [u8],
-) -> Deed
+) -> RequestEffect
     requires { ⌜ fragmentMax ≤ length (now out) ⌝ }
-    ensures { λ r. ⌜ WorkedWith r (now (out .entry)) (now (out .exit)) (λ k. deedBy (seenWorld seen k) (q .0) function time (now (s .entry))) ⌝ }
+    ensures { λ r. ⌜ EffectMeetsWith r (now (out .entry)) (now (out .exit)) (λ k. effectBy (contextView seen k) (q .0) function time (now (s .entry))) ⌝ }
 {
     if function == 2 {
-        return write_deed(seen.restarted, s);
+        return write_effect(seen.restarted, s);
     }
     if function == 3 {
-        return control_deed(seen, ControlFunction::Select, q, time, s, out);
+        return control_request_effect(seen, ControlFunction::Select, q, time, s, out);
     }
     if function == 4 {
-        return control_deed(seen, ControlFunction::Operate, q, time, s, out);
+        return control_request_effect(seen, ControlFunction::Operate, q, time, s, out);
     }
     if function == 5 {
-        return control_deed(seen, ControlFunction::DirectOperate, q, time, s, out);
+        return control_request_effect(seen, ControlFunction::DirectOperate, q, time, s, out);
     }
     if function == 6 {
-        return control_deed(
+        return control_request_effect(
             seen,
             ControlFunction::DirectOperateNoResponse,
             q,
@@ -198,5 +204,5 @@ pub fn deed_of(
             out,
         );
     }
-    plain_deed(Fault::FunctionUnknown, seen.restarted)
+    plain_effect(Fault::FunctionUnknown, seen.restarted)
 }

@@ -11,13 +11,13 @@ use Rattle.octets.specs.Bytes.{splice, le}
 use Rattle.octets.proofs.Splice.{splice-append, splice-cons, splice-nil}
 use Rattle.octets.proofs.Le.{length-le}
 use Rattle.points.specs.declared.Value.{Value}
-use Rattle.points.specs.declared.Value.the-variants.{Long, Short, Real}
+use Rattle.points.specs.declared.Value.the-variants.{Int32, Int16, Float32}
 use Rattle.objects.specs.Values.{valueBytes, valueSize, stateByte}
 use Rattle.objects.proofs.ValueLaws.{length-value}
 use Rattle.objects.specs.Runs.{lead}
 use Rattle.objects.proofs.RunLaws.{lead-nil, lead-other}
-use Rattle.events.specs.Placing.{kindOf, shownKind, sizeOf}
-use Rattle.events.specs.Queue.{isCarried}
+use Rattle.events.specs.Placing.{kindOf, shownKind, objectSize}
+use Rattle.events.specs.BufferView.{isCarried}
 use Rattle.events.specs.declared.Shown.{Shown}
 use Rattle.events.specs.declared.Shown.the-variants.{State, Analog}
 use Rattle.events.specs.declared.Event.{Event}
@@ -63,14 +63,14 @@ module _ (e : Event) where
   length-analog v h = length-event ∙ ap (λ (s : Shown). 9 + length (shownBytes s)) h ∙ ap (λ (n : ℕ). 9 + n) (length-value v)
 
   -- the size that the selection counts
-  pub length-size : length (eventBytes e) ≡ sizeOf (kindOf e)
+  pub length-size : length (eventBytes e) ≡ objectSize (kindOf e)
   length-size = length-event ∙ go (e .shown)
     where
-      go : (s : Shown) → 9 + length (shownBytes s) ≡ sizeOf (shownKind s)
+      go : (s : Shown) → 9 + length (shownBytes s) ≡ objectSize (shownKind s)
       go (State on) = refl
-      go (Analog (Long z)) = ap (λ (n : ℕ). 9 + n) (length-value (Long z))
-      go (Analog (Short z)) = ap (λ (n : ℕ). 9 + n) (length-value (Short z))
-      go (Analog (Real x)) = ap (λ (n : ℕ). 9 + n) (length-value (Real x))
+      go (Analog (Int32 z)) = ap (λ (n : ℕ). 9 + n) (length-value (Int32 z))
+      go (Analog (Int16 z)) = ap (λ (n : ℕ). 9 + n) (length-value (Int16 z))
+      go (Analog (Float32 x)) = ap (λ (n : ℕ). 9 + n) (length-value (Float32 x))
 
   pub state-put : (d d1 d3 : List ℕ) (at f : ℕ) (on : Bool) → e .shown ≡ State on → f ≡ stateByte on (e .flags)
       → d1 ≡ splice d at (le 2 (e .point)) → d3 ≡ splice (set d1 (at + 2) f) (at + 3) (le 6 (e .time))
@@ -111,9 +111,9 @@ module _ (h : Held) (hs : List Held) where
 
 pub kind-some : (s : Shown) → shownKind s ≡ 0 → ⊥
 kind-some (State on) h = omega arith
-kind-some (Analog (Long z)) h = omega arith
-kind-some (Analog (Short z)) h = omega arith
-kind-some (Analog (Real x)) h = omega arith
+kind-some (Analog (Int32 z)) h = omega arith
+kind-some (Analog (Int16 z)) h = omega arith
+kind-some (Analog (Float32 x)) h = omega arith
 
 none-of : (es : List Event) → lead 0 (map eventObject es) ≡ 0
 none-of [] = lead-nil 0

@@ -7,7 +7,7 @@ use Prim.Native.Nat.{ℕ}
 use lib.IntN.{negsuc}
 use Rattle.laws.specs.Lists.{filter}
 use Rattle.octets.specs.Bytes.{le}
-use Rattle.points.specs.declared.Value.the-variants.{Short}
+use Rattle.points.specs.declared.Value.the-variants.{Int16}
 use Rattle.objects.specs.Runs.{runs, objectBytes, allBytes, encoded}
 use Rattle.events.specs.declared.Shown.the-variants.{State, Analog}
 use Rattle.events.specs.declared.Event.{Event}
@@ -17,7 +17,7 @@ abbrev on : ℕ → Event
 on i = record { point = i; shown = State true; flags = 1; time = 1000; class = 1 }
 
 abbrev minus-one : Event
-minus-one = record { point = 1; shown = Analog (Short (negsuc 0)); flags = 1; time = 2; class = 2 }
+minus-one = record { point = 1; shown = Analog (Int16 (negsuc 0)); flags = 1; time = 2; class = 2 }
 
 -- row d of the acceptance table: 02 02 28 01 00 03 00 81 E8 03 00 00 00 00
 row-d : carriedBytes (record { event = on 3; carried = true } ∷ []) ≡ 2 ∷ 2 ∷ 40 ∷ 1 ∷ 0 ∷ 3 ∷ 0 ∷ 129 ∷ 232 ∷ 3 ∷ 0 ∷ 0 ∷ 0 ∷ 0 ∷ []

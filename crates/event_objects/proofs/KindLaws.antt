@@ -15,7 +15,7 @@ use Rattle.objects.proofs.RunLaws.{lead-nil, lead-same, lead-other}
 use Rattle.laws.specs.Limits.{eventsMax}
 use Rattle.laws.proofs.AllLoop.{map-take}
 use Rattle.events.specs.Placing.{kindOf}
-use Rattle.events.specs.Queue.{noHeld}
+use Rattle.events.specs.BufferView.{noHeld}
 use Rattle.events.specs.declared.Held.{Held}
 use Rattle.event_store.specs.EventWords.{slotsIn}
 use Rattle.event_store.proofs.EventLaws.{slots-length}

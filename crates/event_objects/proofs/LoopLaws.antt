@@ -12,10 +12,10 @@ use Rattle.laws.proofs.Filling.{clamped}
 use Rattle.laws.specs.Limits.{eventsMax}
 use Rattle.octets.specs.Bytes.{splice}
 use Rattle.objects.proofs.WriterLaws.{Writing, writing-start, writing-end, writing-passed}
-use Rattle.events.specs.Queue.{Buffer, queue, noHeld}
+use Rattle.events.specs.BufferView.{Buffer, bufferView, noHeld}
 use Rattle.events.specs.declared.Held.{Held}
 use Rattle.event_store.specs.declared.BufferStatus.{BufferStatus}
-use Rattle.event_store.specs.EventWords.{queueIn}
+use Rattle.event_store.specs.EventWords.{bufferViewIn}
 use Rattle.event_store.proofs.LentLaws.{statusOf, clamped-in}
 use Rattle.event_objects.specs.Events.{eventHeading, eventObject, carriedObjects, carriedBytes}
 use Rattle.event_objects.proofs.EventLaws.{carried-nil, carried-yes, carried-no, heading-length, none-first}
@@ -38,22 +38,22 @@ module _ (n i : ℕ) (ys : List Held) (below : i < n) (fits : n ≤ length ys) w
 
 -- the objects of the slots from i on are to be put at `to`, after one of the kind `last`
 abbrev pub Putting : List ℕ → ℕ → Buffer → ℕ → List ℕ → ℕ → ℕ → ℕ → Type 0
-Putting out₀ at b n out to last i = Writing eventHeading 5 out₀ at (carriedObjects (queue b .held)) out to last (carriedObjects (slice i n (b .held)))
+Putting out₀ at b n out to last i = Writing eventHeading 5 out₀ at (carriedObjects (bufferView b .held)) out to last (carriedObjects (slice i n (b .held)))
 
-module _ (out₀ : List ℕ) (at : ℕ) (b : Buffer) (n : ℕ) (slots : length (b .held) ≡ 256) (least : n ≡ min (b .count) 256) where
-  pub begun : at + length (carriedBytes (queue b .held)) ≤ length out₀ → Putting out₀ at b n out₀ at 0 0
-  unfolding carriedBytes queue
+module _ (out₀ : List ℕ) (at : ℕ) (b : Buffer) (n : ℕ) (slots : length (b .held) ≡ eventsMax) (least : n ≡ min (b .count) 256) where
+  pub begun : at + length (carriedBytes (bufferView b .held)) ≤ length out₀ → Putting out₀ at b n out₀ at 0 0
+  unfolding carriedBytes bufferView
   begun h =
-      writing-passed eventHeading 5 heading-length (writing-start eventHeading 5 heading-length out₀ at (carriedObjects (queue b .held)) (none-first (queue b .held)) h)
-      (carriedObjects (take n (b .held))) (ap carriedObjects (sym (clamped (b .held) 256 (b .count) n slots least)))
+      writing-passed eventHeading 5 heading-length (writing-start eventHeading 5 heading-length out₀ at (carriedObjects (bufferView b .held)) (none-first (bufferView b .held)) h)
+      (carriedObjects (take n (b .held))) (ap carriedObjects (sym (clamped (b .held) eventsMax (b .count) n slots least)))
 
   pub written : (out : List ℕ) (to last i : ℕ) → Putting out₀ at b n out to last i → n ≤ i
-      → (to ≡ at + length (carriedBytes (queue b .held))) × (out ≡ splice out₀ at (carriedBytes (queue b .held)))
+      → (to ≡ at + length (carriedBytes (bufferView b .held))) × (out ≡ splice out₀ at (carriedBytes (bufferView b .held)))
   unfolding carriedBytes
   written out to last i g h =
-      writing-end eventHeading 5 heading-length out₀ at (carriedObjects (queue b .held)) (none-first (queue b .held)) out to last _ g (over n i (b .held) h)
+      writing-end eventHeading 5 heading-length out₀ at (carriedObjects (bufferView b .held)) (none-first (bufferView b .held)) out to last _ g (over n i (b .held) h)
 
 -- a clamped count holds what the count holds
-pub held-of : (ws : List ℕ) (t : BufferStatus) (n : ℕ) → n ≡ min (t .count) eventsMax → queueIn ws (statusOf n) .held ≡ queueIn ws t .held
-unfolding queue
+pub held-of : (ws : List ℕ) (t : BufferStatus) (n : ℕ) → n ≡ min (t .count) eventsMax → bufferViewIn ws (statusOf n) .held ≡ bufferViewIn ws t .held
+unfolding bufferView
 held-of ws t n least = clamped-in ws t n least

@@ -11,22 +11,22 @@ use Rattle.octets.specs.Bytes.{le}
 use Rattle.objects.specs.Values.{valueBytes, stateByte}
 use Rattle.objects.specs.Runs.{Object, Heading, encoded}
 use Rattle.events.specs.Placing.{kindOf}
-use Rattle.events.specs.Queue.{isCarried}
+use Rattle.events.specs.BufferView.{isCarried}
 use Rattle.events.specs.declared.Shown.{Shown}
 use Rattle.events.specs.declared.Shown.the-variants.{State, Analog}
 use Rattle.events.specs.declared.Event.{Event}
 use Rattle.events.specs.declared.Held.{Held}
 
 -- by the kind: 1 binary, 2 a 32-bit, 3 a 16-bit, 4 a float analog
-abbrev pub groupOf : ℕ → ℕ
-groupOf k = cond (eqb k 1) 2 32
+abbrev pub eventGroup : ℕ → ℕ
+eventGroup k = cond (eqb k 1) 2 32
 
-abbrev pub variationOf : ℕ → ℕ
-variationOf k = first (eqb k 1 ⇒ 2 ∷ eqb k 2 ⇒ 3 ∷ eqb k 3 ⇒ 4 ∷ []) 7
+abbrev pub eventVariation : ℕ → ℕ
+eventVariation k = first (eqb k 1 ⇒ 2 ∷ eqb k 2 ⇒ 3 ∷ eqb k 3 ⇒ 4 ∷ []) 7
 
 -- group, variation, qualifier 28, the number of objects in two bytes
 abbrev pub eventHeading : Heading
-eventHeading k index n = groupOf k ∷ variationOf k ∷ 40 ∷ le 2 n
+eventHeading k index n = eventGroup k ∷ eventVariation k ∷ 40 ∷ le 2 n
 
 -- a binary's flags have its state
 abbrev pub flagsByte : Shown → ℕ → ℕ

@@ -6,10 +6,10 @@ ghost use lib.ListN.{length};
 ghost use lib.Seq.{slice};
 ghost use Rattle.laws.specs.Limits.{eventsMax};
 ghost use Rattle.octets.specs.Bytes.{splice};
-ghost use Rattle.event_store.specs.EventWords.{slotsIn, queueIn};
+ghost use Rattle.event_store.specs.EventWords.{slotsIn, bufferViewIn};
 ghost use Rattle.event_objects.specs.Events.{
-  groupOf,
-  variationOf,
+  eventGroup,
+  eventVariation,
   eventHeading,
   eventBytes,
   carriedKind,
@@ -23,13 +23,13 @@ use events::Held;
 use events::Shown;
 
 fn group(kind: u8) -> u8
-    ensures { λ r. ⌜ r ≡ groupOf kind ⌝ }
+    ensures { λ r. ⌜ r ≡ eventGroup kind ⌝ }
 {
     if kind == 1 { 2 } else { 32 }
 }
 
 fn variation(kind: u8) -> u8
-    ensures { λ r. ⌜ r ≡ variationOf kind ⌝ }
+    ensures { λ r. ⌜ r ≡ eventVariation kind ⌝ }
 {
     if kind == 1 {
         return 2;
@@ -119,10 +119,10 @@ pub fn put_events(
     held: &[u64; EVENT_WORDS],
     status: BufferStatus,
 ) -> usize
-    requires { ⌜ at + length (carriedBytes (queueIn (now held) status .held)) ≤ length (now out) ⌝ }
+    requires { ⌜ at + length (carriedBytes (bufferViewIn (now held) status .held)) ≤ length (now out) ⌝ }
     ensures { λ r. ⌜
-        (r ≡ at + length (carriedBytes (queueIn (now (held .entry)) status .held)))
-        × (now (out .exit) ≡ splice (now (out .entry)) at (carriedBytes (queueIn (now (held .entry)) status .held))) ⌝ }
+        (r ≡ at + length (carriedBytes (bufferViewIn (now (held .entry)) status .held)))
+        × (now (out .exit) ≡ splice (now (out .entry)) at (carriedBytes (bufferViewIn (now (held .entry)) status .held))) ⌝ }
 {
     let n = events::filled(status.count);
     let mut to = at;

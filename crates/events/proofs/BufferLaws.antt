@@ -12,21 +12,21 @@ use lib.Seq.{slice, slice-empty, take-suc-set}
 use Rattle.laws.specs.Limits.{eventsMax}
 use Rattle.laws.proofs.Loops.{take-slice, put, skip, keep, done}
 use Rattle.laws.proofs.Filling.{clamped}
-use Rattle.events.specs.Queue.{Buffer, queue, noHeld, newly, edited, pushed}
+use Rattle.events.specs.BufferView.{Buffer, bufferView, noHeld, newly, edited, pushed}
 use Rattle.events.specs.declared.Event.{Event}
 use Rattle.events.specs.declared.Held.{Held}
 
 module _ (b : Buffer) (e : Event) (long : length (b .held) ≡ eventsMax) where
-  pub pushed-in : b .count < eventsMax → queue (record { held = set (b .held) (b .count) (newly e); count = b .count + 1; overflow = b .overflow }) ≡ pushed e (queue b)
-  unfolding pushed queue
+  pub pushed-in : b .count < eventsMax → bufferView (record { held = set (b .held) (b .count) (newly e); count = b .count + 1; overflow = b .overflow }) ≡ pushed e (bufferView b)
+  unfolding pushed bufferView
   pushed-in h =
       let n : length (take (b .count) (b .held)) ≡ b .count = length-take (b .count) (b .held) ∙ omega arith in
       let s : take (b .count + 1) (set (b .held) (b .count) (newly e)) ≡ take (b .count) (b .held) ++ (newly e ∷ []) =
       rw add-one (take-suc-set (b .held) (b .count) (newly e) (omega arith)) in
       rw (n, lt-ltb (b .count) eventsMax h, s)
 
-  pub pushed-out : eventsMax ≤ b .count → queue (record { held = b .held; count = b .count; overflow = true }) ≡ pushed e (queue b)
-  unfolding pushed queue
+  pub pushed-out : eventsMax ≤ b .count → bufferView (record { held = b .held; count = b .count; overflow = true }) ≡ pushed e (bufferView b)
+  unfolding pushed bufferView
   pushed-out h =
       let n : length (take (b .count) (b .held)) ≡ eventsMax = length-take (b .count) (b .held) ∙ omega arith in
       rw n
@@ -85,8 +85,8 @@ module _ (G H K : List Held → List Held) (n : ℕ) (from next : Buffer) (i j :
 -- where the count is set to the slots written
 pub shortened : (G H : List Held → List Held) (n : ℕ) (from next : Buffer) (i j : ℕ) → length (from .held) ≡ eventsMax → n ≡ min (from .count) eventsMax
     → n ≤ i → H [] ≡ [] → Going G H n from next i j
-    → queue (record { held = next .held; count = j; overflow = next .overflow }) ≡ edited G (queue from)
-unfolding queue
+    → bufferView (record { held = next .held; count = j; overflow = next .overflow }) ≡ edited G (bufferView from)
+unfolding bufferView
 shortened G H n from next i j slots least over none g =
     λ k.
     record {
@@ -99,8 +99,8 @@ shortened G H n from next i j slots least over none g =
 
 module _ (G H : List Held → List Held) (n : ℕ) (from next : Buffer) (i : ℕ) (slots : length (from .held) ≡ eventsMax) (least : n ≡ min (from .count) eventsMax) (g : Going G H n from next i i) where
   -- where the count stays, and the specification leaves what is to come
-  pub halted : H (slice i n (next .held)) ≡ slice i n (next .held) → queue next ≡ edited G (queue from)
-  unfolding queue
+  pub halted : H (slice i n (next .held)) ≡ slice i n (next .held) → bufferView next ≡ edited G (bufferView from)
+  unfolding bufferView
   halted e =
       let m : n ≡ min (next .count) eventsMax = omega (arith, g .count) in
       λ k.
@@ -115,7 +115,7 @@ module _ (G H : List Held → List Held) (n : ℕ) (from next : Buffer) (i : ℕ
       }
 
   -- where every slot was written and the count stays
-  pub rewritten : n ≤ i → H [] ≡ [] → queue next ≡ edited G (queue from)
+  pub rewritten : n ≤ i → H [] ≡ [] → bufferView next ≡ edited G (bufferView from)
   rewritten over none =
       let same : i ≡ n = omega (arith, g .read) in
       let gone : slice i n (next .held) ≡ [] = ap (λ (m : ℕ). slice m n (next .held)) same ∙ slice-empty n (next .held) in

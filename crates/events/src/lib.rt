@@ -4,7 +4,7 @@ ghost use mathlib.Core.Bool.{_||_};
 ghost use Prim.Native.Nat.{min, _≤_};
 ghost use lib.Dec.{eqb};
 ghost use Rattle.laws.specs.Limits.{eventsMax};
-ghost use Rattle.events.specs.Placing.{kindOf, sizeOf, asked, costOf, turnOf};
+ghost use Rattle.events.specs.Placing.{kindOf, objectSize, isAsked, costOf, placeEvent};
 use points::Value;
 
 // How many events may be held.
@@ -39,7 +39,7 @@ pub struct Classes {
 }
 
 // A response as it is filled: the bytes left for events, and the kind of the last event (0: none yet).
-pub struct Pack {
+pub struct Space {
     pub left: usize,
     pub kind: u8,
 }
@@ -52,8 +52,8 @@ pub fn filled(count: usize) -> usize
 }
 
 // Whether events of the class are asked for.
-fn asks(m: Classes, class: u8) -> bool
-    ensures { λ r. ⌜ r ≡ asked m class ⌝ }
+fn is_asked(m: Classes, class: u8) -> bool
+    ensures { λ r. ⌜ r ≡ isAsked m class ⌝ }
 {
     if class == 1 {
         return m.one;
@@ -75,16 +75,16 @@ pub fn kind(e: Event) -> u8
     match s {
         Shown::State(_) => 1,
         Shown::Analog(v) => match v {
-            Value::Long(_) => 2,
-            Value::Short(_) => 3,
-            Value::Real(_) => 4,
+            Value::Int32(_) => 2,
+            Value::Int16(_) => 3,
+            Value::Float32(_) => 4,
         },
     }
 }
 
 // The bytes of an event's object with its index.
 fn size(kind: u8) -> usize
-    ensures { λ r. ⌜ (r ≡ sizeOf kind) × (r ≤ 13) ⌝ }
+    ensures { λ r. ⌜ (r ≡ objectSize kind) × (r ≤ 13) ⌝ }
 {
     if kind == 1 {
         return 9;
@@ -96,7 +96,7 @@ fn size(kind: u8) -> usize
 }
 
 // The bytes that an event takes: with a header where its kind is not the last one's.
-fn cost(k: Pack, kind: u8) -> usize
+fn cost(k: Space, kind: u8) -> usize
     ensures { λ r. ⌜ (r ≡ costOf k kind) × (r ≤ 18) ⌝ }
 {
     let n = size(kind);
@@ -104,27 +104,27 @@ fn cost(k: Pack, kind: u8) -> usize
 }
 
 // What the selection does with an event: passes it over, stops, or carries it.
-pub enum Turn {
+pub enum Placement {
     Pass,
     Stop,
-    Carry(Pack),
+    Carry(Space),
 }
 
-pub fn weigh(m: Classes, k: Pack, e: Event) -> Turn
-    ensures { λ r. ⌜ r ≡ turnOf m k e ⌝ }
+pub fn place_event(m: Classes, k: Space, e: Event) -> Placement
+    ensures { λ r. ⌜ r ≡ placeEvent m k e ⌝ }
 {
-    if asks(m, e.class) {
+    if is_asked(m, e.class) {
         let n = kind(e);
         let need = cost(k, n);
         if k.left < need {
-            return Turn::Stop;
+            return Placement::Stop;
         }
-        Turn::Carry(Pack {
+        Placement::Carry(Space {
             left: k.left - need,
             kind: n,
         })
     } else {
-        Turn::Pass
+        Placement::Pass
     }
 }
 

@@ -16,14 +16,14 @@ use Rattle.application.specs.declared.Fragment.{Fragment}
 use Rattle.application.specs.declared.Fragment.the-variants as Ks
 use Rattle.application.specs.Fragment as F
 use Rattle.application.specs.Fragment.{Kind, classified, fragmentOf, objectsOf}
-use Rattle.request.specs.Parse.{Parsed, headers, fault}
-use Rattle.static_objects.specs.Static.{readOf}
-use Rattle.repeat.specs.Repeat.{isRepeat}
+use Rattle.read_headers.specs.Parse.{Parsed, headers, fault}
+use Rattle.static_objects.specs.Static.{askedOf}
+use Rattle.last_request.specs.Repeat.{isRepeat}
 use Rattle.outstation.specs.Readings.{badTime}
 use Rattle.outstation.specs.Requests.{asks, readAsk, outcomeAsk, ask}
-use Rattle.outstation.specs.World.{World}
-use Rattle.outstation.specs.Step.{Result, fragment, step, fragmentStep, refusal, onAsk, readStep, repeatStep, requestStep, deedBy, confirmStep}
-use Rattle.fragments.specs.Given.{readDeedBy, requestBy}
+use Rattle.outstation.specs.OutstationView.{OutstationView}
+use Rattle.outstation.specs.Step.{Result, fragment, step, fragmentStep, refusal, onAsk, readStep, repeatStep, requestStep, effectBy, confirmStep}
+use Rattle.fragments.specs.FragmentMeets.{readEffectBy, requestBy}
 
 -- ---- the sizes
 
@@ -50,7 +50,7 @@ request-sized f k q function e t = well-sized f (passed-no (F.malformed f) 31 _ 
 -- ---- the step
 
 -- what holds of the step by what the fragment is, holds of the call's step
-module _ (w : World) (time : ℕ) (f : List ℕ) (room : ℕ) (P : Result → Type 0) where
+module _ (w : OutstationView) (time : ℕ) (f : List ℕ) (room : ℕ) (P : Result → Type 0) where
   pub fragment-late : badTime (w .shared .clock) time ≡ true → P (refusal 1 w) → P (step (fragment time f room) w)
   unfolding step fragmentStep
   fragment-late t h = rw t h
@@ -71,13 +71,13 @@ module _ (w : World) (time : ℕ) (f : List ℕ) (room : ℕ) (P : Result → Ty
     fragment-malformed e h = by-outcome (fragmentOf Ks.Malformed) (sym (ap fragmentOf e) ∙ is) h
 
     pub fragment-confirm : (q : ApplicationSequence) (uns : Bool) → k ≡ Ks.Confirm q uns
-        → P (confirmStep w (w .master .exchange .wait) (q .0) uns time) → P (step (fragment time f room) w)
+        → P (confirmStep w (w .master .session .wait) (q .0) uns time) → P (step (fragment time f room) w)
     fragment-confirm q uns e h = by-outcome (fragmentOf (Ks.Confirm q uns)) (sym (ap fragmentOf e) ∙ is) h
 
     asked-by : (q function : ℕ) (c : Bool) (p : Parsed)
         → P
-        (cond c (readStep w q time f (readDeedBy w q time p))
-        (cond (isRepeat (w .master .exchange .last) f) (repeatStep w function time) (requestStep w q function time f (deedBy w q function time (objectsOf f)))))
+        (cond c (readStep w q time f (readEffectBy w q time p))
+        (cond (isRepeat (w .master .session .last) f) (repeatStep w function time) (requestStep w q function time f (effectBy w q function time (objectsOf f)))))
         → P (onAsk (cond c (readAsk q p) (asks q function)) w time f)
     asked-by q function true (headers hs) h = h
     asked-by q function true (fault n) h = h
@@ -87,4 +87,4 @@ module _ (w : World) (time : ℕ) (f : List ℕ) (room : ℕ) (P : Result → Ty
         → P (requestBy w (q .0) function time f) → P (step (fragment time f room) w)
     fragment-request q function e h =
         by-outcome (fragmentOf (Ks.Request q function)) (sym (ap fragmentOf e) ∙ is)
-        (asked-by (q .0) function (eqb function 1) (readOf (w .shared .inputs) (objectsOf f)) h)
+        (asked-by (q .0) function (eqb function 1) (askedOf (w .shared .inputs) (objectsOf f)) h)

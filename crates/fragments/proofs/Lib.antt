@@ -1,4 +1,4 @@
 pub mod AnswerLaws
 pub mod AskLaws
-pub mod DidLaws
-pub mod LentGivenLaws
+pub mod HoldsLaws
+pub mod PartLaws

@@ -9,22 +9,22 @@ ghost use Rattle.laws.specs.Limits.{fragmentMax};
 ghost use Rattle.octets.specs.Bytes.{splice};
 ghost use Rattle.application.specs.Response.{responseOf};
 ghost use Rattle.control.specs.Objects.{Holding, answerMax};
-ghost use Rattle.select.specs.Select.{noSelect, latchOf};
-ghost use Rattle.repeat.specs.Repeat.{answerOf, lastIn};
+ghost use Rattle.select_latch.specs.Select.{noSelect, latchOf};
+ghost use Rattle.last_request.specs.Repeat.{keptAnswer, lastIn};
 ghost use Rattle.outstation.specs.Step.{indicationsOf};
-ghost use Rattle.event_store.specs.EventWords.{queueIn};
+ghost use Rattle.event_store.specs.EventWords.{bufferViewIn};
 ghost use Rattle.words.specs.Numbers.{holds};
-ghost use Rattle.fragments.specs.Given.{
+ghost use Rattle.fragments.specs.FragmentMeets.{
   lastLengths,
-  seenIn,
+  contextIn,
   conBy,
-  FragmentDid,
-  ConfirmedDid,
-  ConfirmDid,
-  ReadDid,
-  RepeatDid,
-  OtherDid,
-  RequestDid,
+  FragmentHolds,
+  ConfirmedHolds,
+  ConfirmHolds,
+  ReadHolds,
+  RepeatHolds,
+  OtherHolds,
+  RequestHolds,
   LeftIn,
   ReadLeft,
 };
@@ -37,17 +37,17 @@ use control::ANSWER_MAX;
 use control::Crobs;
 use control::ECHO_MAX;
 use effects::Confirmation;
-use effects::Deed;
-use effects::Seen;
+use effects::RequestContext;
+use effects::RequestEffect;
 use event_store::BufferStatus;
 use event_store::EVENT_WORDS;
+use last_request::LastLengths;
 use outstation::Head;
 use outstation::Wait;
 use point_store::ANALOG_WORDS;
 use point_store::BINARY_WORDS;
 use point_store::Installed;
-use repeat::LastLengths;
-use select::Latch;
+use select_latch::Latch;
 
 // What a fragment comes to.
 pub enum FragmentAnswer {
@@ -64,7 +64,7 @@ pub enum FragmentAnswer {
     // 32: CONFIRM not accepted.
     NotConfirmed,
     // 33: under 2,048 lent bytes.
-    AnswerLent,
+    OutputTooSmall,
 }
 
 // The head after the call, the answer, and the objects handed to the host to be carried out, in the order asked.
@@ -75,7 +75,7 @@ pub struct FragmentResult {
 }
 
 // What an answer says beside its objects and the indications of the state.
-pub struct Said {
+pub struct ResponseFlags {
     pub fault: Fault,
     pub con: bool,
 }
@@ -99,16 +99,20 @@ fn accept_confirm(
     h: Head,
     held: &mut [u64; EVENT_WORDS],
     time: u64,
-    shown: bool,
-    since: bool,
+    showed_overflow: bool,
+    dropped_since: bool,
 ) -> FragmentResult
-    ensures { λ r. ⌜ ConfirmedDid h (now (held .entry)) time shown since r (now (held .exit)) ⌝ }
+    ensures { λ r. ⌜ ConfirmedHolds h (now (held .entry)) time «showed_overflow» «dropped_since» r (now (held .exit)) ⌝ }
 {
-    let t = event_store::release(held, outstation::status_of(h));
+    let t = event_store::release(held, outstation::buffer_status(h));
     let mut idle = h;
     idle.clock = time;
     idle.event_count = t.count;
-    idle.overflow = outstation::truth_byte(effects::still_dropped(shown, since, t.overflow));
+    idle.overflow = outstation::truth_byte(effects::still_dropped(
+        showed_overflow,
+        dropped_since,
+        t.overflow,
+    ));
     idle.waiting = 0;
     let a = FragmentAnswer::Confirmed;
     let none = control::none();
@@ -126,15 +130,18 @@ fn take_confirm(
     uns: bool,
     time: u64,
 ) -> FragmentResult
-    ensures { λ r. ⌜ ConfirmDid h (now (held .entry)) (q .0) uns time r (now (held .exit)) ⌝ }
+    ensures { λ r. ⌜ ConfirmHolds h (now (held .entry)) (q .0) uns time r (now (held .exit)) ⌝ }
 {
     let c = effects::confirm(h.confirm_time, outstation::wait_of(h), q, uns, time);
     match c {
         Confirmation::Refused => {
             return refuse(h, FragmentAnswer::NotConfirmed);
         }
-        Confirmation::Accepted { shown, since } => {
-            return accept_confirm(h, held, time, shown, since);
+        Confirmation::Accepted {
+            showed_overflow,
+            dropped_since,
+        } => {
+            return accept_confirm(h, held, time, showed_overflow, dropped_since);
         }
     }
 }
@@ -156,16 +163,16 @@ fn con_by(f: Fault, carried: bool, overflow: bool) -> bool
 fn put_header(
     out: &mut [u8],
     q: ApplicationSequence,
-    s: Said,
+    s: ResponseFlags,
     held: &[u64; EVENT_WORDS],
     t: BufferStatus,
     restarted: bool,
 )
     requires { ⌜ 4 ≤ length (now out) ⌝ }
     ensures { λ _. ⌜ now (out .exit) ≡
-        splice (now (out .entry)) 0 (responseOf (q .0) (s .con) (indicationsOf (queueIn (now (held .entry)) t) restarted) (s .fault)) ⌝ }
+        splice (now (out .entry)) 0 (responseOf (q .0) (s .con) (indicationsOf (bufferViewIn (now (held .entry)) t) restarted) (s .fault)) ⌝ }
 {
-    let c = event_store::left_behind(held, t);
+    let c = event_store::classes_pending(held, t);
     let i = Indications {
         class_1: c.one,
         class_2: c.two,
@@ -209,7 +216,7 @@ fn answer_read(
     out: &mut [u8],
 ) -> FragmentResult
     requires { ⌜ (2 ≤ length (now f)) × (length (now f) ≤ fragmentMax) × (fragmentMax ≤ length (now out)) ⌝ }
-    ensures { λ r. ⌜ ReadDid h (λ o. record { binaries = now (binaries .entry); analogs = now (analogs .entry); held = now (held .entry); request = now (request .entry); answer = now (answer .entry); objects = o })
+    ensures { λ r. ⌜ ReadHolds h (λ o. record { binaries = now (binaries .entry); analogs = now (analogs .entry); held = now (held .entry); request = now (request .entry); answer = now (answer .entry); objects = o })
         (q .0) time (now (f .entry)) r
         (λ o. record { binaries = now (binaries .entry); analogs = now (analogs .entry); held = now (held .exit); request = now (request .exit); answer = now (answer .exit); objects = o })
         (now (out .entry)) (now (out .exit)) ⌝ }
@@ -218,13 +225,13 @@ fn answer_read(
         binaries: h.binary_count,
         analogs: h.analog_count,
     };
-    let t = outstation::status_of(h);
+    let t = outstation::buffer_status(h);
     let reply = read::respond(out, &f[2..], binaries, analogs, n, held, t);
     let fault = reply.fault;
     let con = con_by(fault, event_store::any_carried(held, t), t.overflow);
-    let s = Said { fault, con };
+    let s = ResponseFlags { fault, con };
     put_header(out, q, s, held, t, outstation::truth(h.restarted));
-    let kept = repeat::remember(request, answer, f, &f[..0]);
+    let kept = last_request::remember(request, answer, f, &f[..0]);
     let next = after_read(h, q, time, con, kept);
     let a = FragmentAnswer::Answer(reply.size);
     let none = control::none();
@@ -269,14 +276,14 @@ fn put_again(
 ) -> usize
     requires { ⌜ answerMax ≤ length (now out) ⌝ }
     ensures { λ r. ⌜
-        (now (out .exit) ≡ cond (eqb function 6) (now (out .entry)) (splice (now (out .entry)) 0 (answerOf (lastIn (now (request .entry)) (now (answer .entry)) (lastLengths h)))))
-        × (r ≡ cond (eqb function 6) 0 (length (answerOf (lastIn (now (request .entry)) (now (answer .entry)) (lastLengths h)))))
+        (now (out .exit) ≡ cond (eqb function 6) (now (out .entry)) (splice (now (out .entry)) 0 (keptAnswer (lastIn (now (request .entry)) (now (answer .entry)) (lastLengths h)))))
+        × (r ≡ cond (eqb function 6) 0 (length (keptAnswer (lastIn (now (request .entry)) (now (answer .entry)) (lastLengths h)))))
         × (r ≤ answerMax) ⌝ }
 {
     if function == 6 {
         return 0;
     }
-    repeat::answer_again(request, answer, last_of(h), out)
+    last_request::answer_again(request, answer, last_of(h), out)
 }
 
 // The same answer again, nothing done, only the clock moves.
@@ -289,7 +296,7 @@ fn repeat_request(
     out: &mut [u8],
 ) -> FragmentResult
     requires { ⌜ fragmentMax ≤ length (now out) ⌝ }
-    ensures { λ r. ⌜ RepeatDid h (now (request .entry)) (now (answer .entry)) function time r (now (out .entry)) (now (out .exit)) ⌝ }
+    ensures { λ r. ⌜ RepeatHolds h (now (request .entry)) (now (answer .entry)) function time r (now (out .entry)) (now (out .exit)) ⌝ }
 {
     let n = put_again(h, request, answer, function, out);
     let a = answer_as(function, n);
@@ -306,8 +313,8 @@ fn repeat_request(
 // ---- any other request
 
 // What it sees of the state: the latch is loaded by value.
-fn seen_of(h: Head, objects: &[u8; ECHO_MAX]) -> Seen
-    ensures { λ r. ⌜ r ≡ seenIn h (now (objects .entry)) ⌝ }
+fn context_of(h: Head, objects: &[u8; ECHO_MAX]) -> RequestContext
+    ensures { λ r. ⌜ r ≡ contextIn h (now (objects .entry)) ⌝ }
 {
     let bytes = *objects;
     let latch = Latch {
@@ -317,7 +324,7 @@ fn seen_of(h: Head, objects: &[u8; ECHO_MAX]) -> Seen
         objects: bytes,
         len: h.latch_len,
     };
-    Seen {
+    RequestContext {
         outputs: h.outputs,
         arm_time: h.arm_time,
         restarted: outstation::truth(h.restarted),
@@ -330,21 +337,21 @@ fn put_answer(
     out: &mut [u8],
     q: ApplicationSequence,
     function: u8,
-    d: Deed,
+    d: RequestEffect,
     held: &[u64; EVENT_WORDS],
     t: BufferStatus,
 ) -> usize
     requires { ⌜ 4 ≤ length (now out) ⌝ }
     ensures { λ r. ⌜
         (now (out .exit) ≡ cond (eqb function 6) (now (out .entry))
-        (splice (now (out .entry)) 0 (responseOf (q .0) (d .con) (indicationsOf (queueIn (now (held .entry)) t) (d .restarted)) (d .fault))))
+        (splice (now (out .entry)) 0 (responseOf (q .0) (d .con) (indicationsOf (bufferViewIn (now (held .entry)) t) (d .restarted)) (d .fault))))
         × (r ≡ cond (eqb function 6) 0 (d .size)) ⌝ }
 {
     if function == 6 {
         return 0;
     }
     let fault = d.fault;
-    let s = Said {
+    let s = ResponseFlags {
         fault: fault,
         con: d.con,
     };
@@ -393,18 +400,18 @@ fn answer_request(
     out: &mut [u8],
 ) -> FragmentResult
     requires { ⌜ (2 ≤ length (now f)) × (length (now f) ≤ fragmentMax) × (fragmentMax ≤ length (now out)) ⌝ }
-    ensures { λ r. ⌜ OtherDid h (λ b a. record { binaries = b; analogs = a; held = now (held .entry); request = now (request .entry); answer = now (answer .entry); objects = now (objects .entry) })
+    ensures { λ r. ⌜ OtherHolds h (λ b a. record { binaries = b; analogs = a; held = now (held .entry); request = now (request .entry); answer = now (answer .entry); objects = now (objects .entry) })
         (q .0) function time (now (f .entry)) r
         (λ b a. record { binaries = b; analogs = a; held = now (held .exit); request = now (request .exit); answer = now (answer .exit); objects = now (objects .exit) })
         (now (out .entry)) (now (out .exit)) ⌝ }
 {
-    let seen = seen_of(h, objects);
-    let d = effects::deed_of(seen, q, function, time, &f[2..], out);
+    let seen = context_of(h, objects);
+    let d = effects::effect_by(seen, q, function, time, &f[2..], out);
     let operated = d.operated;
-    let t = outstation::status_of(h);
+    let t = outstation::buffer_status(h);
     event_store::clear(held, t);
     let n = put_answer(out, q, function, d, held, t);
-    let kept = repeat::remember(request, answer, f, &out[..n]);
+    let kept = last_request::remember(request, answer, f, &out[..n]);
     let latch = d.latch;
     let next = after_request(h, objects, time, d.restarted, latch, kept);
     let a = answer_as(function, n);
@@ -433,7 +440,7 @@ fn take_request(
     out: &mut [u8],
 ) -> FragmentResult
     requires { ⌜ (2 ≤ length (now f)) × (length (now f) ≤ fragmentMax) × (fragmentMax ≤ length (now out)) ⌝ }
-    ensures { λ r. ⌜ RequestDid h (record { binaries = now (binaries .entry); analogs = now (analogs .entry); held = now (held .entry); request = now (request .entry); answer = now (answer .entry); objects = now (objects .entry) })
+    ensures { λ r. ⌜ RequestHolds h (record { binaries = now (binaries .entry); analogs = now (analogs .entry); held = now (held .entry); request = now (request .entry); answer = now (answer .entry); objects = now (objects .entry) })
         (q .0) function time (now (f .entry)) r
         (record { binaries = now (binaries .entry); analogs = now (analogs .entry); held = now (held .exit); request = now (request .exit); answer = now (answer .exit); objects = now (objects .exit) })
         (now (out .entry)) (now (out .exit)) ⌝ }
@@ -441,7 +448,7 @@ fn take_request(
     if function == 1 {
         return answer_read(h, binaries, analogs, held, request, answer, q, time, f, out);
     }
-    if repeat::repeats(request, answer, last_of(h), f) {
+    if last_request::is_repeat(request, answer, last_of(h), f) {
         return repeat_request(h, request, answer, function, time, out);
     }
     answer_request(h, held, request, answer, objects, q, function, time, f, out)
@@ -460,7 +467,7 @@ pub fn fragment(
     f: &[u8],
     out: &mut [u8],
 ) -> FragmentResult
-    ensures { λ r. ⌜ FragmentDid h (record { binaries = now (binaries .entry); analogs = now (analogs .entry); held = now (held .entry); request = now (request .entry); answer = now (answer .entry); objects = now (objects .entry) })
+    ensures { λ r. ⌜ FragmentHolds h (record { binaries = now (binaries .entry); analogs = now (analogs .entry); held = now (held .entry); request = now (request .entry); answer = now (answer .entry); objects = now (objects .entry) })
         time (now (f .entry)) r
         (record { binaries = now (binaries .entry); analogs = now (analogs .entry); held = now (held .exit); request = now (request .exit); answer = now (answer .exit); objects = now (objects .exit) })
         (now (out .entry)) (now (out .exit)) ⌝ }
@@ -469,7 +476,7 @@ pub fn fragment(
         return refuse(h, FragmentAnswer::Time);
     }
     if out.len() < FRAGMENT_MAX {
-        return refuse(h, FragmentAnswer::AnswerLent);
+        return refuse(h, FragmentAnswer::OutputTooSmall);
     }
     let kind = application::classify(f);
     match kind {

@@ -3,7 +3,7 @@ use crate::answers;
 use crate::frames;
 use crate::segments;
 use crate::session;
-use crate::session::Session;
+use crate::session::LineSession;
 use crate::stations;
 
 // The calls with LEN HEX.
@@ -61,13 +61,13 @@ fn needs_station(k: LentCall) -> bool {
 // The calls with LEN HEX, with the bytes given and the bytes lent.
 fn given_call(
     k: LentCall,
-    s: Session,
+    s: LineSession,
     given: &[u8],
     lent: &mut [u8],
     heard: &mut [u8],
     out: &mut [u8],
     at: usize,
-) -> Session {
+) -> LineSession {
     match k {
         LentCall::Station => stations::station(s, given, lent, out, at),
         LentCall::Seg => segments::seg(s, given, lent, heard, out, at),
@@ -78,7 +78,7 @@ fn given_call(
 
 fn lent_call(
     k: LentCall,
-    s: Session,
+    s: LineSession,
     w: &[u8],
     c: text::Cursor,
     bytes: &mut [u8],
@@ -86,7 +86,7 @@ fn lent_call(
     heard: &mut [u8],
     out: &mut [u8],
     at: usize,
-) -> Session {
+) -> LineSession {
     let a = answers::asked_of(w, c, bytes);
     if !text::finished(a.next) {
         return session::told(s, out, at, b"fault");
@@ -102,7 +102,7 @@ fn lent_call(
 // One of these calls.
 pub fn line_call(
     k: LineCall,
-    s: Session,
+    s: LineSession,
     w: &[u8],
     c: text::Cursor,
     bytes: &mut [u8],
@@ -110,7 +110,7 @@ pub fn line_call(
     heard: &mut [u8],
     out: &mut [u8],
     at: usize,
-) -> Session {
+) -> LineSession {
     match k {
         LineCall::Lent(l) => lent_call(l, s, w, c, bytes, lent, heard, out, at),
         LineCall::Record => stations::record(s, w, c, out, at),

@@ -2,7 +2,7 @@
 use crate::answers;
 use crate::answers::Outcome;
 use crate::session;
-use crate::session::Session;
+use crate::session::LineSession;
 use transport::Received;
 use transport::Sender;
 use transport::Sent;
@@ -12,13 +12,13 @@ const SEGMENTS_MAX: usize = 9;
 
 // seg: a segment is heard, with so many of the bytes that segments are put together in; `before` keeps them as they were.
 pub fn seg(
-    s: Session,
+    s: LineSession,
     segment: &[u8],
     before: &mut [u8],
     heard: &mut [u8],
     out: &mut [u8],
     at: usize,
-) -> Session {
+) -> LineSession {
     let room = octets::least(before.len(), heard.len());
     hear(
         s,
@@ -31,13 +31,13 @@ pub fn seg(
 }
 
 fn hear(
-    s: Session,
+    s: LineSession,
     segment: &[u8],
     before: &mut [u8],
     lent: &mut [u8],
     out: &mut [u8],
     at: usize,
-) -> Session {
+) -> LineSession {
     if before.len() < lent.len() {
         return session::told(s, out, at, b"fault");
     }
@@ -85,7 +85,13 @@ struct SentSoFar {
 }
 
 // send: the segments of a fragment; a refusal is told instead
-pub fn send(s: Session, fragment: &[u8], lent: &mut [u8], out: &mut [u8], at: usize) -> Session {
+pub fn send(
+    s: LineSession,
+    fragment: &[u8],
+    lent: &mut [u8],
+    out: &mut [u8],
+    at: usize,
+) -> LineSession {
     let a = text::put_bytes(out, at, b"segs");
     let f = sent(s.sender, fragment, lent, out, at, a);
     let sender = f.sender;

@@ -1,6 +1,6 @@
 // What is kept of the line from call to call.
 // What is kept of the line.
-pub struct Session {
+pub struct LineSession {
     // Where the next answer goes.
     pub at: usize,
     // There is an outstation.
@@ -12,7 +12,7 @@ pub struct Session {
 }
 
 // Before the first call: no outstation, and a line record of zeros.
-pub fn fresh() -> Session {
+pub fn fresh() -> LineSession {
     let addresses = link::Station { own: 0, master: 0 };
     let record = link::LineRecord {
         accepted: 0,
@@ -25,7 +25,7 @@ pub fn fresh() -> Session {
     };
     let assembly = transport::nothing_begun();
     let sender = transport::nothing_sent();
-    Session {
+    LineSession {
         at: 0,
         have: false,
         addresses,
@@ -36,24 +36,24 @@ pub fn fresh() -> Session {
 }
 
 // The session with its next answer somewhere else.
-pub fn moved(s: Session, at: usize) -> Session {
+pub fn moved(s: LineSession, at: usize) -> LineSession {
     let mut next = s;
     next.at = at;
     next
 }
 
 // The answer to a line that is no call, or to a call for which there is no outstation.
-pub fn told(s: Session, out: &mut [u8], at: usize, words: &[u8]) -> Session {
+pub fn told(s: LineSession, out: &mut [u8], at: usize, words: &[u8]) -> LineSession {
     moved(s, crate::answers::answer(out, at, words))
 }
 
 // There is an outstation; nothing is heard, nothing sent.
-pub fn begun(s: Session, own: u16, master: u16) -> Session {
+pub fn begun(s: LineSession, own: u16, master: u16) -> LineSession {
     let addresses = link::Station { own, master };
     let assembly = transport::nothing_begun();
     let sender = transport::nothing_sent();
     let record = s.record;
-    Session {
+    LineSession {
         at: s.at,
         have: true,
         addresses,
@@ -64,7 +64,7 @@ pub fn begun(s: Session, own: u16, master: u16) -> Session {
 }
 
 // There is none.
-pub fn none(s: Session) -> Session {
+pub fn none(s: LineSession) -> LineSession {
     let mut next = s;
     next.have = false;
     next

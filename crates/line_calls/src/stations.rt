@@ -2,7 +2,7 @@
 use crate::answers;
 use crate::answers::Outcome;
 use crate::session;
-use crate::session::Session;
+use crate::session::LineSession;
 use frame::FRAME_MAX;
 use link::COUNT_MAX;
 use link::LineRecord;
@@ -51,7 +51,7 @@ fn record_of(f: &[u8]) -> RecordAt {
 }
 
 // record C,C,C,C,C,C,C
-pub fn record(s: Session, w: &[u8], c: text::Cursor, out: &mut [u8], at: usize) -> Session {
+pub fn record(s: LineSession, w: &[u8], c: text::Cursor, out: &mut [u8], at: usize) -> LineSession {
     let p = text::word(w, c, 32);
     let from = p.from;
     let to = p.to;
@@ -78,7 +78,13 @@ fn put_record(l: LineRecord, out: &mut [u8], at: usize) -> usize {
 }
 
 // station: a frame came; it is taken and counted, and the answer told.
-pub fn station(s: Session, frame: &[u8], lent: &mut [u8], out: &mut [u8], at: usize) -> Session {
+pub fn station(
+    s: LineSession,
+    frame: &[u8],
+    lent: &mut [u8],
+    out: &mut [u8],
+    at: usize,
+) -> LineSession {
     answers::fill(lent);
     let st = s.addresses;
     let r = link::receive_by_value(s.record, st, frame, lent);

@@ -33,15 +33,15 @@ pub fn put_value(out: &mut [u8], at: usize, v: Value) -> usize
     ensures { λ r. ⌜ (r ≡ at + valueSize v) × (now (out .exit) ≡ splice (now (out .entry)) at (valueBytes v)) ⌝ }
 {
     match v {
-        Value::Long(z) => {
+        Value::Int32(z) => {
             octets::put4(out, at, signed_bits(z));
             at + 4
         }
-        Value::Short(z) => {
+        Value::Int16(z) => {
             octets::put(out, at, 2, signed_bits(z as i32) as u64);
             at + 2
         }
-        Value::Real(x) => {
+        Value::Float32(x) => {
             octets::put4(out, at, float_bits(x));
             at + 4
         }

@@ -15,25 +15,25 @@ use lib.ListN.{length, take}
 use Rattle.laws.specs.Outcome.{Outcome, accepted, refused}
 use Rattle.points.specs.declared.BinaryPoint.{BinaryPoint}
 use Rattle.points.specs.declared.AnalogPoint.{AnalogPoint}
-use Rattle.points.specs.declared.Measure.{Measure}
-use Rattle.points.specs.declared.Measure.the-variants as Ks
-use Rattle.points.specs.Inputs.{Inputs}
-use Rattle.points.specs.Reading.{BinaryAfter, AnalogAfter, flagsAbove, binaryReading, wholeBy, wholeReading, floatBy, floatReading}
+use Rattle.points.specs.declared.AnalogState.{AnalogState}
+use Rattle.points.specs.declared.AnalogState.the-variants as Ks
+use Rattle.points.specs.PointsView.{PointsView}
+use Rattle.points.specs.Reading.{BinaryAfter, AnalogAfter, flagsAbove, readBinary, wholeBy, readWhole, floatBy, readFloat}
 use Rattle.outstation.specs.declared.Reading.{Reading}
 use Rattle.outstation.specs.declared.Measured.{Measured}
 use Rattle.outstation.specs.declared.Measured.the-variants as Ms
-use Rattle.outstation.specs.World.{World}
-use Rattle.outstation.specs.Readings.{badTime, Heard, onBinary, onAnalog, hearBy, hear}
+use Rattle.outstation.specs.OutstationView.{OutstationView}
+use Rattle.outstation.specs.Readings.{badTime, ReadingEffect, onBinary, onAnalog, applyBy, applyReading}
 use Rattle.outstation.specs.Step.{took, Result, taken, readingStep, tableFrom}
 use Rattle.outstation.specs.Singly.{after, eachTaken, Singly}
 
 -- ---- one reading
 
-pub refused-same : (r : Reading) (w : World) (n : ℕ) → hear (w .shared .clock) (w .shared .inputs) r ≡ refused n → readingStep r w ≡ record { state = w; answer = took 0 n }
+pub refused-same : (r : Reading) (w : OutstationView) (n : ℕ) → applyReading (w .shared .clock) (w .shared .inputs) r ≡ refused n → readingStep r w ≡ record { state = w; answer = took 0 n }
 unfolding readingStep
 refused-same r w n h = rw h
 
-pub accepted-taken : (r : Reading) (w : World) (h : Heard) → hear (w .shared .clock) (w .shared .inputs) r ≡ accepted h → readingStep r w ≡ record { state = taken w r h; answer = took 1 0 }
+pub accepted-taken : (r : Reading) (w : OutstationView) (h : ReadingEffect) → applyReading (w .shared .clock) (w .shared .inputs) r ≡ accepted h → readingStep r w ≡ record { state = taken w r h; answer = took 1 0 }
 unfolding readingStep
 accepted-taken r w h e = rw e
 
@@ -62,59 +62,59 @@ numberIn A n h = h
 by-flags : {A : Type 0} (t : Bool) (a : A) → Numbered (cond t (refused 4) (accepted a))
 by-flags t a = either t _ _ (no _ 4 (omega arith)) (ok a)
 
-numbered-binary : (i : Inputs) (r : Reading) (x : Outcome BinaryAfter) → Numbered x → Numbered (onBinary i r x)
+numbered-binary : (i : PointsView) (r : Reading) (x : Outcome BinaryAfter) → Numbered x → Numbered (onBinary i r x)
 numbered-binary i r (accepted a) h = ok _
 numbered-binary i r (refused n) h = no _ n (numberIn _ n h)
 
-numbered-analog : (i : Inputs) (r : Reading) (x : Outcome AnalogAfter) → Numbered x → Numbered (onAnalog i r x)
+numbered-analog : (i : PointsView) (r : Reading) (x : Outcome AnalogAfter) → Numbered x → Numbered (onAnalog i r x)
 numbered-analog i r (accepted a) h = ok _
 numbered-analog i r (refused n) h = no _ n (numberIn _ n h)
 
-binary-numbered : (p : BinaryPoint) (s : Bool) (flags : ℕ) → Numbered (binaryReading p s flags)
-unfolding binaryReading
+binary-numbered : (p : BinaryPoint) (s : Bool) (flags : ℕ) → Numbered (readBinary p s flags)
+unfolding readBinary
 binary-numbered p s flags = by-flags (flagsAbove flags) _
 
-whole-by : (m : Measure) (p : AnalogPoint) (z : ℤ) (flags : ℕ) → Numbered (wholeBy m p z flags)
-whole-by (Ks.Long t) p z flags = by-flags (flagsAbove flags) _
-whole-by (Ks.Short t) p z flags = by-flags (flagsAbove flags) _
-whole-by (Ks.Real t) p z flags = no _ 2 (omega arith)
+whole-by : (m : AnalogState) (p : AnalogPoint) (z : ℤ) (flags : ℕ) → Numbered (wholeBy m p z flags)
+whole-by (Ks.Int32 t) p z flags = by-flags (flagsAbove flags) _
+whole-by (Ks.Int16 t) p z flags = by-flags (flagsAbove flags) _
+whole-by (Ks.Float32 t) p z flags = no _ 2 (omega arith)
 
-float-by : (m : Measure) (p : AnalogPoint) (x : Float) (flags : ℕ) → Numbered (floatBy m p x flags)
-float-by (Ks.Long t) p x flags = no _ 2 (omega arith)
-float-by (Ks.Short t) p x flags = no _ 2 (omega arith)
-float-by (Ks.Real t) p x flags = either (not (finite x)) _ _ (no _ 3 (omega arith)) (by-flags (flagsAbove flags) _)
+float-by : (m : AnalogState) (p : AnalogPoint) (x : Float) (flags : ℕ) → Numbered (floatBy m p x flags)
+float-by (Ks.Int32 t) p x flags = no _ 2 (omega arith)
+float-by (Ks.Int16 t) p x flags = no _ 2 (omega arith)
+float-by (Ks.Float32 t) p x flags = either (not (finite x)) _ _ (no _ 3 (omega arith)) (by-flags (flagsAbove flags) _)
 
-whole-numbered : (p : AnalogPoint) (z : ℤ) (flags : ℕ) → Numbered (wholeReading p z flags)
-unfolding wholeReading
-whole-numbered p z flags = whole-by (p .measure) p z flags
+whole-numbered : (p : AnalogPoint) (z : ℤ) (flags : ℕ) → Numbered (readWhole p z flags)
+unfolding readWhole
+whole-numbered p z flags = whole-by (p .«gate_state») p z flags
 
-float-numbered : (p : AnalogPoint) (x : Float) (flags : ℕ) → Numbered (floatReading p x flags)
-unfolding floatReading
-float-numbered p x flags = float-by (p .measure) p x flags
+float-numbered : (p : AnalogPoint) (x : Float) (flags : ℕ) → Numbered (readFloat p x flags)
+unfolding readFloat
+float-numbered p x flags = float-by (p .«gate_state») p x flags
 
-by-numbered : (m : Measured) (i : Inputs) (r : Reading) → Numbered (hearBy m i r)
+by-numbered : (m : Measured) (i : PointsView) (r : Reading) → Numbered (applyBy m i r)
 by-numbered (Ms.State s) i r = either (ltb (r .point) (length (i .binaries))) _ _ (numbered-binary i r _ (binary-numbered _ s (r .flags))) (no _ 2 (omega arith))
 by-numbered (Ms.Whole z) i r = either (ltb (r .point) (length (i .analogs))) _ _ (numbered-analog i r _ (whole-numbered _ z (r .flags))) (no _ 2 (omega arith))
-by-numbered (Ms.Real x) i r = either (ltb (r .point) (length (i .analogs))) _ _ (numbered-analog i r _ (float-numbered _ x (r .flags))) (no _ 2 (omega arith))
+by-numbered (Ms.Float x) i r = either (ltb (r .point) (length (i .analogs))) _ _ (numbered-analog i r _ (float-numbered _ x (r .flags))) (no _ 2 (omega arith))
 
-hear-numbered : (clock : ℕ) (i : Inputs) (r : Reading) → Numbered (hear clock i r)
-unfolding hear
-hear-numbered clock i r = either (badTime clock (r .time)) _ _ (no _ 1 (omega arith)) (by-numbered (r .measured) i r)
+apply-numbered : (clock : ℕ) (i : PointsView) (r : Reading) → Numbered (applyReading clock i r)
+unfolding applyReading
+apply-numbered clock i r = either (badTime clock (r .time)) _ _ (no _ 1 (omega arith)) (by-numbered (r .measured) i r)
 
-pub refused-some : (r : Reading) (w : World) (n : ℕ) → hear (w .shared .clock) (w .shared .inputs) r ≡ refused n → 0 < n
-refused-some r w n h = numberIn Heard n (subst (λ (x : Outcome Heard). Numbered x) h (hear-numbered (w .shared .clock) (w .shared .inputs) r))
+pub refused-some : (r : Reading) (w : OutstationView) (n : ℕ) → applyReading (w .shared .clock) (w .shared .inputs) r ≡ refused n → 0 < n
+refused-some r w n h = numberIn ReadingEffect n (subst (λ (x : Outcome ReadingEffect). Numbered x) h (apply-numbered (w .shared .clock) (w .shared .inputs) r))
 
 -- ---- a table
 
 -- what a table from the j-th reading on answers and leaves
-pub record Counted (rs : List Reading) (j : ℕ) (w : World) : Type 0 where
+pub record CountsWithin (rs : List Reading) (j : ℕ) (w : OutstationView) : Type 0 where
   pub count : ℕ
   pub number : ℕ
-  pub left : World
+  pub left : OutstationView
   pub answers : tableFrom rs j w ≡ record { state = left; answer = took (j + count) number }
   pub singly : Singly w rs count number left
 
-counted-none : (j : ℕ) (w : World) → Counted [] j w
+counted-none : (j : ℕ) (w : OutstationView) → CountsWithin [] j w
 unfolding tableFrom
 counted-none j w =
     record {
@@ -125,8 +125,8 @@ counted-none j w =
       singly = record { within = zero-le; state = refl; each = tt; ends = λ e. refl; whole = λ e. refl; refuses = λ h. absurd (omega arith) };
     }
 
-module _ (r : Reading) (rs : List Reading) (j : ℕ) (w : World) where
-  counted-more : (h : Heard) → hear (w .shared .clock) (w .shared .inputs) r ≡ accepted h → Counted rs (suc j) (taken w r h) → Counted (r ∷ rs) j w
+module _ (r : Reading) (rs : List Reading) (j : ℕ) (w : OutstationView) where
+  counted-more : (h : ReadingEffect) → applyReading (w .shared .clock) (w .shared .inputs) r ≡ accepted h → CountsWithin rs (suc j) (taken w r h) → CountsWithin (r ∷ rs) j w
   unfolding tableFrom
   counted-more h e t =
       let s = accepted-taken r w h e in
@@ -147,7 +147,7 @@ module _ (r : Reading) (rs : List Reading) (j : ℕ) (w : World) where
             };
       }
 
-  counted-stop : (n : ℕ) → hear (w .shared .clock) (w .shared .inputs) r ≡ refused n → Counted (r ∷ rs) j w
+  counted-stop : (n : ℕ) → applyReading (w .shared .clock) (w .shared .inputs) r ≡ refused n → CountsWithin (r ∷ rs) j w
   unfolding tableFrom
   counted-stop n e =
       let some : 0 < n = refused-some r w n e in
@@ -167,21 +167,21 @@ module _ (r : Reading) (rs : List Reading) (j : ℕ) (w : World) where
             };
       }
 
-by-outcome : {P : Type 0} (x : Outcome Heard) → ((h : Heard) → x ≡ accepted h → P) → ((n : ℕ) → x ≡ refused n → P) → P
+by-outcome : {P : Type 0} (x : Outcome ReadingEffect) → ((h : ReadingEffect) → x ≡ accepted h → P) → ((n : ℕ) → x ≡ refused n → P) → P
 by-outcome (accepted h) f g = f h refl
 by-outcome (refused n) f g = g n refl
 
 -- every table is answered so
-pub counted : (rs : List Reading) (j : ℕ) (w : World) → Counted rs j w
+pub counted : (rs : List Reading) (j : ℕ) (w : OutstationView) → CountsWithin rs j w
 counted [] j w = counted-none j w
 counted (r ∷ rs) j w =
-    by-outcome (hear (w .shared .clock) (w .shared .inputs) r)
+    by-outcome (applyReading (w .shared .clock) (w .shared .inputs) r)
     (λ h e. counted-more r rs j w h e (counted rs (suc j) (taken w r h)))
     (λ n e. counted-stop r rs j w n e)
 
 -- "is taken as if each came singly; at the first refused one it stops, and the answer says how many were taken and which refusal
 -- stopped it"
-pub table-singly : (rs : List Reading) (w w₁ : World) (k n : ℕ) → tableFrom rs 0 w ≡ record { state = w₁; answer = took k n } → Singly w rs k n w₁
+pub table-singly : (rs : List Reading) (w w₁ : OutstationView) (k n : ℕ) → tableFrom rs 0 w ≡ record { state = w₁; answer = took k n } → Singly w rs k n w₁
 table-singly rs w w₁ k n e =
     let t = counted rs 0 w in
     let same : _≡_ {A = Result} (record { state = t .left; answer = took (0 + t .count) (t .number) }) (record { state = w₁; answer = took k n }) = sym (t .answers) ∙ e in

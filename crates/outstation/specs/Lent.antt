@@ -6,18 +6,18 @@ use mathlib.Core.List.{List}
 use lib.Dec.{eqb}
 use Rattle.laws.specs.Limits.{pointsMax, eventsMax, fragmentMax}
 use Rattle.control.specs.Objects.{echoMax, answerMax}
-use Rattle.points.specs.Inputs.{Inputs}
-use Rattle.select.specs.Select.{latchOf}
-use Rattle.repeat.specs.Repeat.{lastIn}
+use Rattle.points.specs.PointsView.{PointsView}
+use Rattle.select_latch.specs.Select.{latchOf}
+use Rattle.last_request.specs.Repeat.{lastIn}
 use Rattle.words.specs.Numbers.{holds}
 use Rattle.point_store.specs.declared.Installed.{Installed}
-use Rattle.point_store.specs.PointWords.{inputsIn}
+use Rattle.point_store.specs.PointWords.{pointsViewIn}
 use Rattle.event_store.specs.declared.BufferStatus.{BufferStatus}
-use Rattle.event_store.specs.EventWords.{queueIn}
+use Rattle.event_store.specs.EventWords.{bufferViewIn}
 use Rattle.outstation.specs.declared.Wait.{Wait}
 use Rattle.outstation.specs.declared.Wait.the-variants.{Idle, Awaiting}
 use Rattle.outstation.specs.declared.Head.{Head}
-use Rattle.outstation.specs.World.{Exchange, World}
+use Rattle.outstation.specs.OutstationView.{SessionView, OutstationView}
 
 -- what is lent: the points' words, the held events' words, the last request, its answer, the object bytes of the select latch
 pub record Lent : Type 0 where
@@ -33,8 +33,8 @@ pub record Lent : Type 0 where
 abbrev pub installedOf : Head → Installed
 installedOf h = record { binaries = h .«binary_count»; analogs = h .«analog_count» }
 
-abbrev pub statusOf : Head → BufferStatus
-statusOf h = record { count = h .«event_count»; overflow = holds (h .overflow) }
+abbrev pub bufferStatus : Head → BufferStatus
+bufferStatus h = record { count = h .«event_count»; overflow = holds (h .overflow) }
 
 -- kind 0: nothing is awaited
 unfoldable pub waitOf : Head → Wait
@@ -42,8 +42,8 @@ waitOf h =
     cond (eqb (h .waiting) 0) Idle
     (Awaiting (record { 0 = h .«wait_sequence» }) (h .«wait_time») (holds (h .«showed_overflow»)) (holds (h .«dropped_since»)))
 
-abbrev pub exchangeIn : Head → Lent → Exchange
-exchangeIn h m =
+abbrev pub sessionIn : Head → Lent → SessionView
+sessionIn h m =
     record {
       restarted = holds (h .restarted);
       wait = waitOf h;
@@ -60,18 +60,18 @@ exchangeIn h m =
           });
     }
 
--- ---- the world, with these inputs and with those of the memory
+-- ---- the view, with these inputs and with those of the memory
 
-abbrev pub worldWith : Head → Inputs → Lent → World
-worldWith h i m =
+abbrev pub viewWith : Head → PointsView → Lent → OutstationView
+viewWith h i m =
     record {
       shared =
           record { armTime = h .«arm_time»; confirmTime = h .«confirm_time»; outputs = h .outputs; clock = h .clock; inputs = i };
-      master = record { queue = queueIn (m .held) (statusOf h); exchange = exchangeIn h m };
+      master = record { buffer = bufferViewIn (m .held) (bufferStatus h); session = sessionIn h m };
     }
 
-abbrev pub worldOf : Head → Lent → World
-worldOf h m = worldWith h (inputsIn (installedOf h) (m .binaries) (m .analogs)) m
+abbrev pub viewOf : Head → Lent → OutstationView
+viewOf h m = viewWith h (pointsViewIn (installedOf h) (m .binaries) (m .analogs)) m
 
 -- ---- an outstation: the head by value and the memory that the host lends
 
@@ -80,12 +80,12 @@ pub record Outstation : Type 0 where
   pub lent : Lent
 
 -- what it stands for
-abbrev pub world : Outstation → World
-world o = worldOf (o .head) (o .lent)
+abbrev pub outstationView : Outstation → OutstationView
+outstationView o = viewOf (o .head) (o .lent)
 
 -- ---- no count passes its array: from restart on this holds after every call, so a host that prints the counts may rely on it
 
-pub record HeadCounted (h : Head) : Type 0 where
+pub record HeadCountsWithin (h : Head) : Type 0 where
   pub binaries : h .«binary_count» ≤ pointsMax
   pub analogs : h .«analog_count» ≤ pointsMax
   pub events : h .«event_count» ≤ eventsMax
@@ -93,8 +93,8 @@ pub record HeadCounted (h : Head) : Type 0 where
   pub answer : h .«answer_len» ≤ answerMax
   pub objects : h .«latch_len» ≤ echoMax
 
-abbrev pub Counted : Outstation → Type 0
-Counted o = HeadCounted (o .head)
+abbrev pub CountsWithin : Outstation → Type 0
+CountsWithin o = HeadCountsWithin (o .head)
 
 -- ---- what is lent to a restart and to readings: the words
 

@@ -1,9 +1,9 @@
 pub mod Setup
-pub mod World
+pub mod OutstationView
 pub mod Readings
 pub mod Requests
 pub mod Step
 pub mod Lent
 pub mod Contracts
-pub mod Hearing
+pub mod ReadingParts
 pub mod Singly

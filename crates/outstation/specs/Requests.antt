@@ -7,10 +7,10 @@ use lib.Dec.{eqb, leb}
 use Rattle.laws.specs.Outcome.{Outcome, accepted, refused}
 use Rattle.application.specs.declared.Fault.{Fault}
 use Rattle.application.specs.Fragment.{Kind, confirm, request, classified, objectsOf}
-use Rattle.points.specs.Inputs.{Inputs}
-use Rattle.request.specs.declared.Header.{Header}
-use Rattle.request.specs.Parse.{Parsed, headers, fault}
-use Rattle.static_objects.specs.Static.{readOf}
+use Rattle.points.specs.PointsView.{PointsView}
+use Rattle.read_headers.specs.declared.Header.{Header}
+use Rattle.read_headers.specs.Parse.{Parsed, headers, fault}
+use Rattle.static_objects.specs.Static.{askedOf}
 
 -- what a fragment asks: nothing that is taken (31); a CONFIRM; a faultless READ of these headers; a READ with this fault; another
 -- request
@@ -26,18 +26,18 @@ readAsk q (headers hs) = reads q hs
 readAsk q (fault e) = misreads q e
 
 -- READ is function 1
-abbrev pub kindAsk : Inputs → List ℕ → Kind → Ask
+abbrev pub kindAsk : PointsView → List ℕ → Kind → Ask
 kindAsk i f (confirm q uns) = confirms q uns
-kindAsk i f (request q function) = cond (eqb function 1) (readAsk q (readOf i (objectsOf f))) (asks q function)
+kindAsk i f (request q function) = cond (eqb function 1) (readAsk q (askedOf i (objectsOf f))) (asks q function)
 
-abbrev pub outcomeAsk : Inputs → List ℕ → Outcome Kind → Ask
+abbrev pub outcomeAsk : PointsView → List ℕ → Outcome Kind → Ask
 outcomeAsk i f (accepted k) = kindAsk i f k
 outcomeAsk i f (refused n) = malformed
 
-unfoldable pub ask : Inputs → List ℕ → Ask
+unfoldable pub ask : PointsView → List ℕ → Ask
 ask i f = outcomeAsk i f (classified f)
 
 -- ---- a CONFIRM: "An accepted CONFIRM has that sequence, UNS 0, and comes no later than the confirm time"
 
-unfoldable pub confirmed : (confirmTime sequence : ℕ) (uns : Bool) (time awaited built : ℕ) → Bool
-confirmed confirmTime sequence uns time awaited built = not uns && (eqb sequence awaited && leb (time - built) confirmTime)
+unfoldable pub isConfirmed : (confirmTime sequence : ℕ) (uns : Bool) (time awaited built : ℕ) → Bool
+isConfirmed confirmTime sequence uns time awaited built = not uns && (eqb sequence awaited && leb (time - built) confirmTime)

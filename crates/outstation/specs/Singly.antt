@@ -5,21 +5,21 @@ use mathlib.Core.Path.{_≡_}
 use mathlib.Core.List.{List, [], _∷_}
 use lib.ListN.{length, getD, take}
 use Rattle.outstation.specs.declared.Reading.{Reading}
-use Rattle.outstation.specs.World.{World}
+use Rattle.outstation.specs.OutstationView.{OutstationView}
 use Rattle.outstation.specs.Step.{took, readingStep}
 
 -- the state after these readings, one by one
-abbrev pub after : World → List Reading → World
+abbrev pub after : OutstationView → List Reading → OutstationView
 after w [] = w
 after w (r ∷ rs) = after (readingStep r w .state) rs
 
 -- none of them is refused
-abbrev pub eachTaken : World → List Reading → Type 0
+abbrev pub eachTaken : OutstationView → List Reading → Type 0
 eachTaken w [] = Unit {0}
 eachTaken w (r ∷ rs) = (readingStep r w .answer ≡ took 1 0) × eachTaken (readingStep r w .state) rs
 
 -- of the readings rs from w the first k are taken, each singly, and leave w₁; the next is refused with n, or there is none
-pub record Singly (w : World) (rs : List Reading) (k n : ℕ) (w₁ : World) : Type 0 where
+pub record Singly (w : OutstationView) (rs : List Reading) (k n : ℕ) (w₁ : OutstationView) : Type 0 where
   pub within : k ≤ length rs
   pub state : w₁ ≡ after w (take k rs)
   pub each : eachTaken w (take k rs)

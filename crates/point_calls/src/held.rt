@@ -54,15 +54,15 @@ fn put_state(point: u16, state: bool, out: &mut [u8], at: usize) -> usize {
 // ` KIND,INDEX,VALUE` of an analog point
 fn put_analog(point: u16, v: Value, out: &mut [u8], at: usize) -> usize {
     match v {
-        Value::Long(z) => {
+        Value::Int32(z) => {
             let a = put_point(b'1', point, out, at);
             put_signed(z, out, a)
         }
-        Value::Short(z) => {
+        Value::Int16(z) => {
             let a = put_point(b'2', point, out, at);
             put_signed(widened(z), out, a)
         }
-        Value::Real(x) => {
+        Value::Float32(x) => {
             let a = put_point(b'5', point, out, at);
             put_float(x, out, a)
         }

@@ -3,7 +3,7 @@ use point_store::ANALOG_WORDS;
 use point_store::BINARY_WORDS;
 use points::POINTS_MAX;
 use restart::AnalogSetupWords;
-use restart::Going;
+use restart::RestartProgress;
 use restart::Restarted;
 use restart::SetupWords;
 
@@ -327,7 +327,7 @@ fn restarted_with(
 
 // No outstation: a line that is not right, or a limit or a count that is more than its type holds.
 fn not_set_up(right: bool, setup: SetupWords) -> SetUp {
-    let restarted = restart::answered(setup, 0, Going { at: 0, refusal: 5 });
+    let restarted = restart::answered(setup, 0, RestartProgress { at: 0, refusal: 5 });
     SetUp {
         right,
         setup,

@@ -12,12 +12,12 @@ use Rattle.points.specs.declared.FloatGate.the-variants as F
 use Rattle.points.specs.declared.WholeGate.the-variants as W
 use Rattle.points.specs.declared.Value.{Value}
 use Rattle.points.specs.declared.Value.the-variants as Vs
-use Rattle.points.specs.declared.Measure.{Measure}
-use Rattle.points.specs.declared.Measure.the-variants as Ms
+use Rattle.points.specs.declared.AnalogState.{AnalogState}
+use Rattle.points.specs.declared.AnalogState.the-variants as Ms
 use Rattle.points.specs.declared.AnalogPoint.{AnalogPoint}
-use Rattle.points.specs.Scaling.{scaled, limitedTo, clampedTo, largest, one, plusZero}
-use Rattle.points.specs.Gate.{dropSign, distanceOf, floatGated, wholeGated}
-use Rattle.points.specs.Reading.{AnalogAfter, reports, raises, wholeReading, floatReading}
+use Rattle.points.specs.Scaling.{scaled, limitedOf, clampValue, largest, one, plusZero}
+use Rattle.points.specs.Gate.{dropSign, floatDistance, gateFloat, gateWhole}
+use Rattle.points.specs.Reading.{AnalogAfter, isReported, isRaised, readWhole, readFloat}
 use Rattle.points.specs.Setup.{limitOk}
 
 minusZero : Float
@@ -39,17 +39,17 @@ unfolding mul add minusZero
 minus-zero-shown = refl
 
 -- the difference of the two ends is an infinity, which is above every finite limit
-far-apart : lt (largest false) (distanceOf (largest true) (largest false)) ≡ true
+far-apart : lt (largest false) (floatDistance (largest true) (largest false)) ≡ true
 unfolding sub dropSign lt
 far-apart = refl
 
 -- "any change" from plus zero to minus zero is none
-zeros-equal : floatGated F.AnyChange minusZero plusZero plusZero plusZero .pass ≡ false
+zeros-equal : gateFloat F.AnyChange minusZero plusZero plusZero plusZero .pass ≡ false
 unfolding ne minusZero
 zeros-equal = refl
 
 -- and their distance is plus zero
-zeros-apart : distanceOf minusZero plusZero ≡ plusZero
+zeros-apart : floatDistance minusZero plusZero ≡ plusZero
 unfolding sub dropSign minusZero
 zeros-apart = refl
 
@@ -66,17 +66,17 @@ ends-back : natAbs (pos 2147483647 -ℤ negsuc 2147483647) ≡ 4294967295
 ends-back = refl
 
 -- so the largest limit never passes, and one less does
-largest-limit : wholeGated (W.Beyond 4294967295) (negsuc 2147483647) (pos 2147483647) (pos 0) 0 .pass ≡ false
+largest-limit : gateWhole (W.Beyond 4294967295) (negsuc 2147483647) (pos 2147483647) (pos 0) 0 .pass ≡ false
 largest-limit = refl
 
-below-largest-limit : wholeGated (W.Beyond 4294967294) (negsuc 2147483647) (pos 2147483647) (pos 0) 0 .pass ≡ true
+below-largest-limit : gateWhole (W.Beyond 4294967294) (negsuc 2147483647) (pos 2147483647) (pos 0) 0 .pass ≡ true
 below-largest-limit = refl
 
 -- ---- whole readings
 
 -- a point of class 1 that has been read, with this value and these flags shown
-seen : Value → ℕ → Measure → AnalogPoint
-seen value flags measure = record { class = 1; seen = true; value = value; flags = flags; reported = flags; measure = measure }
+seen : Value → ℕ → AnalogState → AnalogPoint
+seen value flags gateState = record { class = 1; seen = true; value = value; flags = flags; «reported_flags» = flags; «gate_state» = gateState }
 
 raisedBy : Outcome AnalogAfter → Bool
 raisedBy (accepted a) = a .raised
@@ -85,27 +85,27 @@ raisedBy (refused k) = false
 -- a 16-bit point gates the value before clamping: 40,000 then 50,000 raises an event, and shows the same value and flags
 short-before : AnalogPoint
 short-before =
-    seen (Vs.Short (pos 32767)) 33
-    (Ms.Short (record { gate = W.AnyChange; reported = pos 40000; previous = pos 40000; sum = 0 }))
+    seen (Vs.Int16 (pos 32767)) 33
+    (Ms.Int16 (record { gate = W.AnyChange; «reported_value» = pos 40000; previous = pos 40000; sum = 0 }))
 
 short-after : AnalogPoint
 short-after =
-    seen (Vs.Short (pos 32767)) 33
-    (Ms.Short (record { gate = W.AnyChange; reported = pos 50000; previous = pos 50000; sum = 0 }))
+    seen (Vs.Int16 (pos 32767)) 33
+    (Ms.Int16 (record { gate = W.AnyChange; «reported_value» = pos 50000; previous = pos 50000; sum = 0 }))
 
-before-clamping : wholeReading short-before (pos 50000) 1 ≡ accepted (record { point = short-after; raised = true })
-unfolding wholeReading reports raises clampedTo seen short-before short-after
+before-clamping : readWhole short-before (pos 50000) 1 ≡ accepted (record { point = short-after; raised = true })
+unfolding readWhole isReported isRaised clampValue seen short-before short-after
 before-clamping = refl
 
 -- flags alone report: the sum, this reading's distance included, is set to 0
 sum-before : AnalogPoint
-sum-before = seen (Vs.Long (pos 7)) 1 (Ms.Long (record { gate = W.Summed 100; reported = pos 3; previous = pos 7; sum = 4 }))
+sum-before = seen (Vs.Int32 (pos 7)) 1 (Ms.Int32 (record { gate = W.Summed 100; «reported_value» = pos 3; previous = pos 7; sum = 4 }))
 
 sum-after : AnalogPoint
-sum-after = seen (Vs.Long (pos 9)) 0 (Ms.Long (record { gate = W.Summed 100; reported = pos 9; previous = pos 9; sum = 0 }))
+sum-after = seen (Vs.Int32 (pos 9)) 0 (Ms.Int32 (record { gate = W.Summed 100; «reported_value» = pos 9; previous = pos 9; sum = 0 }))
 
-flags-alone : wholeReading sum-before (pos 9) 0 ≡ accepted (record { point = sum-after; raised = true })
-unfolding wholeReading reports raises seen sum-before sum-after
+flags-alone : readWhole sum-before (pos 9) 0 ≡ accepted (record { point = sum-after; raised = true })
+unfolding readWhole isReported isRaised seen sum-before sum-after
 flags-alone = refl
 
 -- ---- float readings
@@ -116,25 +116,25 @@ twice = record { gain = fin false 1 (pos 1); offset = plusZero }
 -- a float point that shows the largest value with over-range, gain 2
 full : FloatGate → AnalogPoint
 full gate =
-    seen (Vs.Real (largest false)) 33
-    (Ms.Real (record { scale = twice; gate = gate; reported = largest false; previous = largest false; sum = plusZero }))
+    seen (Vs.Float32 (largest false)) 33
+    (Ms.Float32 (record { scale = twice; gate = gate; «reported_value» = largest false; previous = largest false; sum = plusZero }))
 
 -- the gate sees the value that replaced the infinity: over-range again is no change
-over-again : raisedBy (floatReading (full F.AnyChange) (largest false) 1) ≡ false
-unfolding floatReading reports raises mul add limitedTo ne seen twice full raisedBy
+over-again : raisedBy (readFloat (full F.AnyChange) (largest false) 1) ≡ false
+unfolding readFloat isReported isRaised mul add limitedOf ne seen twice full raisedBy
 over-again = refl
 
 -- leaving over-range is other flags, so a report under the gate "never" too
-over-left : raisedBy (floatReading (full F.Never) one 1) ≡ true
-unfolding floatReading reports raises mul add limitedTo seen twice full raisedBy
+over-left : raisedBy (readFloat (full F.Never) one 1) ≡ true
+unfolding readFloat isReported isRaised mul add limitedOf seen twice full raisedBy
 over-left = refl
 
 -- a NaN with flags above 31 is refusal 3, not 4
-nan-first : floatReading (full F.Never) nan 32 ≡ refused 3
-unfolding floatReading seen full
+nan-first : readFloat (full F.Never) nan 32 ≡ refused 3
+unfolding readFloat seen full
 nan-first = refl
 
 -- a whole reading of a float point is refusal 2, whatever its flags
-other-kind : wholeReading (full F.Never) (pos 0) 32 ≡ refused 2
-unfolding wholeReading seen full
+other-kind : readWhole (full F.Never) (pos 0) 32 ≡ refused 2
+unfolding readWhole seen full
 other-kind = refl

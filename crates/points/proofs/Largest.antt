@@ -19,7 +19,7 @@ use lib.Dec.{T, leb, leb→le, nleb→lt, lit≤}
 use lib.Pow.{pow-add, pow-pos, pow-mono}
 use lib.Ieee.{Float, nan, inf, fin, binary32, up, down, lt, le, fits}
 use borrow.Author.Tests.{le-ltb}
-use Rattle.points.specs.Scaling.{largest, limitedTo}
+use Rattle.points.specs.Scaling.{largest, limitedOf}
 use Rattle.points.proofs.Identity.{fits-says}
 
 digits : (n : ℕ) → n < 2 ^ 24 → n ≤ 16777215
@@ -75,8 +75,8 @@ deep (inf true) t h = refl
 deep (inf false) t h = absurd (false≢true h)
 deep (fin s m e) t h = absurd (true≢false (sym h ∙ not-below s m e t))
 
-pub within : (v : Float) → lt (largest false) v ≡ false → lt v (largest true) ≡ false → limitedTo v ≡ record { value = v; over = false }
-unfolding lt limitedTo
+pub within : (v : Float) → lt (largest false) v ≡ false → lt v (largest true) ≡ false → limitedOf v ≡ record { value = v; over = false }
+unfolding lt limitedOf
 within nan h k = refl
 within (inf true) h k = absurd (true≢false k)
 within (inf false) h k = absurd (true≢false h)

@@ -17,35 +17,35 @@ use Rattle.points.specs.declared.WholeGate.the-variants as W
 use Rattle.points.specs.declared.AnalogKind.{AnalogKind}
 use Rattle.points.specs.declared.AnalogKind.the-variants as Ks
 use Rattle.points.specs.declared.AnalogSetup.{AnalogSetup}
-use Rattle.points.specs.declared.Measure.{Measure}
-use Rattle.points.specs.declared.Measure.the-variants as Ms
+use Rattle.points.specs.declared.AnalogState.{AnalogState}
+use Rattle.points.specs.declared.AnalogState.the-variants as Ms
 use Rattle.points.specs.declared.Value.{Value}
 use Rattle.points.specs.declared.Value.the-variants as Vs
-use Rattle.points.specs.declared.WholeTrack.{WholeTrack}
-use Rattle.points.specs.declared.FloatTrack.{FloatTrack}
+use Rattle.points.specs.declared.WholeGateState.{WholeGateState}
+use Rattle.points.specs.declared.FloatGateState.{FloatGateState}
 use Rattle.points.specs.declared.AnalogPoint.{AnalogPoint}
-use Rattle.points.specs.Scaling.{shownOf, clampedTo}
+use Rattle.points.specs.Scaling.{scaleValue, clampValue}
 use Rattle.points.specs.Reading.{
   flagsAbove,
-  overRange,
-  reports,
-  raises,
+  shownFlags,
+  isReported,
+  isRaised,
   wholeGate,
   floatGate,
-  wholeTrackAfter,
-  floatTrackAfter,
+  wholeGateAfter,
+  floatGateAfter,
   wholeAfter,
-  realAfter,
+  float32After,
   wholeBy,
   floatBy,
-  wholeReading,
-  floatReading,
+  readWhole,
+  readFloat,
 }
 use Rattle.points.specs.Setup.{classOk, scaleOk, floatGateOk, kindOk, analogOk, freshBy, freshAnalog}
 use Rattle.points.specs.Kept.{
   wholeSumOk,
-  TrackOk,
-  MeasureOk,
+  GateStateOk,
+  AnalogStateOk,
   shownOk,
   PointOk,
   AnalogAfterOk,
@@ -58,8 +58,8 @@ use Rattle.points.proofs.ScaleLaws.{shown-finite}
 use Rattle.points.proofs.SumLaws.{zero-ok, float-kept, whole-kept}
 
 -- ---- the flags last reported are those shown: other flags are reported at once
-pub last-shown : (seen : Bool) (flags last : ℕ) (passes : Bool) → cond (reports seen flags last passes) flags last ≡ flags
-unfolding reports
+pub last-shown : (seen : Bool) (flags last : ℕ) (passes : Bool) → cond (isReported seen flags last passes) flags last ≡ flags
+unfolding isReported
 last-shown false flags last b = refl
 last-shown true flags last b = go (eqb flags last) refl
   where
@@ -72,12 +72,12 @@ last-shown true flags last b = go (eqb flags last) refl
         pick false = sym (eqb-true flags last h)
 
 -- ---- the first reading raises no event, and counts as reported
-pub first-silent : (reported : Bool) (class : ℕ) → raises false reported class ≡ false
-unfolding raises
+pub first-silent : (reported : Bool) (class : ℕ) → isRaised false reported class ≡ false
+unfolding isRaised
 first-silent reported class = refl
 
-pub first-reported : (flags last : ℕ) (passes : Bool) → reports false flags last passes ≡ true
-unfolding reports
+pub first-reported : (flags last : ℕ) (passes : Bool) → isReported false flags last passes ≡ true
+unfolding isReported
 first-reported flags last b = refl
 
 -- ---- whole points
@@ -87,74 +87,74 @@ whole-zero W.AnyChange = tt
 whole-zero (W.Beyond l) = tt
 whole-zero (W.Summed l) = le→leb 0 l zero-le
 
-whole-track-ok : (t : WholeTrack) (z : ℤ) (r : Bool) → T (wholeSumOk (t .gate) (wholeTrackAfter t z r (wholeGate t z .sum) .sum))
-whole-track-ok t z true = whole-zero (t .gate)
-whole-track-ok t z false = whole-kept (t .gate) z (t .reported) (t .previous) (t .sum)
+whole-gate-after-ok : (t : WholeGateState) (z : ℤ) (r : Bool) → T (wholeSumOk (t .gate) (wholeGateAfter t z r (wholeGate t z .sum) .sum))
+whole-gate-after-ok t z true = whole-zero (t .gate)
+whole-gate-after-ok t z false = whole-kept (t .gate) z (t .«reported_value») (t .previous) (t .sum)
 
 -- a whole point's record after an accepted reading is fine, whatever it was before
-pub whole-reading-ok : (p : AnalogPoint) (z : ℤ) (flags : ℕ) → AnalogAfterOk (wholeReading p z flags)
-unfolding wholeReading
-whole-reading-ok p z flags = go (p .measure)
+pub whole-reading-ok : (p : AnalogPoint) (z : ℤ) (flags : ℕ) → AnalogAfterOk (readWhole p z flags)
+unfolding readWhole
+whole-reading-ok p z flags = go (p .«gate_state»)
   where
-    long : (t : WholeTrack) (b : Bool) → AnalogAfterOk (cond b (refused 4) (accepted (wholeAfter p t z (Vs.Long z) flags Ms.Long)))
+    long : (t : WholeGateState) (b : Bool) → AnalogAfterOk (cond b (refused 4) (accepted (wholeAfter p t z (Vs.Int32 z) flags Ms.Int32)))
     long t true = tt
     long t false =
         record {
-          measure = whole-track-ok t z (reports (p .seen) flags (p .reported) (wholeGate t z .pass));
+          «gate_state» = whole-gate-after-ok t z (isReported (p .seen) flags (p .«reported_flags») (wholeGate t z .pass));
           value = tt;
-          flags = last-shown (p .seen) flags (p .reported) (wholeGate t z .pass);
+          flags = last-shown (p .seen) flags (p .«reported_flags») (wholeGate t z .pass);
         }
 
-    short : (t : WholeTrack) (f : ℕ) (b : Bool) →
-        AnalogAfterOk (cond b (refused 4) (accepted (wholeAfter p t z (Vs.Short (clampedTo z .value)) f Ms.Short)))
+    short : (t : WholeGateState) (f : ℕ) (b : Bool) →
+        AnalogAfterOk (cond b (refused 4) (accepted (wholeAfter p t z (Vs.Int16 (clampValue z .value)) f Ms.Int16)))
     short t f true = tt
     short t f false =
         record {
-          measure = whole-track-ok t z (reports (p .seen) f (p .reported) (wholeGate t z .pass));
+          «gate_state» = whole-gate-after-ok t z (isReported (p .seen) f (p .«reported_flags») (wholeGate t z .pass));
           value = tt;
-          flags = last-shown (p .seen) f (p .reported) (wholeGate t z .pass);
+          flags = last-shown (p .seen) f (p .«reported_flags») (wholeGate t z .pass);
         }
 
-    go : (m : Measure) → AnalogAfterOk (wholeBy m p z flags)
-    go (Ms.Long t) = long t (flagsAbove flags)
-    go (Ms.Short t) = short t (overRange (clampedTo z .over) flags) (flagsAbove flags)
-    go (Ms.Real t) = tt
+    go : (m : AnalogState) → AnalogAfterOk (wholeBy m p z flags)
+    go (Ms.Int32 t) = long t (flagsAbove flags)
+    go (Ms.Int16 t) = short t (shownFlags (clampValue z .over) flags) (flagsAbove flags)
+    go (Ms.Float32 t) = tt
 
 -- ---- float points
-float-track-ok : (t : FloatTrack) (v : Float) (r : Bool) → TrackOk t → T (finite v) → TrackOk (floatTrackAfter t v r (floatGate t v .sum))
-float-track-ok t v true h f =
+float-gate-after-ok : (t : FloatGateState) (v : Float) (r : Bool) → GateStateOk t → T (finite v) → GateStateOk (floatGateAfter t v r (floatGate t v .sum))
+float-gate-after-ok t v true h f =
     let s = zero-ok (t .gate) (h .gate) in
-    record { scale = h .scale; gate = h .gate; reported = f; previous = f; sum = s .finite; sign = s .sign; within = s .within }
-float-track-ok t v false h f =
+    record { scale = h .scale; gate = h .gate; «reported_value» = f; previous = f; sum = s .finite; sign = s .sign; within = s .within }
+float-gate-after-ok t v false h f =
     let s =
-    float-kept (t .gate) v (t .reported) (t .previous) (t .sum) (h .gate) f (h .previous)
+    float-kept (t .gate) v (t .«reported_value») (t .previous) (t .sum) (h .gate) f (h .previous)
     (record { finite = h .sum; sign = h .sign; within = h .within }) in
-    record { scale = h .scale; gate = h .gate; reported = h .reported; previous = f; sum = s .finite; sign = s .sign; within = s .within }
+    record { scale = h .scale; gate = h .gate; «reported_value» = h .«reported_value»; previous = f; sum = s .finite; sign = s .sign; within = s .within }
 
-pub float-reading-ok : (p : AnalogPoint) (x : Float) (flags : ℕ) → PointOk p → AnalogAfterOk (floatReading p x flags)
-unfolding floatReading
-float-reading-ok p x flags h = go (p .measure) (h .measure)
+pub float-reading-ok : (p : AnalogPoint) (x : Float) (flags : ℕ) → PointOk p → AnalogAfterOk (readFloat p x flags)
+unfolding readFloat
+float-reading-ok p x flags h = go (p .«gate_state») (h .«gate_state»)
   where
-    real : (t : FloatTrack) (f : ℕ) → TrackOk t → (a b : Bool) → finite x ≡ a →
-        AnalogAfterOk (cond (not a) (refused 3) (cond b (refused 4) (accepted (realAfter p t (shownOf (t .scale) x .value) f))))
+    real : (t : FloatGateState) (f : ℕ) → GateStateOk t → (a b : Bool) → finite x ≡ a →
+        AnalogAfterOk (cond (not a) (refused 3) (cond b (refused 4) (accepted (float32After p t (scaleValue (t .scale) x .value) f))))
     real t f k false b e = tt
     real t f k true true e = tt
     real t f k true false e =
         let s = t .scale in
-        let v = shownOf s x .value in
+        let v = scaleValue s x .value in
         let g = and-l (finite (s .gain)) (finite (s .offset)) (k .scale) in
         let o = and-r (finite (s .gain)) (finite (s .offset)) (k .scale) in
         let w = shown-finite s x g o (passes _ e) in
         record {
-          measure = float-track-ok t v (reports (p .seen) f (p .reported) (floatGate t v .pass)) k w;
+          «gate_state» = float-gate-after-ok t v (isReported (p .seen) f (p .«reported_flags») (floatGate t v .pass)) k w;
           value = w;
-          flags = last-shown (p .seen) f (p .reported) (floatGate t v .pass);
+          flags = last-shown (p .seen) f (p .«reported_flags») (floatGate t v .pass);
         }
 
-    go : (m : Measure) → MeasureOk m → AnalogAfterOk (floatBy m p x flags)
-    go (Ms.Long t) k = tt
-    go (Ms.Short t) k = tt
-    go (Ms.Real t) k = real t (overRange (shownOf (t .scale) x .over) flags) k (finite x) (flagsAbove flags) refl
+    go : (m : AnalogState) → AnalogStateOk m → AnalogAfterOk (floatBy m p x flags)
+    go (Ms.Int32 t) k = tt
+    go (Ms.Int16 t) k = tt
+    go (Ms.Float32 t) k = real t (shownFlags (scaleValue (t .scale) x .over) flags) k (finite x) (flagsAbove flags) refl
 
 -- ---- a point before its first reading
 pub fresh-ok : (a : AnalogSetup) → T (analogOk a) → PointOk (freshAnalog a)
@@ -162,14 +162,14 @@ unfolding freshAnalog
 fresh-ok a h = go (a .kind) (and-r (classOk (a .class)) (kindOk (a .kind)) h)
   where
     go : (k : AnalogKind) → T (kindOk k) → PointOk (freshBy (a .class) k)
-    go (Ks.Long g) t = record { measure = whole-zero g; value = tt; flags = refl }
-    go (Ks.Short g) t = record { measure = whole-zero g; value = tt; flags = refl }
-    go (Ks.Real g s) t =
+    go (Ks.Int32 g) t = record { «gate_state» = whole-zero g; value = tt; flags = refl }
+    go (Ks.Int16 g) t = record { «gate_state» = whole-zero g; value = tt; flags = refl }
+    go (Ks.Float32 g s) t =
         let k = and-l (floatGateOk g) (scaleOk s) t in
         let c = and-r (floatGateOk g) (scaleOk s) t in
         let z = zero-ok g k in
         record {
-          measure = record { scale = c; gate = k; reported = tt; previous = tt; sum = tt; sign = tt; within = z .within };
+          «gate_state» = record { scale = c; gate = k; «reported_value» = tt; previous = tt; sum = tt; sign = tt; within = z .within };
           value = tt;
           flags = refl;
         }
@@ -181,11 +181,11 @@ reached-ok a p h (whole {p = o} z flags q r e) = subst AnalogAfterOk e (whole-re
 reached-ok a p h (float {p = o} x flags q r e) = subst AnalogAfterOk e (float-reading-ok o x flags (reached-ok a o h r))
 
 -- no NaN and no infinity is ever shown
-pub shown-never-infinite : (a : AnalogSetup) (p : AnalogPoint) (v : Float) → T (analogOk a) → Reached a p → p .value ≡ Vs.Real v →
+pub shown-never-infinite : (a : AnalogSetup) (p : AnalogPoint) (v : Float) → T (analogOk a) → Reached a p → p .value ≡ Vs.Float32 v →
     T (finite v)
-shown-never-infinite a p v h r e = go (p .measure) (subst (λ (w : Value). T (shownOk (p .measure) w)) e (reached-ok a p h r .value))
+shown-never-infinite a p v h r e = go (p .«gate_state») (subst (λ (w : Value). T (shownOk (p .«gate_state») w)) e (reached-ok a p h r .value))
   where
-    go : (m : Measure) → T (shownOk m (Vs.Real v)) → T (finite v)
-    go (Ms.Long t) k = absurd k
-    go (Ms.Short t) k = absurd k
-    go (Ms.Real t) k = k
+    go : (m : AnalogState) → T (shownOk m (Vs.Float32 v)) → T (finite v)
+    go (Ms.Int32 t) k = absurd k
+    go (Ms.Int16 t) k = absurd k
+    go (Ms.Float32 t) k = k

@@ -35,7 +35,7 @@ use lib.Ieee.Bits.{ofBits-fits, toBits-ofBits, ofBits-toBits}
 use lib.Ieee.Scale.{finite}
 use borrow.Author.Tests.{ne-eqb}
 use Rattle.points.specs.declared.Scale.{Scale}
-use Rattle.points.specs.Scaling.{scaled, limitedTo, shownOf, one, plusZero, noMinusZero}
+use Rattle.points.specs.Scaling.{scaled, limitedOf, scaleValue, one, plusZero, noMinusZero}
 use Rattle.points.proofs.Identity.{identity, zero-exp}
 
 -- ---- no NaN
@@ -79,27 +79,27 @@ pub scaled-no-nan : (x g o : Float) → T (finite x) → T (finite g) → T (fin
 scaled-no-nan x g o p q r = add-no-nan binary32 (mul binary32 x g) o (mul-no-nan binary32 x g p q) r
 
 -- ---- what a point shows is finite
-limited-finite : (v : Float) → isNan v ≡ false → T (finite (limitedTo v .value))
-unfolding isNan limitedTo
+limited-finite : (v : Float) → isNan v ≡ false → T (finite (limitedOf v .value))
+unfolding isNan limitedOf
 limited-finite nan h = absurd (true≢false h)
 limited-finite (inf s) h = tt
 limited-finite (fin s m e) h = tt
 
-pub shown-finite : (s : Scale) (x : Float) → T (finite (s .gain)) → T (finite (s .offset)) → T (finite x) → T (finite (shownOf s x .value))
+pub shown-finite : (s : Scale) (x : Float) → T (finite (s .gain)) → T (finite (s .offset)) → T (finite x) → T (finite (scaleValue s x .value))
 shown-finite s x p q r = limited-finite (scaled x (s .gain) (s .offset)) (scaled-no-nan x (s .gain) (s .offset) r p q)
 
 -- ---- gain 1 and offset plus zero
-unlimited : (x : Float) → T (finite x) → limitedTo (noMinusZero x) ≡ record { value = noMinusZero x; over = false }
-unfolding limitedTo noMinusZero
+unlimited : (x : Float) → T (finite x) → limitedOf (noMinusZero x) ≡ record { value = noMinusZero x; over = false }
+unfolding limitedOf noMinusZero
 unlimited (fin s zero e) h = refl
 unlimited (fin s (suc m) e) h = refl
 
 pub shown-identity : (s : Scale) (x : Float) → s .gain ≡ one → s .offset ≡ plusZero → T (fits binary32 x) → T (finite x) →
-    shownOf s x ≡ record { value = noMinusZero x; over = false }
+    scaleValue s x ≡ record { value = noMinusZero x; over = false }
 shown-identity s x p q t h =
-    ap (λ (g : Float). limitedTo (scaled x g (s .offset))) p
-    ∙ ap (λ (o : Float). limitedTo (scaled x one o)) q
-    ∙ ap limitedTo (identity x t h)
+    ap (λ (g : Float). limitedOf (scaled x g (s .offset))) p
+    ∙ ap (λ (o : Float). limitedOf (scaled x one o)) q
+    ∙ ap limitedOf (identity x t h)
     ∙ unlimited x h
 
 -- the same of the bits: every pattern of a finite value is given back, but minus zero's gives 0

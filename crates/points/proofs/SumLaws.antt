@@ -44,7 +44,7 @@ use Rattle.points.specs.declared.WholeGate.{WholeGate}
 use Rattle.points.specs.declared.WholeGate.the-variants as W
 use Rattle.points.specs.Scaling.{plusZero}
 use Rattle.points.specs.Setup.{floatGateOk}
-use Rattle.points.specs.Gate.{dropSign, distanceOf, totalOf, floatGated, wholeGated}
+use Rattle.points.specs.Gate.{dropSign, floatDistance, totalOf, gateFloat, gateWhole}
 use Rattle.points.specs.Kept.{plus, wholeSumOk, floatSumOk}
 use Rattle.points.proofs.ScaleLaws.{add-no-nan}
 
@@ -67,7 +67,7 @@ drop-plus (inf s) h = tt
 drop-plus (fin s m e) h = tt
 
 -- the distance of two finite values has the sign plus, and may be an infinity
-pub distance-plus : (a b : Float) → T (finite a) → T (finite b) → T (plus (distanceOf a b))
+pub distance-plus : (a b : Float) → T (finite a) → T (finite b) → T (plus (floatDistance a b))
 distance-plus a b p q = drop-plus (sub binary32 a b) (sub-no-nan a b p q)
 
 -- ---- a sum of two such values
@@ -131,14 +131,14 @@ zero-ok (F.Beyond l) h = record { finite = tt; sign = tt; within = tt }
 zero-ok (F.Summed l) h = record { finite = tt; sign = tt; within = and-r (finite l) (le plusZero l) h }
 
 pub float-kept : (g : FloatGate) (v r p s : Float) → T (floatGateOk g) → T (finite v) → T (finite p) → SumOk g s →
-    SumOk g (floatGated g v r p s .sum)
+    SumOk g (gateFloat g v r p s .sum)
 float-kept F.Never v r p s h fv fp k = k
 float-kept F.AnyChange v r p s h fv fp k = k
 float-kept (F.Beyond l) v r p s h fv fp k = k
 float-kept (F.Summed l) v r p s h fv fp k = go (lt l (totalOf s v p)) refl
   where
     t-plus : T (plus (totalOf s v p))
-    t-plus = add-plus s (distanceOf v p) (k .sign) (k .finite) (distance-plus v p fv fp)
+    t-plus = add-plus s (floatDistance v p) (k .sign) (k .finite) (distance-plus v p fv fp)
 
     l-fin : T (finite l)
     l-fin = and-l (finite l) (le plusZero l) h
@@ -151,7 +151,7 @@ float-kept (F.Summed l) v r p s h fv fp k = go (lt l (totalOf s v p)) refl
         record { finite = f; sign = t-plus; within = passes _ (not-above l (totalOf s v p) l-fin f e) }
 
 -- ---- a whole gate's sum
-pub summed-kept : (l : ℕ) (v r p : ℤ) (s : ℕ) → wholeGated (W.Summed l) v r p s .sum ≤ l
+pub summed-kept : (l : ℕ) (v r p : ℤ) (s : ℕ) → gateWhole (W.Summed l) v r p s .sum ≤ l
 summed-kept l v r p s = go (ltb l (s + natAbs (v -ℤ p))) refl
   where
     go : (b : Bool) → ltb l (s + natAbs (v -ℤ p)) ≡ b →
@@ -159,7 +159,7 @@ summed-kept l v r p s = go (ltb l (s + natAbs (v -ℤ p))) refl
     go true e = zero-le
     go false e = ltb-false l (s + natAbs (v -ℤ p)) e
 
-pub whole-kept : (g : WholeGate) (v r p : ℤ) (s : ℕ) → T (wholeSumOk g (wholeGated g v r p s .sum))
+pub whole-kept : (g : WholeGate) (v r p : ℤ) (s : ℕ) → T (wholeSumOk g (gateWhole g v r p s .sum))
 whole-kept W.Never v r p s = tt
 whole-kept W.AnyChange v r p s = tt
 whole-kept (W.Beyond l) v r p s = tt

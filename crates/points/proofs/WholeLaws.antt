@@ -13,7 +13,7 @@ use mir.Val.{SFits, Fits, toZ, ofZ}
 use mir.Facts.{toZ-ofZ, sfits-widen}
 use borrow.Author.Tests.{ltb-true, ltb-false, eqb-true, eq-eqb, ne-eqb}
 use Rattle.points.specs.declared.Clamped.{Clamped}
-use Rattle.points.specs.Scaling.{clampedTo}
+use Rattle.points.specs.Scaling.{clampValue}
 use Rattle.points.specs.Gate.{eqZ}
 
 -- ---- the size of a difference
@@ -118,8 +118,8 @@ within-16 (pos n) h k = let l : n ≤ 32767 = ltb-false 32767 n h in record { sf
 within-16 (negsuc n) h k = let l : n ≤ 32767 = ltb-false 32767 n k in record { sfits = omega arith }
 
 -- a clamped value is a 16-bit number
-pub clamped-within : (z : ℤ) → SFits w16 (clampedTo z .value)
-unfolding clampedTo
+pub clamped-within : (z : ℤ) → SFits w16 (clampValue z .value)
+unfolding clampValue
 clamped-within z = go (ltZ (pos 32767) z) (ltZ z (negsuc 32767)) refl refl
   where
     go : (a b : Bool) → ltZ (pos 32767) z ≡ a → ltZ z (negsuc 32767) ≡ b →

@@ -25,11 +25,11 @@ eqZ (negsuc a) (negsuc b) = eqb a b
 -- whether the gate passes, and the sum after the reading.
 -- "Beyond": the distance from the value last reported is above the limit. "Summed" adds the distance from the previous value
 -- at each reading, reports when the sum is above the limit and then sets it to 0.
-abbrev pub wholeGated : WholeGate → (value reported previous : ℤ) (sum : ℕ) → WholeGated
-wholeGated W.Never value reported previous sum = record { pass = false; sum = sum }
-wholeGated W.AnyChange value reported previous sum = record { pass = not (eqZ value reported); sum = sum }
-wholeGated (W.Beyond limit) value reported previous sum = record { pass = ltb limit (natAbs (value -ℤ reported)); sum = sum }
-wholeGated (W.Summed limit) value reported previous sum =
+abbrev pub gateWhole : WholeGate → (value reportedValue previous : ℤ) (sum : ℕ) → WholeGated
+gateWhole W.Never value reportedValue previous sum = record { pass = false; sum = sum }
+gateWhole W.AnyChange value reportedValue previous sum = record { pass = not (eqZ value reportedValue); sum = sum }
+gateWhole (W.Beyond limit) value reportedValue previous sum = record { pass = ltb limit (natAbs (value -ℤ reportedValue)); sum = sum }
+gateWhole (W.Summed limit) value reportedValue previous sum =
     cond (ltb limit (sum + natAbs (value -ℤ previous)))
     (record { pass = true; sum = 0 })
     (record { pass = false; sum = sum + natAbs (value -ℤ previous) })
@@ -42,18 +42,18 @@ dropSign (inf s) = inf false
 dropSign (fin s m e) = fin false m e
 
 -- the difference, rounded once, with its sign dropped
-abbrev pub distanceOf : Float → Float → Float
-distanceOf a b = dropSign (sub binary32 a b)
+abbrev pub floatDistance : Float → Float → Float
+floatDistance a b = dropSign (sub binary32 a b)
 
 -- the sum with this reading's distance added, rounded once
 abbrev pub totalOf : Float → Float → Float → Float
-totalOf sum value previous = add binary32 sum (distanceOf value previous)
+totalOf sum value previous = add binary32 sum (floatDistance value previous)
 
-abbrev pub floatGated : FloatGate → (value reported previous sum : Float) → FloatGated
-floatGated F.Never value reported previous sum = record { pass = false; sum = sum }
-floatGated F.AnyChange value reported previous sum = record { pass = ne value reported; sum = sum }
-floatGated (F.Beyond limit) value reported previous sum = record { pass = lt limit (distanceOf value reported); sum = sum }
-floatGated (F.Summed limit) value reported previous sum =
+abbrev pub gateFloat : FloatGate → (value reportedValue previous sum : Float) → FloatGated
+gateFloat F.Never value reportedValue previous sum = record { pass = false; sum = sum }
+gateFloat F.AnyChange value reportedValue previous sum = record { pass = ne value reportedValue; sum = sum }
+gateFloat (F.Beyond limit) value reportedValue previous sum = record { pass = lt limit (floatDistance value reportedValue); sum = sum }
+gateFloat (F.Summed limit) value reportedValue previous sum =
     cond (lt limit (totalOf sum value previous))
     (record { pass = true; sum = plusZero })
     (record { pass = false; sum = totalOf sum value previous })

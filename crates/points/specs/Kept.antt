@@ -12,14 +12,14 @@ use Rattle.points.specs.declared.FloatGate.{FloatGate}
 use Rattle.points.specs.declared.FloatGate.the-variants as F
 use Rattle.points.specs.declared.WholeGate.{WholeGate}
 use Rattle.points.specs.declared.WholeGate.the-variants as W
-use Rattle.points.specs.declared.FloatTrack.{FloatTrack}
+use Rattle.points.specs.declared.FloatGateState.{FloatGateState}
 use Rattle.points.specs.declared.Value.{Value}
 use Rattle.points.specs.declared.Value.the-variants as Vs
-use Rattle.points.specs.declared.Measure.{Measure}
-use Rattle.points.specs.declared.Measure.the-variants as Ms
+use Rattle.points.specs.declared.AnalogState.{AnalogState}
+use Rattle.points.specs.declared.AnalogState.the-variants as Ms
 use Rattle.points.specs.declared.AnalogPoint.{AnalogPoint}
 use Rattle.points.specs.declared.AnalogSetup.{AnalogSetup}
-use Rattle.points.specs.Reading.{AnalogAfter, wholeReading, floatReading}
+use Rattle.points.specs.Reading.{AnalogAfter, readWhole, readFloat}
 use Rattle.points.specs.Setup.{scaleOk, floatGateOk, freshAnalog}
 
 -- a number or an infinity whose sign is plus
@@ -42,36 +42,36 @@ floatSumOk (F.Beyond limit) sum = true
 floatSumOk (F.Summed limit) sum = le sum limit
 
 -- a float point's numbers are finite, and its sum is neither below 0 nor above its limit
-pub record TrackOk (t : FloatTrack) : Type 0 where
+pub record GateStateOk (t : FloatGateState) : Type 0 where
   pub scale : T (scaleOk (t .scale))
   pub gate : T (floatGateOk (t .gate))
-  pub reported : T (finite (t .reported))
+  pub «reported_value» : T (finite (t .«reported_value»))
   pub previous : T (finite (t .previous))
   pub sum : T (finite (t .sum))
   pub sign : T (plus (t .sum))
   pub within : T (floatSumOk (t .gate) (t .sum))
 
-abbrev pub MeasureOk : Measure → Type 0
-MeasureOk (Ms.Long t) = T (wholeSumOk (t .gate) (t .sum))
-MeasureOk (Ms.Short t) = T (wholeSumOk (t .gate) (t .sum))
-MeasureOk (Ms.Real t) = TrackOk t
+abbrev pub AnalogStateOk : AnalogState → Type 0
+AnalogStateOk (Ms.Int32 t) = T (wholeSumOk (t .gate) (t .sum))
+AnalogStateOk (Ms.Int16 t) = T (wholeSumOk (t .gate) (t .sum))
+AnalogStateOk (Ms.Float32 t) = GateStateOk t
 
 -- the shown value is of the point's kind, and no NaN and no infinity
-abbrev pub shownOk : Measure → Value → Bool
-shownOk (Ms.Long t) (Vs.Long z) = true
-shownOk (Ms.Long t) (Vs.Short z) = false
-shownOk (Ms.Long t) (Vs.Real v) = false
-shownOk (Ms.Short t) (Vs.Long z) = false
-shownOk (Ms.Short t) (Vs.Short z) = true
-shownOk (Ms.Short t) (Vs.Real v) = false
-shownOk (Ms.Real t) (Vs.Long z) = false
-shownOk (Ms.Real t) (Vs.Short z) = false
-shownOk (Ms.Real t) (Vs.Real v) = finite v
+abbrev pub shownOk : AnalogState → Value → Bool
+shownOk (Ms.Int32 t) (Vs.Int32 z) = true
+shownOk (Ms.Int32 t) (Vs.Int16 z) = false
+shownOk (Ms.Int32 t) (Vs.Float32 v) = false
+shownOk (Ms.Int16 t) (Vs.Int32 z) = false
+shownOk (Ms.Int16 t) (Vs.Int16 z) = true
+shownOk (Ms.Int16 t) (Vs.Float32 v) = false
+shownOk (Ms.Float32 t) (Vs.Int32 z) = false
+shownOk (Ms.Float32 t) (Vs.Int16 z) = false
+shownOk (Ms.Float32 t) (Vs.Float32 v) = finite v
 
 pub record PointOk (p : AnalogPoint) : Type 0 where
-  pub measure : MeasureOk (p .measure)
-  pub value : T (shownOk (p .measure) (p .value))
-  pub flags : p .reported ≡ p .flags
+  pub «gate_state» : AnalogStateOk (p .«gate_state»)
+  pub value : T (shownOk (p .«gate_state») (p .value))
+  pub flags : p .«reported_flags» ≡ p .flags
 
 -- the new record, where the reading is accepted
 abbrev pub AnalogAfterOk : Outcome AnalogAfter → Type 0
@@ -81,6 +81,6 @@ AnalogAfterOk (refused k) = Unit
 -- the records that a setup and any readings lead to; a refused reading leads nowhere
 pub data Reached (a : AnalogSetup) : AnalogPoint → Type 0 where
   fresh : Reached a (freshAnalog a)
-  whole : {p : AnalogPoint} (z : ℤ) (flags : ℕ) (q : AnalogAfter) → Reached a p → wholeReading p z flags ≡ accepted q → Reached a (q .point)
-  float : {p : AnalogPoint} (x : Float) (flags : ℕ) (q : AnalogAfter) → Reached a p → floatReading p x flags ≡ accepted q →
+  whole : {p : AnalogPoint} (z : ℤ) (flags : ℕ) (q : AnalogAfter) → Reached a p → readWhole p z flags ≡ accepted q → Reached a (q .point)
+  float : {p : AnalogPoint} (x : Float) (flags : ℕ) (q : AnalogAfter) → Reached a p → readFloat p x flags ≡ accepted q →
       Reached a (q .point)

@@ -3,4 +3,4 @@ pub mod Gate
 pub mod Reading
 pub mod Setup
 pub mod Kept
-pub mod Inputs
+pub mod PointsView

@@ -20,18 +20,18 @@ abbrev pub largest : Bool → Float
 largest s = fin s 16777215 (pos 104)
 
 -- "An infinite value becomes the largest finite one of that sign with over-range (bit 5) set."
-unfoldable pub limitedTo : Float → Scaled
-limitedTo nan = record { value = nan; over = false }
-limitedTo (inf s) = record { value = largest s; over = true }
-limitedTo (fin s m e) = record { value = fin s m e; over = false }
+unfoldable pub limitedOf : Float → Scaled
+limitedOf nan = record { value = nan; over = false }
+limitedOf (inf s) = record { value = largest s; over = true }
+limitedOf (fin s m e) = record { value = fin s m e; over = false }
 
 -- the value that a float point shows for the reading x
-abbrev pub shownOf : Scale → Float → Scaled
-shownOf s x = limitedTo (scaled x (s .gain) (s .offset))
+abbrev pub scaleValue : Scale → Float → Scaled
+scaleValue s x = limitedOf (scaled x (s .gain) (s .offset))
 
 -- "A 16-bit point outside −32,768 to 32,767 shows the nearer end with over-range."
-unfoldable pub clampedTo : ℤ → Clamped
-clampedTo z =
+unfoldable pub clampValue : ℤ → Clamped
+clampValue z =
     first
     (ltZ (pos 32767) z ⇒ record { value = pos 32767; over = true }
     ∷ ltZ z (negsuc 32767) ⇒ record { value = negsuc 32767; over = true }

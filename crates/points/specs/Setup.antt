@@ -15,10 +15,10 @@ use Rattle.points.specs.declared.AnalogKind.the-variants as Ks
 use Rattle.points.specs.declared.AnalogSetup.{AnalogSetup}
 use Rattle.points.specs.declared.Value.{Value}
 use Rattle.points.specs.declared.Value.the-variants as Vs
-use Rattle.points.specs.declared.Measure.{Measure}
-use Rattle.points.specs.declared.Measure.the-variants as Ms
-use Rattle.points.specs.declared.WholeTrack.{WholeTrack}
-use Rattle.points.specs.declared.FloatTrack.{FloatTrack}
+use Rattle.points.specs.declared.AnalogState.{AnalogState}
+use Rattle.points.specs.declared.AnalogState.the-variants as Ms
+use Rattle.points.specs.declared.WholeGateState.{WholeGateState}
+use Rattle.points.specs.declared.FloatGateState.{FloatGateState}
 use Rattle.points.specs.declared.BinaryPoint.{BinaryPoint}
 use Rattle.points.specs.declared.AnalogPoint.{AnalogPoint}
 use Rattle.points.specs.Scaling.{plusZero}
@@ -43,9 +43,9 @@ floatGateOk (F.Summed l) = limitOk l
 
 -- a point of each kind has a gate of its own kind, by the type
 abbrev pub kindOk : AnalogKind → Bool
-kindOk (Ks.Long g) = true
-kindOk (Ks.Short g) = true
-kindOk (Ks.Real g s) = floatGateOk g && scaleOk s
+kindOk (Ks.Int32 g) = true
+kindOk (Ks.Int16 g) = true
+kindOk (Ks.Float32 g s) = floatGateOk g && scaleOk s
 
 abbrev pub analogOk : AnalogSetup → Bool
 analogOk a = classOk (a .class) && kindOk (a .kind)
@@ -53,22 +53,22 @@ analogOk a = classOk (a .class) && kindOk (a .kind)
 -- ---- "Before a first reading: value 0, flags 02."
 
 abbrev pub freshBinary : ℕ → BinaryPoint
-freshBinary class = record { class = class; seen = false; state = false; flags = 2; reported = 2 }
+freshBinary class = record { class = class; seen = false; state = false; flags = 2; «reported_flags» = 2 }
 
-abbrev pub freshWhole : WholeGate → WholeTrack
-freshWhole g = record { gate = g; reported = pos 0; previous = pos 0; sum = 0 }
+abbrev pub freshWhole : WholeGate → WholeGateState
+freshWhole g = record { gate = g; «reported_value» = pos 0; previous = pos 0; sum = 0 }
 
-abbrev pub freshFloat : FloatGate → Scale → FloatTrack
-freshFloat g s = record { scale = s; gate = g; reported = plusZero; previous = plusZero; sum = plusZero }
+abbrev pub freshFloat : FloatGate → Scale → FloatGateState
+freshFloat g s = record { scale = s; gate = g; «reported_value» = plusZero; previous = plusZero; sum = plusZero }
 
-abbrev pub freshWith : ℕ → Value → Measure → AnalogPoint
-freshWith class value measure =
-    record { class = class; seen = false; value = value; flags = 2; reported = 2; measure = measure }
+abbrev pub freshWith : ℕ → Value → AnalogState → AnalogPoint
+freshWith class value gateState =
+    record { class = class; seen = false; value = value; flags = 2; «reported_flags» = 2; «gate_state» = gateState }
 
 abbrev pub freshBy : ℕ → AnalogKind → AnalogPoint
-freshBy class (Ks.Long g) = freshWith class (Vs.Long (pos 0)) (Ms.Long (freshWhole g))
-freshBy class (Ks.Short g) = freshWith class (Vs.Short (pos 0)) (Ms.Short (freshWhole g))
-freshBy class (Ks.Real g s) = freshWith class (Vs.Real plusZero) (Ms.Real (freshFloat g s))
+freshBy class (Ks.Int32 g) = freshWith class (Vs.Int32 (pos 0)) (Ms.Int32 (freshWhole g))
+freshBy class (Ks.Int16 g) = freshWith class (Vs.Int16 (pos 0)) (Ms.Int16 (freshWhole g))
+freshBy class (Ks.Float32 g s) = freshWith class (Vs.Float32 plusZero) (Ms.Float32 (freshFloat g s))
 
 unfoldable pub freshAnalog : AnalogSetup → AnalogPoint
 freshAnalog a = freshBy (a .class) (a .kind)

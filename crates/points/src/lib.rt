@@ -3,24 +3,24 @@ ghost use mathlib.Core.Path.{_≡_};
 ghost use Prim.Native.Nat.{_≤_, min};
 ghost use lib.Ieee.Scale.{finite};
 ghost use lib.IntN.{natAbs, _-ℤ_};
-ghost use Rattle.points.specs.Scaling.{shownOf, limitedTo, clampedTo};
-ghost use Rattle.points.specs.Gate.{distanceOf, floatGated, wholeGated};
+ghost use Rattle.points.specs.Scaling.{scaleValue, limitedOf, clampValue};
+ghost use Rattle.points.specs.Gate.{floatDistance, gateFloat, gateWhole};
 ghost use mathlib.Core.Bool.{cond};
 ghost use Rattle.laws.specs.Limits.{pointsMax};
 ghost use Rattle.laws.specs.Outcome.{accepted};
 ghost use Rattle.points.specs.Reading.{
-  overRange,
-  reports,
-  raises,
+  shownFlags,
+  isReported,
+  isRaised,
   analogAfter,
-  wholeTrackAfter,
-  floatTrackAfter,
-  binaryReading,
-  longReading,
-  shortReading,
-  realReading,
-  wholeReading,
-  floatReading,
+  wholeGateAfter,
+  floatGateAfter,
+  readBinary,
+  readInt32,
+  readInt16,
+  readFloat32,
+  readWhole,
+  readFloat,
   binaryTakenOf,
   analogTakenOf,
 };
@@ -55,9 +55,9 @@ const MAX: f32 = 3.4028235e38;
 
 // A value as a point's record and an event hold it: a 32-bit number, a 16-bit number or a float.
 pub enum Value {
-    Long(i32),
-    Short(i16),
-    Real(f32),
+    Int32(i32),
+    Int16(i16),
+    Float32(f32),
 }
 
 // A float point's scale. Both are finite.
@@ -83,27 +83,27 @@ pub enum WholeGate {
 }
 
 // What a whole point's gate works on: readings before clamping.
-pub struct WholeTrack {
+pub struct WholeGateState {
     pub gate: WholeGate,
-    pub reported: i32,
+    pub reported_value: i32,
     pub previous: i32,
     pub sum: u32,
 }
 
 // What a float point's gate works on: scaled values, an infinite one replaced.
-pub struct FloatTrack {
+pub struct FloatGateState {
     pub scale: Scale,
     pub gate: FloatGate,
-    pub reported: f32,
+    pub reported_value: f32,
     pub previous: f32,
     pub sum: f32,
 }
 
 // The kind of an analog point, with what its gate works on.
-pub enum Measure {
-    Long(WholeTrack),
-    Short(WholeTrack),
-    Real(FloatTrack),
+pub enum AnalogState {
+    Int32(WholeGateState),
+    Int16(WholeGateState),
+    Float32(FloatGateState),
 }
 
 // A binary point's record. `flags` are the shown ones, `reported` those last reported.
@@ -112,7 +112,7 @@ pub struct BinaryPoint {
     pub seen: bool,
     pub state: bool,
     pub flags: u8,
-    pub reported: u8,
+    pub reported_flags: u8,
 }
 
 // An analog point's record. `value` and `flags` are the shown ones, `reported` the flags last reported.
@@ -121,8 +121,8 @@ pub struct AnalogPoint {
     pub seen: bool,
     pub value: Value,
     pub flags: u8,
-    pub reported: u8,
-    pub measure: Measure,
+    pub reported_flags: u8,
+    pub gate_state: AnalogState,
 }
 
 // How many binary and how many analog inputs there may be.
@@ -151,9 +151,9 @@ pub enum AnalogTaken {
 
 // The kind of an analog point as a setup gives it.
 pub enum AnalogKind {
-    Long(WholeGate),
-    Short(WholeGate),
-    Real(FloatGate, Scale),
+    Int32(WholeGate),
+    Int16(WholeGate),
+    Float32(FloatGate, Scale),
 }
 
 pub struct AnalogSetup {
@@ -194,7 +194,7 @@ pub fn is_finite(x: f32) -> bool
 
 // An infinity is replaced by the largest finite value of its sign, with over-range.
 fn limited(v: f32) -> Scaled
-    ensures { λ r. ⌜ r ≡ limitedTo v ⌝ }
+    ensures { λ r. ⌜ r ≡ limitedOf v ⌝ }
 {
     if MAX < v {
         return Scaled {
@@ -216,14 +216,14 @@ fn limited(v: f32) -> Scaled
 
 // The value that a float point shows: reading × gain, then + offset, each rounded once.
 pub fn scale_value(x: f32, s: Scale) -> Scaled
-    ensures { λ r. ⌜ r ≡ shownOf s x ⌝ }
+    ensures { λ r. ⌜ r ≡ scaleValue s x ⌝ }
 {
     limited(x * s.gain + s.offset)
 }
 
 // A value outside the 16-bit range shows the nearer end, with over-range.
 pub fn clamp_value(v: i32) -> Clamped
-    ensures { λ r. ⌜ r ≡ clampedTo v ⌝ }
+    ensures { λ r. ⌜ r ≡ clampValue v ⌝ }
 {
     if 32767 < v {
         return Clamped {
@@ -255,7 +255,7 @@ pub fn whole_distance(a: i32, b: i32) -> u32
 
 // The distance of two floats: their difference, rounded once, with its sign dropped.
 pub fn float_distance(a: f32, b: f32) -> f32
-    ensures { λ r. ⌜ r ≡ distanceOf a b ⌝ }
+    ensures { λ r. ⌜ r ≡ floatDistance a b ⌝ }
 {
     let d = a - b;
     if d == 0.0 {
@@ -264,17 +264,23 @@ pub fn float_distance(a: f32, b: f32) -> f32
     if d < 0.0 { -d } else { d }
 }
 
-pub fn gate_whole(g: WholeGate, value: i32, reported: i32, previous: i32, sum: u32) -> WholeGated
-    ensures { λ r. ⌜ r ≡ wholeGated g value reported previous sum ⌝ }
+pub fn gate_whole(
+    g: WholeGate,
+    value: i32,
+    reported_value: i32,
+    previous: i32,
+    sum: u32,
+) -> WholeGated
+    ensures { λ r. ⌜ r ≡ gateWhole g value «reported_value» previous sum ⌝ }
 {
     match g {
         WholeGate::Never => WholeGated { pass: false, sum },
         WholeGate::AnyChange => WholeGated {
-            pass: value != reported,
+            pass: value != reported_value,
             sum,
         },
         WholeGate::Beyond(limit) => WholeGated {
-            pass: limit < whole_distance(value, reported),
+            pass: limit < whole_distance(value, reported_value),
             sum,
         },
         WholeGate::Summed(limit) => {
@@ -291,17 +297,23 @@ pub fn gate_whole(g: WholeGate, value: i32, reported: i32, previous: i32, sum: u
     }
 }
 
-pub fn gate_float(g: FloatGate, value: f32, reported: f32, previous: f32, sum: f32) -> FloatGated
-    ensures { λ r. ⌜ r ≡ floatGated g value reported previous sum ⌝ }
+pub fn gate_float(
+    g: FloatGate,
+    value: f32,
+    reported_value: f32,
+    previous: f32,
+    sum: f32,
+) -> FloatGated
+    ensures { λ r. ⌜ r ≡ gateFloat g value «reported_value» previous sum ⌝ }
 {
     match g {
         FloatGate::Never => FloatGated { pass: false, sum },
         FloatGate::AnyChange => FloatGated {
-            pass: value != reported,
+            pass: value != reported_value,
             sum,
         },
         FloatGate::Beyond(limit) => FloatGated {
-            pass: limit < float_distance(value, reported),
+            pass: limit < float_distance(value, reported_value),
             sum,
         },
         FloatGate::Summed(limit) => {
@@ -324,14 +336,14 @@ pub fn gate_float(g: FloatGate, value: f32, reported: f32, previous: f32, sum: f
 // The shown flags: the host's, with over-range.
 fn shown_flags(flags: u8, over: bool) -> u8
     requires { ⌜ flags ≤ 31 ⌝ }
-    ensures { λ r. ⌜ r ≡ overRange over flags ⌝ }
+    ensures { λ r. ⌜ r ≡ shownFlags over flags ⌝ }
 {
     if over { flags + OVER_RANGE } else { flags }
 }
 
 // Whether a reading counts as reported.
 fn is_reported(seen: bool, flags: u8, last: u8, pass: bool) -> bool
-    ensures { λ r. ⌜ r ≡ reports seen flags last pass ⌝ }
+    ensures { λ r. ⌜ r ≡ isReported seen flags last pass ⌝ }
 {
     if seen {
         if flags != last {
@@ -344,7 +356,7 @@ fn is_reported(seen: bool, flags: u8, last: u8, pass: bool) -> bool
 
 // Whether a reading raises an event.
 fn is_raised(seen: bool, reported: bool, class: u8) -> bool
-    ensures { λ r. ⌜ r ≡ raises seen reported class ⌝ }
+    ensures { λ r. ⌜ r ≡ isRaised seen reported class ⌝ }
 {
     if seen {
         if reported {
@@ -366,40 +378,40 @@ fn last_flags(reported: bool, flags: u8, last: u8) -> u8
 
 // One binary reading against one point.
 pub fn read_binary(p: BinaryPoint, state: bool, flags: u8) -> BinaryTaken
-    ensures { λ r. ⌜ binaryTakenOf r ≡ binaryReading p state flags ⌝ }
+    ensures { λ r. ⌜ binaryTakenOf r ≡ readBinary p state flags ⌝ }
 {
     if HOST_FLAGS_MAX < flags {
         return BinaryTaken::HostFlags;
     }
-    let report = is_reported(p.seen, flags, p.reported, state != p.state);
+    let report = is_reported(p.seen, flags, p.reported_flags, state != p.state);
     BinaryTaken::Taken(
         BinaryPoint {
             class: p.class,
             seen: true,
             state: state,
             flags: flags,
-            reported: last_flags(report, flags, p.reported),
+            reported_flags: last_flags(report, flags, p.reported_flags),
         },
         is_raised(p.seen, report, p.class),
     )
 }
 
 // What a whole point's gate works on next; sum is what the gate left.
-fn whole_track(t: WholeTrack, z: i32, reported: bool, sum: u32) -> WholeTrack
-    ensures { λ r. ⌜ r ≡ wholeTrackAfter t z reported sum ⌝ }
+fn whole_gate_after(t: WholeGateState, z: i32, reported: bool, sum: u32) -> WholeGateState
+    ensures { λ r. ⌜ r ≡ wholeGateAfter t z reported sum ⌝ }
 {
     let g = t.gate;
     if reported {
-        WholeTrack {
+        WholeGateState {
             gate: g,
-            reported: z,
+            reported_value: z,
             previous: z,
             sum: 0,
         }
     } else {
-        WholeTrack {
+        WholeGateState {
             gate: g,
-            reported: t.reported,
+            reported_value: t.reported_value,
             previous: z,
             sum: sum,
         }
@@ -407,24 +419,24 @@ fn whole_track(t: WholeTrack, z: i32, reported: bool, sum: u32) -> WholeTrack
 }
 
 // What a float point's gate works on next; sum is what the gate left.
-fn float_track(t: FloatTrack, v: f32, reported: bool, sum: f32) -> FloatTrack
-    ensures { λ r. ⌜ r ≡ floatTrackAfter t v reported sum ⌝ }
+fn float_gate_after(t: FloatGateState, v: f32, reported: bool, sum: f32) -> FloatGateState
+    ensures { λ r. ⌜ r ≡ floatGateAfter t v reported sum ⌝ }
 {
     let g = t.gate;
     let s = t.scale;
     if reported {
-        FloatTrack {
+        FloatGateState {
             scale: s,
             gate: g,
-            reported: v,
+            reported_value: v,
             previous: v,
             sum: 0.0,
         }
     } else {
-        FloatTrack {
+        FloatGateState {
             scale: s,
             gate: g,
-            reported: t.reported,
+            reported_value: t.reported_value,
             previous: v,
             sum: sum,
         }
@@ -437,9 +449,9 @@ fn analog_after(
     value: Value,
     flags: u8,
     reported: bool,
-    measure: Measure,
+    gate_state: AnalogState,
 ) -> AnalogTaken
-    ensures { λ r. ⌜ analogTakenOf r ≡ accepted (analogAfter p value flags reported measure) ⌝ }
+    ensures { λ r. ⌜ analogTakenOf r ≡ accepted (analogAfter p value flags reported «gate_state») ⌝ }
 {
     AnalogTaken::Taken(
         AnalogPoint {
@@ -447,46 +459,52 @@ fn analog_after(
             seen: true,
             value: value,
             flags: flags,
-            reported: last_flags(reported, flags, p.reported),
-            measure: measure,
+            reported_flags: last_flags(reported, flags, p.reported_flags),
+            gate_state: gate_state,
         },
         is_raised(p.seen, reported, p.class),
     )
 }
 
 // A reading of a 32-bit point.
-fn read_long(p: AnalogPoint, t: WholeTrack, z: i32, flags: u8) -> AnalogTaken
-    ensures { λ r. ⌜ analogTakenOf r ≡ longReading p t z flags ⌝ }
+fn read_int32(p: AnalogPoint, t: WholeGateState, z: i32, flags: u8) -> AnalogTaken
+    ensures { λ r. ⌜ analogTakenOf r ≡ readInt32 p t z flags ⌝ }
 {
     if HOST_FLAGS_MAX < flags {
         return AnalogTaken::HostFlags;
     }
     let g = t.gate;
-    let gated = gate_whole(g, z, t.reported, t.previous, t.sum);
-    let report = is_reported(p.seen, flags, p.reported, gated.pass);
-    let next = whole_track(t, z, report, gated.sum);
-    analog_after(p, Value::Long(z), flags, report, Measure::Long(next))
+    let gated = gate_whole(g, z, t.reported_value, t.previous, t.sum);
+    let report = is_reported(p.seen, flags, p.reported_flags, gated.pass);
+    let next = whole_gate_after(t, z, report, gated.sum);
+    analog_after(p, Value::Int32(z), flags, report, AnalogState::Int32(next))
 }
 
 // A reading of a 16-bit point.
-fn read_short(p: AnalogPoint, t: WholeTrack, z: i32, flags: u8) -> AnalogTaken
-    ensures { λ r. ⌜ analogTakenOf r ≡ shortReading p t z flags ⌝ }
+fn read_int16(p: AnalogPoint, t: WholeGateState, z: i32, flags: u8) -> AnalogTaken
+    ensures { λ r. ⌜ analogTakenOf r ≡ readInt16 p t z flags ⌝ }
 {
     if HOST_FLAGS_MAX < flags {
         return AnalogTaken::HostFlags;
     }
     let g = t.gate;
-    let gated = gate_whole(g, z, t.reported, t.previous, t.sum);
+    let gated = gate_whole(g, z, t.reported_value, t.previous, t.sum);
     let c = clamp_value(z);
     let f = shown_flags(flags, c.over);
-    let report = is_reported(p.seen, f, p.reported, gated.pass);
-    let next = whole_track(t, z, report, gated.sum);
-    analog_after(p, Value::Short(c.value), f, report, Measure::Short(next))
+    let report = is_reported(p.seen, f, p.reported_flags, gated.pass);
+    let next = whole_gate_after(t, z, report, gated.sum);
+    analog_after(
+        p,
+        Value::Int16(c.value),
+        f,
+        report,
+        AnalogState::Int16(next),
+    )
 }
 
 // A reading of a float point.
-fn read_real(p: AnalogPoint, t: FloatTrack, x: f32, flags: u8) -> AnalogTaken
-    ensures { λ r. ⌜ analogTakenOf r ≡ realReading p t x flags ⌝ }
+fn read_float32(p: AnalogPoint, t: FloatGateState, x: f32, flags: u8) -> AnalogTaken
+    ensures { λ r. ⌜ analogTakenOf r ≡ readFloat32 p t x flags ⌝ }
 {
     if is_finite(x) {
         if HOST_FLAGS_MAX < flags {
@@ -495,36 +513,42 @@ fn read_real(p: AnalogPoint, t: FloatTrack, x: f32, flags: u8) -> AnalogTaken
         let s = t.scale;
         let g = t.gate;
         let v = scale_value(x, s);
-        let gated = gate_float(g, v.value, t.reported, t.previous, t.sum);
+        let gated = gate_float(g, v.value, t.reported_value, t.previous, t.sum);
         let f = shown_flags(flags, v.over);
-        let report = is_reported(p.seen, f, p.reported, gated.pass);
-        let next = float_track(t, v.value, report, gated.sum);
-        return analog_after(p, Value::Real(v.value), f, report, Measure::Real(next));
+        let report = is_reported(p.seen, f, p.reported_flags, gated.pass);
+        let next = float_gate_after(t, v.value, report, gated.sum);
+        return analog_after(
+            p,
+            Value::Float32(v.value),
+            f,
+            report,
+            AnalogState::Float32(next),
+        );
     }
     AnalogTaken::NotFinite
 }
 
 // One whole reading against one analog point.
 pub fn read_whole(p: AnalogPoint, z: i32, flags: u8) -> AnalogTaken
-    ensures { λ r. ⌜ analogTakenOf r ≡ wholeReading p z flags ⌝ }
+    ensures { λ r. ⌜ analogTakenOf r ≡ readWhole p z flags ⌝ }
 {
-    let m = p.measure;
+    let m = p.gate_state;
     match m {
-        Measure::Long(t) => read_long(p, t, z, flags),
-        Measure::Short(t) => read_short(p, t, z, flags),
-        Measure::Real(_) => AnalogTaken::OtherKind,
+        AnalogState::Int32(t) => read_int32(p, t, z, flags),
+        AnalogState::Int16(t) => read_int16(p, t, z, flags),
+        AnalogState::Float32(_) => AnalogTaken::OtherKind,
     }
 }
 
 // One float reading against one analog point.
 pub fn read_float(p: AnalogPoint, x: f32, flags: u8) -> AnalogTaken
-    ensures { λ r. ⌜ analogTakenOf r ≡ floatReading p x flags ⌝ }
+    ensures { λ r. ⌜ analogTakenOf r ≡ readFloat p x flags ⌝ }
 {
-    let m = p.measure;
+    let m = p.gate_state;
     match m {
-        Measure::Long(_) => AnalogTaken::OtherKind,
-        Measure::Short(_) => AnalogTaken::OtherKind,
-        Measure::Real(t) => read_real(p, t, x, flags),
+        AnalogState::Int32(_) => AnalogTaken::OtherKind,
+        AnalogState::Int16(_) => AnalogTaken::OtherKind,
+        AnalogState::Float32(t) => read_float32(p, t, x, flags),
     }
 }
 
@@ -563,9 +587,9 @@ fn kind_ok(k: AnalogKind) -> bool
     ensures { λ r. ⌜ r ≡ kindOk k ⌝ }
 {
     match k {
-        AnalogKind::Long(_) => true,
-        AnalogKind::Short(_) => true,
-        AnalogKind::Real(g, s) => float_gate_ok(g) && scale_ok(s),
+        AnalogKind::Int32(_) => true,
+        AnalogKind::Int16(_) => true,
+        AnalogKind::Float32(g, s) => float_gate_ok(g) && scale_ok(s),
     }
 }
 
@@ -586,43 +610,43 @@ pub fn fresh_binary(class: u8) -> BinaryPoint
         seen: false,
         state: false,
         flags: FRESH_FLAGS,
-        reported: FRESH_FLAGS,
+        reported_flags: FRESH_FLAGS,
     }
 }
 
-fn fresh_whole(g: WholeGate) -> WholeTrack
+fn fresh_whole(g: WholeGate) -> WholeGateState
     ensures { λ r. ⌜ r ≡ freshWhole g ⌝ }
 {
-    WholeTrack {
+    WholeGateState {
         gate: g,
-        reported: 0,
+        reported_value: 0,
         previous: 0,
         sum: 0,
     }
 }
 
-fn fresh_float(g: FloatGate, s: Scale) -> FloatTrack
+fn fresh_float(g: FloatGate, s: Scale) -> FloatGateState
     ensures { λ r. ⌜ r ≡ freshFloat g s ⌝ }
 {
-    FloatTrack {
+    FloatGateState {
         scale: s,
         gate: g,
-        reported: 0.0,
+        reported_value: 0.0,
         previous: 0.0,
         sum: 0.0,
     }
 }
 
-fn fresh_with(class: u8, value: Value, measure: Measure) -> AnalogPoint
-    ensures { λ r. ⌜ r ≡ freshWith class value measure ⌝ }
+fn fresh_with(class: u8, value: Value, gate_state: AnalogState) -> AnalogPoint
+    ensures { λ r. ⌜ r ≡ freshWith class value «gate_state» ⌝ }
 {
     AnalogPoint {
         class: class,
         seen: false,
         value: value,
         flags: FRESH_FLAGS,
-        reported: FRESH_FLAGS,
-        measure: measure,
+        reported_flags: FRESH_FLAGS,
+        gate_state: gate_state,
     }
 }
 
@@ -632,12 +656,20 @@ pub fn fresh_analog(a: AnalogSetup) -> AnalogPoint
 {
     let k = a.kind;
     match k {
-        AnalogKind::Long(g) => fresh_with(a.class, Value::Long(0), Measure::Long(fresh_whole(g))),
-        AnalogKind::Short(g) => {
-            fresh_with(a.class, Value::Short(0), Measure::Short(fresh_whole(g)))
+        AnalogKind::Int32(g) => fresh_with(
+            a.class,
+            Value::Int32(0),
+            AnalogState::Int32(fresh_whole(g)),
+        ),
+        AnalogKind::Int16(g) => {
+            fresh_with(a.class, Value::Int16(0), AnalogState::Int16(fresh_whole(g)))
         }
-        AnalogKind::Real(g, s) => {
-            fresh_with(a.class, Value::Real(0.0), Measure::Real(fresh_float(g, s)))
+        AnalogKind::Float32(g, s) => {
+            fresh_with(
+                a.class,
+                Value::Float32(0.0),
+                AnalogState::Float32(fresh_float(g, s)),
+            )
         }
     }
 }

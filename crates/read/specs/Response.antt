@@ -6,14 +6,14 @@ use mathlib.Core.List.{List, [], _++_}
 use lib.ListN.{length}
 use Rattle.laws.specs.Limits.{fragmentMax}
 use Rattle.octets.specs.Bytes.{splice}
-use Rattle.points.specs.Inputs.{Inputs}
+use Rattle.points.specs.PointsView.{PointsView}
 use Rattle.events.specs.declared.Classes.{Classes}
-use Rattle.events.specs.Queue.{Queue, cleared, selected}
-use Rattle.request.specs.declared.Header.{Header}
-use Rattle.request.specs.Parse.{Parsed, headers, fault, asksFor}
-use Rattle.request.specs.Plans.{planned}
+use Rattle.events.specs.BufferView.{BufferView, cleared, markCarried}
+use Rattle.read_headers.specs.declared.Header.{Header}
+use Rattle.read_headers.specs.Parse.{Parsed, headers, fault, asksFor}
+use Rattle.read_headers.specs.Plans.{planned}
 use Rattle.event_objects.specs.Events.{carriedBytes}
-use Rattle.static_objects.specs.Static.{staticBytes, readOf}
+use Rattle.static_objects.specs.Static.{staticBytes, askedOf}
 use Rattle.read.specs.declared.Reply.{Reply}
 
 -- the event classes asked for
@@ -25,24 +25,24 @@ abbrev pub responseObjectsMax : ℕ
 responseObjectsMax = fragmentMax - 4
 
 -- the bytes left for events beside the static part
-abbrev pub roomBeside : Inputs → List Header → ℕ
+abbrev pub roomBeside : PointsView → List Header → ℕ
 roomBeside i hs = responseObjectsMax - length (staticBytes i hs)
 
 -- the event buffer: the events that the response carries are marked; a fault carries none
-abbrev pub queueAfter : Inputs → Parsed → Queue → Queue
-queueAfter i (headers hs) q = selected (classesOf hs) (roomBeside i hs) q
-queueAfter i (fault f) q = cleared q
+abbrev pub bufferAfter : PointsView → Parsed → BufferView → BufferView
+bufferAfter i (headers hs) q = markCarried (classesOf hs) (roomBeside i hs) q
+bufferAfter i (fault f) q = cleared q
 
 -- the objects; "A fault returns no objects"
-abbrev pub responseObjects : Inputs → Parsed → Queue → List ℕ
-responseObjects i (headers hs) q = carriedBytes (queueAfter i (headers hs) q .held) ++ staticBytes i hs
+abbrev pub responseObjects : PointsView → Parsed → BufferView → List ℕ
+responseObjects i (headers hs) q = carriedBytes (bufferAfter i (headers hs) q .held) ++ staticBytes i hs
 responseObjects i (fault f) q = []
 
 -- r is the reply to the bytes s of a READ, of the inputs i and the events q, that leaves the events q₁; the lent bytes were out and are out₁
-pub record RepliedAs (i : Inputs) (s : List ℕ) (q : Queue) (out : List ℕ) (r : Reply) (q₁ : Queue) (out₁ : List ℕ) : Type 0 where
+pub record RepliedAs (i : PointsView) (s : List ℕ) (q : BufferView) (out : List ℕ) (r : Reply) (q₁ : BufferView) (out₁ : List ℕ) : Type 0 where
   -- the headers asked for, where there is no fault
   pub asked : List Header
-  pub plan : planned (r .fault) asked ≡ readOf i s
-  pub events : q₁ ≡ queueAfter i (readOf i s) q
-  pub size : r .size ≡ 4 + length (responseObjects i (readOf i s) q)
-  pub bytes : out₁ ≡ splice out 4 (responseObjects i (readOf i s) q)
+  pub plan : planned (r .fault) asked ≡ askedOf i s
+  pub events : q₁ ≡ bufferAfter i (askedOf i s) q
+  pub size : r .size ≡ 4 + length (responseObjects i (askedOf i s) q)
+  pub bytes : out₁ ≡ splice out 4 (responseObjects i (askedOf i s) q)

@@ -6,8 +6,8 @@ ghost use Prim.Native.Nat.{_+_, _≤_};
 ghost use lib.ListN.{length, take};
 ghost use Rattle.laws.specs.Limits.{fragmentMax};
 ghost use Rattle.octets.specs.Bytes.{splice};
-ghost use Rattle.point_store.specs.PointWords.{inputsIn};
-ghost use Rattle.event_store.specs.EventWords.{queueIn};
+ghost use Rattle.point_store.specs.PointWords.{pointsViewIn};
+ghost use Rattle.event_store.specs.EventWords.{bufferViewIn};
 ghost use Rattle.event_objects.specs.Events.{carriedBytes};
 ghost use Rattle.static_objects.specs.Static.{staticBytes};
 ghost use Rattle.read.specs.Response.{classesOf, RepliedAs};
@@ -19,8 +19,8 @@ use events::Classes;
 use point_store::ANALOG_WORDS;
 use point_store::BINARY_WORDS;
 use point_store::Installed;
-use request::HEADERS_MAX;
-use request::Plan;
+use read_headers::HEADERS_MAX;
+use read_headers::Plan;
 
 // The bytes of a response's objects: 2,048 less the four bytes in front of them.
 const RESPONSE_OBJECTS_MAX: usize = FRAGMENT_MAX - 4;
@@ -60,11 +60,11 @@ fn put_objects(
     held: &[u64; EVENT_WORDS],
     status: BufferStatus,
 ) -> usize
-    requires { ⌜ 4 + length (carriedBytes (queueIn (now held) status .held))
-        + length (staticBytes (inputsIn n (now binaries) (now analogs)) (take (plan .count) (plan .headers))) ≤ length (now out) ⌝ }
+    requires { ⌜ 4 + length (carriedBytes (bufferViewIn (now held) status .held))
+        + length (staticBytes (pointsViewIn n (now binaries) (now analogs)) (take (plan .count) (plan .headers))) ≤ length (now out) ⌝ }
     ensures { λ r. ⌜
-        (r ≡ 4 + length (carriedBytes (queueIn (now (held .entry)) status .held) ++ staticBytes (inputsIn n (now (binaries .entry)) (now (analogs .entry))) (take (plan .count) (plan .headers))))
-        × (now (out .exit) ≡ splice (now (out .entry)) 4 (carriedBytes (queueIn (now (held .entry)) status .held) ++ staticBytes (inputsIn n (now (binaries .entry)) (now (analogs .entry))) (take (plan .count) (plan .headers)))) ⌝ }
+        (r ≡ 4 + length (carriedBytes (bufferViewIn (now (held .entry)) status .held) ++ staticBytes (pointsViewIn n (now (binaries .entry)) (now (analogs .entry))) (take (plan .count) (plan .headers))))
+        × (now (out .exit) ≡ splice (now (out .entry)) 4 (carriedBytes (bufferViewIn (now (held .entry)) status .held) ++ staticBytes (pointsViewIn n (now (binaries .entry)) (now (analogs .entry))) (take (plan .count) (plan .headers)))) ⌝ }
 {
     let to = event_objects::put_events(out, 4, held, status);
     static_objects::put_static(out, to, plan, binaries, analogs, n)
@@ -81,15 +81,15 @@ pub fn respond(
     status: BufferStatus,
 ) -> Reply
     requires { ⌜ fragmentMax ≤ length (now out) ⌝ }
-    ensures { λ r. ⌜ RepliedAs (inputsIn n (now (binaries .entry)) (now (analogs .entry))) (now (s .entry)) (queueIn (now (held .entry)) status) (now (out .entry)) r
-        (queueIn (now (held .exit)) status) (now (out .exit)) ⌝ }
+    ensures { λ r. ⌜ RepliedAs (pointsViewIn n (now (binaries .entry)) (now (analogs .entry))) (now (s .entry)) (bufferViewIn (now (held .entry)) status) (now (out .entry)) r
+        (bufferViewIn (now (held .exit)) status) (now (out .exit)) ⌝ }
 {
     let a = static_objects::asked(s, analogs, n);
     let plan = a.plan;
     let fault = plan.fault;
     if application::is_faultless(fault) {
         let m = classes(plan);
-        event_store::select(held, status, m, RESPONSE_OBJECTS_MAX - a.size);
+        event_store::mark_carried(held, status, m, RESPONSE_OBJECTS_MAX - a.size);
         let size = put_objects(out, plan, binaries, analogs, n, held, status);
         return Reply { fault, size };
     }

@@ -1,4 +1,4 @@
--- What the loop over the analog setups needs of a setup: numbers, lists and the world that a head and lent words stand for.
+-- What the loop over the analog setups needs of a setup: numbers, lists and the view that a head and lent words stand for.
 -- Assumes nothing.
 use mathlib.Core.Path.{_≡_, refl, sym, _∙_, ap}
 use Prim.Native.Nat.{ℕ, suc, _<_, _≤_}
@@ -19,10 +19,10 @@ use Rattle.point_store.specs.PointWords.{binariesIn, analogsIn}
 use Rattle.point_store.proofs.PointLaws.{analogs-length}
 use Rattle.restart.specs.declared.SetupWords.{SetupWords}
 use Rattle.restart.specs.declared.AnalogSetupWords.{AnalogSetupWords}
-use Rattle.restart.specs.declared.Going.{Going}
-use Rattle.restart.specs.Restart.{analogSetupOf, setupOf, frontOk, begunOf, moreOf, goneOn, addedOf, answeredOf, RestartDid}
+use Rattle.restart.specs.declared.RestartProgress.{RestartProgress}
+use Rattle.restart.specs.Restart.{analogSetupOf, setupOf, frontOk, begunOf, moreOf, goneOn, addedOf, answeredOf, RestartHolds}
 use Rattle.restart.proofs.StoringLaws.{Storing, storing-start, storing-more, storing-fails, storing-end}
-use Rattle.restart.proofs.SetupLaws.{setup-and, few-classes, few-analogs, fresh-world, bare-world, fresh-counted}
+use Rattle.restart.proofs.SetupLaws.{setup-and, few-classes, few-analogs, fresh-view, bare-view, fresh-counted}
 
 -- whether an analog setup is good, and its fresh point
 abbrev good : AnalogSetupWords → Bool
@@ -36,7 +36,7 @@ abbrev pub Fresh : SetupWords → List ℕ → ℕ → List ℕ → Type 0
 Fresh s classes m bs = frontOk s classes m ≡ true → take (length classes) (binariesIn bs) ≡ map freshBinary classes
 
 -- a walk of xs stands at g and the words ps: k analogs are stored, and those to come decide; once refused, the setup breaks a limit
-pub record Stands (s : SetupWords) (classes : List ℕ) (xs : List AnalogSetupWords) (g : Going) (ps : List ℕ) (k : ℕ) : Type 0 where
+pub record Stands (s : SetupWords) (classes : List ℕ) (xs : List AnalogSetupWords) (g : RestartProgress) (ps : List ℕ) (k : ℕ) : Type 0 where
   pub here : eqb (g .refusal) 0 ≡ true → g .at ≡ k
   pub front : eqb (g .refusal) 0 ≡ true → frontOk s classes (length xs) ≡ true
   pub stored : eqb (g .refusal) 0 ≡ true → Storing good point xs (analogsIn ps) k
@@ -57,7 +57,7 @@ module _ (s : SetupWords) (classes : List ℕ) (xs : List AnalogSetupWords) wher
   pub begins : (ps : List ℕ) → Stands s classes xs (begunOf (frontOk s classes (length xs))) ps 0
   begins ps = begins-at ps (frontOk s classes (length xs)) refl
 
-  module _ (g : Going) (ps : List ℕ) (k : ℕ) (st : Stands s classes xs g ps k) where
+  module _ (g : RestartProgress) (ps : List ℕ) (k : ℕ) (st : Stands s classes xs g ps k) where
     module _ (e : moreOf g (length xs) ≡ true) where
       tests : (eqb (g .refusal) 0 ≡ true) × (ltb (g .at) (length xs) ≡ true)
       tests = both-true (eqb (g .refusal) 0) (ltb (g .at) (length xs)) e
@@ -104,10 +104,10 @@ module _ (s : SetupWords) (classes : List ℕ) (xs : List AnalogSetupWords) wher
 
     -- where no more is to be stored, the answer is given
     pub is-over : (bs : List ℕ) → Fresh s classes (length xs) bs → moreOf g (length xs) ≡ false
-        → RestartDid s classes xs (answeredOf s (length classes) g .refusal) (answeredOf s (length classes) g .head) bs ps
+        → RestartHolds s classes xs (answeredOf s (length classes) g .refusal) (answeredOf s (length classes) g .head) bs ps
     is-over bs fresh e = by (eqb (g .refusal) 0) refl
       where
-        by : (b : Bool) → eqb (g .refusal) 0 ≡ b → RestartDid s classes xs (answeredOf s (length classes) g .refusal) (answeredOf s (length classes) g .head) bs ps
+        by : (b : Bool) → eqb (g .refusal) 0 ≡ b → RestartHolds s classes xs (answeredOf s (length classes) g .refusal) (answeredOf s (length classes) g .head) bs ps
         by true z =
             let far : length xs ≤ k = rw (← (st .here z)) (ltb-false _ _ (rw z at e)) in
             let done = storing-end good point xs (analogsIn ps) k (st .stored z) far in
@@ -116,7 +116,7 @@ module _ (s : SetupWords) (classes : List ℕ) (xs : List AnalogSetupWords) wher
             rw (z, all-of)
             (record {
               answer = rw right;
-              state = λ m. rw right (fresh-world s classes xs bs ps m (fresh (st .front z)) (done .1));
+              state = λ m. rw right (fresh-view s classes xs bs ps m (fresh (st .front z)) (done .1));
               counted =
                   λ m.
                   fresh-counted (s .«arm_time») (s .«confirm_time») (s .outputs) (length classes) (length xs)
@@ -126,6 +126,6 @@ module _ (s : SetupWords) (classes : List ℕ) (xs : List AnalogSetupWords) wher
             rw z
             (record {
               answer = rw (st .over z);
-              state = λ m. rw (st .over z) (bare-world bs ps m);
+              state = λ m. rw (st .over z) (bare-view bs ps m);
               counted = λ m. fresh-counted 0 0 0 0 0 (omega arith) (omega arith);
             })

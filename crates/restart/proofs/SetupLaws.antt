@@ -1,4 +1,4 @@
--- Laws of a setup in numbers: its limits part by part, and the world that a restart gives.
+-- Laws of a setup in numbers: its limits part by part, and the view that a restart gives.
 -- Assumes nothing.
 use mathlib.Core.Path.{_≡_, refl, sym, ap, _∙_}
 use mathlib.Core.Bool.{Bool, true, false, not, _&&_}
@@ -9,18 +9,18 @@ use lib.Dec.{leb, eqb}
 use lib.ListN.{length, length-map, take}
 use lib.Seq.{take-nil, take-length}
 use Rattle.laws.specs.Lists.{all}
-use Rattle.laws.specs.Limits.{pointsMax}
+use Rattle.laws.specs.Limits.{pointsMax, outputsMax, addressMax, armTimeMax, confirmTimeMax}
 use Rattle.points.specs.declared.AnalogSetup.{AnalogSetup}
 use Rattle.points.specs.Setup.{classOk, analogOk, freshBinary, freshAnalog}
-use Rattle.points.specs.Inputs.{inputs}
-use Rattle.events.specs.Queue.{queue}
-use Rattle.select.specs.Select.{latchOf}
-use Rattle.repeat.specs.Repeat.{lastIn}
+use Rattle.points.specs.PointsView.{pointsView}
+use Rattle.events.specs.BufferView.{bufferView}
+use Rattle.select_latch.specs.Select.{latchOf}
+use Rattle.last_request.specs.Repeat.{lastIn}
 use Rattle.outstation.specs.Setup.{setupOk, binaryClasses, analogSetups}
-use Rattle.outstation.specs.World.{restarted, bareSetup, freshExchange}
+use Rattle.outstation.specs.OutstationView.{restarted, bareSetup, freshSession}
 use Rattle.outstation.proofs.SetupLaws.{bounds}
 use Rattle.point_store.specs.PointWords.{binariesIn, analogsIn}
-use Rattle.outstation.specs.Lent.{Lent, HeadCounted, worldOf, waitOf, withWords}
+use Rattle.outstation.specs.Lent.{Lent, HeadCountsWithin, viewOf, waitOf, withWords}
 use Rattle.restart.specs.declared.SetupWords.{SetupWords}
 use Rattle.restart.specs.declared.AnalogSetupWords.{AnalogSetupWords}
 use Rattle.restart.specs.Restart.{analogSetupOf, setupWith, setupOf, frontOk, freshHead}
@@ -30,8 +30,8 @@ use Rattle.restart.specs.Restart.{analogSetupOf, setupWith, setupOf, fro
 -- the tests of numbers
 abbrev numbers : SetupWords → (n m : ℕ) → List Bool
 numbers s n m =
-    leb n 64 ∷ leb m 64 ∷ leb (s .outputs) 16 ∷ leb (s .own) 65519 ∷ leb (s .master) 65519 ∷ not (eqb (s .own) (s .master))
-    ∷ leb (s .«arm_time») 64000 ∷ leb 1 (s .«confirm_time») ∷ leb (s .«confirm_time») 60000 ∷ []
+    leb n pointsMax ∷ leb m pointsMax ∷ leb (s .outputs) outputsMax ∷ leb (s .own) addressMax ∷ leb (s .master) addressMax ∷ not (eqb (s .own) (s .master))
+    ∷ leb (s .«arm_time») armTimeMax ∷ leb 1 (s .«confirm_time») ∷ leb (s .«confirm_time») confirmTimeMax ∷ []
 
 either-way : (a b : Bool) → (a && b) ≡ (b && a)
 either-way true true = refl
@@ -78,7 +78,7 @@ few-classes s classes m h = bounds (setupWith s (length classes) classes m []) h
 pub few-analogs : (s : SetupWords) (classes : List ℕ) (m : ℕ) → frontOk s classes m ≡ true → m ≤ pointsMax
 few-analogs s classes m h = bounds (setupWith s (length classes) classes m []) h .analogs
 
--- ---- the world
+-- ---- the view
 
 map-map : {A B C : Type 0} (f : A → B) (g : B → C) (l : List A) → map g (map f l) ≡ map (λ x. g (f x)) l
 map-map f g [] = refl
@@ -94,12 +94,12 @@ module _ (s : SetupWords) (classes : List ℕ) (setups : List AnalogSetupWords) 
       ∙ ap (λ (l : List AnalogSetup). frontOk s classes (length setups) && all (map analogOk l)) all-taken
       ∙ ap (λ (l : List Bool). frontOk s classes (length setups) && all l) (map-map analogSetupOf analogOk setups)
 
-  pub fresh-world : (bs ps : List ℕ) (m : Lent) → take (length classes) (binariesIn bs) ≡ map freshBinary classes
+  pub fresh-view : (bs ps : List ℕ) (m : Lent) → take (length classes) (binariesIn bs) ≡ map freshBinary classes
       → take (length setups) (analogsIn ps) ≡ map (λ w. freshAnalog (analogSetupOf w)) setups
-      → worldOf (freshHead (s .«arm_time») (s .«confirm_time») (s .outputs) (length classes) (length setups)) (withWords (record { binaries = bs; analogs = ps; held = m .held }) m)
+      → viewOf (freshHead (s .«arm_time») (s .«confirm_time») (s .outputs) (length classes) (length setups)) (withWords (record { binaries = bs; analogs = ps; held = m .held }) m)
       ≡ restarted (setupOf s classes setups)
-  unfolding restarted inputs queue waitOf lastIn latchOf binaryClasses analogSetups
-  fresh-world bs ps m b p =
+  unfolding restarted pointsView bufferView waitOf lastIn latchOf binaryClasses analogSetups
+  fresh-view bs ps m b p =
       λ k.
       record {
         shared =
@@ -114,15 +114,15 @@ module _ (s : SetupWords) (classes : List ℕ) (setups : List AnalogSetupWords) 
                     analogs = (p ∙ sym (map-map analogSetupOf freshAnalog setups) ∙ ap (map freshAnalog) (sym all-taken)) k;
                   };
             };
-        master = record { queue = record { held = []; overflow = false }; exchange = freshExchange };
+        master = record { buffer = record { held = []; overflow = false }; session = freshSession };
       }
 
-pub bare-world : (bs ps : List ℕ) (m : Lent)
-    → worldOf (freshHead 0 0 0 0 0) (withWords (record { binaries = bs; analogs = ps; held = m .held }) m) ≡ restarted bareSetup
-unfolding restarted inputs queue waitOf lastIn latchOf binaryClasses analogSetups
-bare-world bs ps m = refl
+pub bare-view : (bs ps : List ℕ) (m : Lent)
+    → viewOf (freshHead 0 0 0 0 0) (withWords (record { binaries = bs; analogs = ps; held = m .held }) m) ≡ restarted bareSetup
+unfolding restarted pointsView bufferView waitOf lastIn latchOf binaryClasses analogSetups
+bare-view bs ps m = refl
 
 -- no count passes its array
-pub fresh-counted : (arm confirm outputs binaries analogs : ℕ) → binaries ≤ pointsMax → analogs ≤ pointsMax → HeadCounted (freshHead arm confirm outputs binaries analogs)
+pub fresh-counted : (arm confirm outputs binaries analogs : ℕ) → binaries ≤ pointsMax → analogs ≤ pointsMax → HeadCountsWithin (freshHead arm confirm outputs binaries analogs)
 fresh-counted arm confirm outputs binaries analogs b a =
     record { binaries = b; analogs = a; events = omega arith; request = omega arith; answer = omega arith; objects = omega arith }

@@ -13,23 +13,23 @@ use Rattle.points.specs.declared.AnalogKind.the-variants as Ks
 use Rattle.points.specs.declared.AnalogSetup.{AnalogSetup}
 use Rattle.points.specs.Setup.{analogOk}
 use Rattle.outstation.specs.Setup.{Setup, setupOk}
-use Rattle.outstation.specs.World.{restarted, bareSetup}
+use Rattle.outstation.specs.OutstationView.{restarted, bareSetup}
 use Rattle.point_store.specs.PointWords.{wholeGateOf, floatGateOf}
 use Rattle.outstation.specs.declared.Head.{Head}
-use Rattle.outstation.specs.Lent.{Lent, world, Counted, on}
+use Rattle.outstation.specs.Lent.{Lent, outstationView, CountsWithin, on}
 use Rattle.restart.specs.declared.SetupWords.{SetupWords}
 use Rattle.restart.specs.declared.AnalogSetupWords.{AnalogSetupWords}
-use Rattle.restart.specs.declared.Going.{Going}
+use Rattle.restart.specs.declared.RestartProgress.{RestartProgress}
 use Rattle.restart.specs.declared.Restarted.{Restarted}
 
 -- kind 0: a 32-bit point; 1: a 16-bit point; any other: a float point
 abbrev pub analogKindOf : AnalogSetupWords → AnalogKind
 analogKindOf w =
     first
-    (eqb (w .kind) 0 ⇒ Ks.Long (wholeGateOf (w .gate) (w .limit))
-    ∷ eqb (w .kind) 1 ⇒ Ks.Short (wholeGateOf (w .gate) (w .limit))
+    (eqb (w .kind) 0 ⇒ Ks.Int32 (wholeGateOf (w .gate) (w .limit))
+    ∷ eqb (w .kind) 1 ⇒ Ks.Int16 (wholeGateOf (w .gate) (w .limit))
     ∷ [])
-    (Ks.Real (floatGateOf (w .gate) (w .limit)) (record { gain = ofBits binary32 (w .gain); offset = ofBits binary32 (w .offset) }))
+    (Ks.Float32 (floatGateOf (w .gate) (w .limit)) (record { gain = ofBits binary32 (w .gain); offset = ofBits binary32 (w .offset) }))
 
 unfoldable pub analogSetupOf : AnalogSetupWords → AnalogSetup
 analogSetupOf w = record { class = w .class; kind = analogKindOf w }
@@ -58,18 +58,18 @@ setupOf s classes setups = setupWith s (length classes) classes (length setups) 
 abbrev pub frontOk : SetupWords → List ℕ → ℕ → Bool
 frontOk s classes m = setupOk (setupWith s (length classes) classes m [])
 
-abbrev pub begunOf : Bool → Going
+abbrev pub begunOf : Bool → RestartProgress
 begunOf ok = record { at = 0; refusal = cond ok 0 5 }
 
 -- nothing was refused and an analog is left
-abbrev pub moreOf : Going → ℕ → Bool
+abbrev pub moreOf : RestartProgress → ℕ → Bool
 moreOf g n = cond (eqb (g .refusal) 0) (ltb (g .at) n) false
 
-abbrev pub goneOn : Bool → Going → Going
+abbrev pub goneOn : Bool → RestartProgress → RestartProgress
 goneOn true g = record { at = g .at + 1; refusal = 0 }
 goneOn false g = record { at = g .at; refusal = 5 }
 
-abbrev pub addedOf : Going → AnalogSetupWords → Going
+abbrev pub addedOf : RestartProgress → AnalogSetupWords → RestartProgress
 addedOf g w = goneOn (analogOk (analogSetupOf w)) g
 
 -- ---- what it gives
@@ -101,18 +101,18 @@ freshHead arm confirm outputs binaries analogs =
       «latch_sequence» = 0;
     }
 
-abbrev pub answeredOf : SetupWords → ℕ → Going → Restarted
+abbrev pub answeredOf : SetupWords → ℕ → RestartProgress → Restarted
 answeredOf s n g =
     cond (eqb (g .refusal) 0) (record { head = freshHead (s .«arm_time») (s .«confirm_time») (s .outputs) n (g .at); refusal = 0 })
     (record { head = freshHead 0 0 0 0 0; refusal = 5 })
 
 -- a restart with the setup s, classes and setups left the head h and the points' words bs and ps
-pub record RestartDid (s : SetupWords) (classes : List ℕ) (setups : List AnalogSetupWords) (refusal : ℕ) (h : Head) (bs ps : List ℕ) : Type 0 where
+pub record RestartHolds (s : SetupWords) (classes : List ℕ) (setups : List AnalogSetupWords) (refusal : ℕ) (h : Head) (bs ps : List ℕ) : Type 0 where
   -- 5 exactly when the setup breaks a limit
   pub answer : refusal ≡ cond (setupOk (setupOf s classes setups)) 0 5
-  -- the restarted world, whatever else is lent: of a refused setup the one with no points and no outputs
+  -- the restarted view, whatever else is lent: of a refused setup the one with no points and no outputs
   pub state : (m : Lent)
-      → world (on h (record { binaries = bs; analogs = ps; held = m .held }) m)
+      → outstationView (on h (record { binaries = bs; analogs = ps; held = m .held }) m)
       ≡ restarted (cond (setupOk (setupOf s classes setups)) (setupOf s classes setups) bareSetup)
   -- no count passes its array
-  pub counted : (m : Lent) → Counted (on h (record { binaries = bs; analogs = ps; held = m .held }) m)
+  pub counted : (m : Lent) → CountsWithin (on h (record { binaries = bs; analogs = ps; held = m .held }) m)

@@ -59,7 +59,7 @@ pub struct Restarted {
 }
 
 // How many analogs are stored, and the refusal that stopped the setup, 0 where none did.
-pub struct Going {
+pub struct RestartProgress {
     pub at: usize,
     pub refusal: u8,
 }
@@ -69,14 +69,14 @@ fn analog_setup_of(w: AnalogSetupWords) -> AnalogSetup
 {
     let gate = w.gate as u32;
     if w.kind == 0 {
-        let k = AnalogKind::Long(point_store::whole_gate_of(gate, w.limit));
+        let k = AnalogKind::Int32(point_store::whole_gate_of(gate, w.limit));
         return AnalogSetup {
             class: w.class,
             kind: k,
         };
     }
     if w.kind == 1 {
-        let k = AnalogKind::Short(point_store::whole_gate_of(gate, w.limit));
+        let k = AnalogKind::Int16(point_store::whole_gate_of(gate, w.limit));
         return AnalogSetup {
             class: w.class,
             kind: k,
@@ -86,7 +86,7 @@ fn analog_setup_of(w: AnalogSetupWords) -> AnalogSetup
         gain: words::float(w.gain),
         offset: words::float(w.offset),
     };
-    let k = AnalogKind::Real(point_store::float_gate_of(gate, w.limit), s);
+    let k = AnalogKind::Float32(point_store::float_gate_of(gate, w.limit), s);
     AnalogSetup {
         class: w.class,
         kind: k,
@@ -152,19 +152,19 @@ pub fn begun(
     classes: &[u8],
     analogs: usize,
     binaries: &mut [u32; BINARY_WORDS],
-) -> Going
+) -> RestartProgress
     ensures { λ r. ⌜ (r ≡ begunOf (frontOk s (now (classes .entry)) analogs)) × (frontOk s (now (classes .entry)) analogs ≡ true → take (length (now (classes .entry))) (binariesIn (now (binaries .exit))) ≡ map freshBinary (now (classes .entry))) ⌝ }
 {
     if limits_ok(s, classes.len(), analogs) {
         if fresh_binaries(binaries, classes) {
-            return Going { at: 0, refusal: 0 };
+            return RestartProgress { at: 0, refusal: 0 };
         }
     }
-    Going { at: 0, refusal: 5 }
+    RestartProgress { at: 0, refusal: 5 }
 }
 
 // Nothing was refused and an analog is left.
-pub fn more(g: Going, n: usize) -> bool
+pub fn more(g: RestartProgress, n: usize) -> bool
     ensures { λ b. ⌜ b ≡ moreOf g n ⌝ }
 {
     let left = g.at < n;
@@ -172,7 +172,11 @@ pub fn more(g: Going, n: usize) -> bool
 }
 
 // One more analog.
-pub fn added(g: Going, analogs: &mut [u32; ANALOG_WORDS], w: AnalogSetupWords) -> Going
+pub fn added(
+    g: RestartProgress,
+    analogs: &mut [u32; ANALOG_WORDS],
+    w: AnalogSetupWords,
+) -> RestartProgress
     requires { ⌜ g .at < pointsMax ⌝ }
     ensures { λ r. ⌜ (r ≡ addedOf g w) × (analogOk (analogSetupOf w) ≡ true → analogsIn (now (analogs .exit)) ≡ set (analogsIn (now (analogs .entry))) (g .at) (freshAnalog (analogSetupOf w))) ⌝ }
 {
@@ -181,19 +185,19 @@ pub fn added(g: Going, analogs: &mut [u32; ANALOG_WORDS], w: AnalogSetupWords) -
         let i = g.at;
         point_store::store_analog(analogs, i, points::fresh_analog(a));
         let next = i + 1;
-        return Going {
+        return RestartProgress {
             at: next,
             refusal: 0,
         };
     }
-    Going {
+    RestartProgress {
         at: g.at,
         refusal: 5,
     }
 }
 
 // The head of a restarted outstation; of a refused setup the one with no points and no outputs.
-pub fn answered(s: SetupWords, binaries: usize, g: Going) -> Restarted
+pub fn answered(s: SetupWords, binaries: usize, g: RestartProgress) -> Restarted
     ensures { λ r. ⌜ r ≡ answeredOf s binaries g ⌝ }
 {
     let mut h = Head {

@@ -12,15 +12,15 @@ use Rattle.laws.specs.Limits.{fragmentMax}
 use Rattle.laws.proofs.Loops.{front}
 use Rattle.octets.specs.Bytes.{splice}
 use Rattle.octets.proofs.Splice.{splice-append, splice-nil, length-splice}
-use Rattle.points.specs.Inputs.{Inputs}
+use Rattle.points.specs.PointsView.{PointsView}
 use Rattle.application.specs.declared.Fault.{Fault}
 use Rattle.application.specs.declared.Fault.the-variants.{Faultless, FunctionUnknown, ObjectUnknown, BadParameter}
 use Rattle.application.specs.Response.{isFaultless}
-use Rattle.request.specs.declared.Header.{Header}
-use Rattle.request.specs.declared.Plan.{Plan}
-use Rattle.request.specs.Parse.{Parsed, headers, fault, parse}
-use Rattle.request.specs.Plans.{planned, plannedOf}
-use Rattle.request.proofs.AskLaws.{noHeader}
+use Rattle.read_headers.specs.declared.Header.{Header}
+use Rattle.read_headers.specs.declared.Plan.{Plan}
+use Rattle.read_headers.specs.Parse.{Parsed, headers, fault, parse}
+use Rattle.read_headers.specs.Plans.{planned, plannedOf}
+use Rattle.read_headers.proofs.AskLaws.{noHeader}
 use Rattle.static_objects.specs.Static.{rangeBytes, headerBytes, staticBytes, sized, fittedOf}
 
 -- ---- a plan by its fault
@@ -34,7 +34,7 @@ module _ (q : Plan) where
   unfolding plannedOf
   plan-fault h = rw h
 
-module _ (i : Inputs) where
+module _ (i : PointsView) where
   static-nil : staticBytes i [] ≡ []
   unfolding staticBytes
   static-nil = refl

@@ -9,17 +9,17 @@ use lib.ListN.{length, set, length-append}
 use Rattle.octets.specs.Bytes.{splice, le}
 use Rattle.octets.proofs.Splice.{splice-append, splice-cons, splice-one, splice-nil, length-splice}
 use Rattle.octets.proofs.Le.{length-le}
-use Rattle.points.specs.Inputs.{Inputs}
+use Rattle.points.specs.PointsView.{PointsView}
 use Rattle.points.specs.declared.Value.{Value}
-use Rattle.points.specs.declared.Value.the-variants.{Long, Short, Real}
+use Rattle.points.specs.declared.Value.the-variants.{Int32, Int16, Float32}
 use Rattle.objects.specs.Values.{valueBytes, valueSize}
 use Rattle.objects.proofs.ValueLaws.{length-value}
 use Rattle.objects.specs.Runs.{Object, runs, objectBytes, allBytes, encoded, lead}
 use Rattle.objects.proofs.RunLaws.{lead-nil, lead-other}
 use Rattle.objects.proofs.WriterLaws.{three-put}
-use Rattle.static_objects.specs.declared.Shown.{Shown}
-use Rattle.static_objects.specs.declared.Shown.the-variants.{Binary, Analog}
-use Rattle.static_objects.specs.Static.{shownAt, variationOf, pointBytes, staticHeading, pointObject, pointObjects, rangeBytes}
+use Rattle.static_objects.specs.declared.ShownPoint.{ShownPoint}
+use Rattle.static_objects.specs.declared.ShownPoint.the-variants.{Binary, Analog}
+use Rattle.static_objects.specs.Static.{shownAt, staticVariation, pointBytes, staticHeading, pointObject, pointObjects, rangeBytes}
 
 -- ---- putting
 
@@ -36,13 +36,13 @@ heading-put d d4 d5 at g v i m e4 e5 =
     ∙ three-put d at g v 1 (le 2 i ++ le 2 (i + m))
     ∙ ap (λ (q : ℕ). splice d at (g ∷ v ∷ 1 ∷ (le 2 i ++ le 2 q))) l
 
-pub binary-put : (d : List ℕ) (at : ℕ) (s : Shown) (f : ℕ) → s ≡ Binary f → set d at f ≡ splice d at (pointBytes s)
+pub binary-put : (d : List ℕ) (at : ℕ) (s : ShownPoint) (f : ℕ) → s ≡ Binary f → set d at f ≡ splice d at (pointBytes s)
 unfolding pointBytes
-binary-put d at s f h = sym (splice-one d at f) ∙ ap (λ (x : Shown). splice d at (pointBytes x)) (sym h)
+binary-put d at s f h = sym (splice-one d at f) ∙ ap (λ (x : ShownPoint). splice d at (pointBytes x)) (sym h)
 
-pub analog-put : (d d2 : List ℕ) (at : ℕ) (s : Shown) (f : ℕ) (v : Value) → s ≡ Analog f v → d2 ≡ splice (set d at f) (at + 1) (valueBytes v) → d2 ≡ splice d at (pointBytes s)
+pub analog-put : (d d2 : List ℕ) (at : ℕ) (s : ShownPoint) (f : ℕ) (v : Value) → s ≡ Analog f v → d2 ≡ splice (set d at f) (at + 1) (valueBytes v) → d2 ≡ splice d at (pointBytes s)
 unfolding pointBytes
-analog-put d d2 at s f v h e = e ∙ sym (splice-cons d at f (valueBytes v)) ∙ ap (λ (x : Shown). splice d at (pointBytes x)) (sym h)
+analog-put d d2 at s f v h e = e ∙ sym (splice-cons d at f (valueBytes v)) ∙ ap (λ (x : ShownPoint). splice d at (pointBytes x)) (sym h)
 
 -- ---- sizes
 
@@ -51,24 +51,24 @@ heading-length a k i n =
     let t : length (le 2 i ++ le 2 (i + n - 1)) ≡ 4 = omega (arith, length-append (le 2 i) (le 2 (i + n - 1)), length-le 2 i, length-le 2 (i + n - 1)) in
     ap (λ (m : ℕ). suc (suc (suc m))) t
 
-module _ (s : Shown) where
+module _ (s : ShownPoint) where
   pub length-binary : (f : ℕ) → s ≡ Binary f → length (pointBytes s) ≡ 1
   unfolding pointBytes
-  length-binary f h = ap (λ (x : Shown). length (pointBytes x)) h
+  length-binary f h = ap (λ (x : ShownPoint). length (pointBytes x)) h
 
   pub length-analog : (f : ℕ) (v : Value) → s ≡ Analog f v → length (pointBytes s) ≡ 1 + valueSize v
   unfolding pointBytes
-  length-analog f v h = ap (λ (x : Shown). length (pointBytes x)) h ∙ ap suc (length-value v) ∙ omega arith
+  length-analog f v h = ap (λ (x : ShownPoint). length (pointBytes x)) h ∙ ap suc (length-value v) ∙ omega arith
 
-pub kind-some : (s : Shown) → variationOf s ≡ 0 → ⊥
+pub kind-some : (s : ShownPoint) → staticVariation s ≡ 0 → ⊥
 kind-some (Binary f) h = omega arith
-kind-some (Analog f (Long z)) h = omega arith
-kind-some (Analog f (Short z)) h = omega arith
-kind-some (Analog f (Real x)) h = omega arith
+kind-some (Analog f (Int32 z)) h = omega arith
+kind-some (Analog f (Int16 z)) h = omega arith
+kind-some (Analog f (Float32 x)) h = omega arith
 
 -- ---- the points' objects
 
-module _ (i : Inputs) (a : Bool) where
+module _ (i : PointsView) (a : Bool) where
   pub points-nil : (n k : ℕ) → k ≤ 0 → pointObjects i a n k ≡ []
   unfolding pointObjects
   points-nil n zero h = refl
@@ -89,7 +89,7 @@ module _ (i : Inputs) (a : Bool) where
 
 -- ---- binaries are one run
 
-module _ (i : Inputs) where
+module _ (i : PointsView) where
   points-length : (a : Bool) (n k : ℕ) → length (pointObjects i a n k) ≡ k
   unfolding pointObjects
   points-length a n zero = refl
@@ -141,7 +141,7 @@ module _ (i : Inputs) where
     pub places : j + left ≡ from + n
 
   module _ {out₀ : List ℕ} {at from n : ℕ} {out : List ℕ} {to j left : ℕ} (g : Showing out₀ at from n out to j left) where
-    pub shown : 0 < left → (s : Shown) → s ≡ shownAt i false j → (out′ : List ℕ) (to′ : ℕ) → to′ ≡ to + length (pointBytes s) → out′ ≡ splice out to (pointBytes s)
+    pub shown : 0 < left → (s : ShownPoint) → s ≡ shownAt i false j → (out′ : List ℕ) (to′ : ℕ) → to′ ≡ to + length (pointBytes s) → out′ ≡ splice out to (pointBytes s)
         → Showing out₀ at from n out′ to′ (j + 1) (left - 1)
     shown more s hs out′ to′ ht ho =
         let tl : List ℕ = objectBytes (pointObjects i false (j + 1) (left - 1)) in
@@ -151,7 +151,7 @@ module _ (i : Inputs) where
               ap (λ (d : List ℕ). splice d to′ tl) ho
               ∙ ap (λ (q : ℕ). splice (splice out to (pointBytes s)) q tl) ht
               ∙ sym (splice-append out to (pointBytes s) tl)
-              ∙ ap (λ (x : Shown). splice out to (pointBytes x ++ tl)) hs
+              ∙ ap (λ (x : ShownPoint). splice out to (pointBytes x ++ tl)) hs
               ∙ ap (splice out to) (sym (states-cons j left more))
               ∙ g .ahead;
           long = ap length ho ∙ length-splice out to (pointBytes s) ∙ g .long;

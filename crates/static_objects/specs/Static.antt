@@ -9,69 +9,69 @@ use lib.ListN.{length, getD}
 use Rattle.laws.specs.First.{first, _⇒_}
 use Rattle.laws.specs.Limits.{fragmentMax}
 use Rattle.octets.specs.Bytes.{le}
-use Rattle.points.specs.Inputs.{Inputs, noBinary, noAnalog}
+use Rattle.points.specs.PointsView.{PointsView, noBinary, noAnalog}
 use Rattle.points.specs.declared.Value.{Value}
-use Rattle.points.specs.declared.Value.the-variants.{Long, Short, Real}
+use Rattle.points.specs.declared.Value.the-variants.{Int32, Int16, Float32}
 use Rattle.objects.specs.Values.{valueBytes, stateByte}
 use Rattle.objects.specs.Runs.{Object, Heading, encoded}
 use Rattle.application.specs.declared.Fault.{Fault}
 use Rattle.application.specs.declared.Fault.the-variants.{BadParameter}
 use Rattle.application.specs.Response.{isFaultless}
-use Rattle.request.specs.declared.Header.{Header}
-use Rattle.request.specs.Parse.{Parsed, headers, fault, parse}
-use Rattle.static_objects.specs.declared.Shown.{Shown}
-use Rattle.static_objects.specs.declared.Shown.the-variants.{Binary, Analog}
+use Rattle.read_headers.specs.declared.Header.{Header}
+use Rattle.read_headers.specs.Parse.{Parsed, headers, fault, parse}
+use Rattle.static_objects.specs.declared.ShownPoint.{ShownPoint}
+use Rattle.static_objects.specs.declared.ShownPoint.the-variants.{Binary, Analog}
 
 -- what the n-th binary or analog input shows: flags with the state, or flags and a value
-abbrev pub shownAt : Inputs → Bool → ℕ → Shown
+abbrev pub shownAt : PointsView → Bool → ℕ → ShownPoint
 shownAt i false n = Binary (stateByte (getD (i .binaries) n noBinary .state) (getD (i .binaries) n noBinary .flags))
 shownAt i true n = Analog (getD (i .analogs) n noAnalog .flags) (getD (i .analogs) n noAnalog .value)
 
 -- 1 var 2; 30 var 1 (32-bit), 2 (16-bit), 5 (float)
-abbrev pub groupOf : Bool → ℕ
-groupOf analog = cond analog 30 1
+abbrev pub staticGroup : Bool → ℕ
+staticGroup analog = cond analog 30 1
 
 abbrev pub valueVariation : Value → ℕ
-valueVariation (Long z) = 1
-valueVariation (Short z) = 2
-valueVariation (Real x) = 5
+valueVariation (Int32 z) = 1
+valueVariation (Int16 z) = 2
+valueVariation (Float32 x) = 5
 
-abbrev pub variationOf : Shown → ℕ
-variationOf (Binary flags) = 2
-variationOf (Analog flags v) = valueVariation v
+abbrev pub staticVariation : ShownPoint → ℕ
+staticVariation (Binary flags) = 2
+staticVariation (Analog flags v) = valueVariation v
 
-unfoldable pub pointBytes : Shown → List ℕ
+unfoldable pub pointBytes : ShownPoint → List ℕ
 pointBytes (Binary flags) = flags ∷ []
 pointBytes (Analog flags v) = flags ∷ valueBytes v
 
 -- group, variation, qualifier 01, the first index and the last one in two bytes each
 abbrev pub staticHeading : Bool → Heading
-staticHeading analog variation index n = groupOf analog ∷ variation ∷ 1 ∷ (le 2 index ++ le 2 (index + n - 1))
+staticHeading analog variation index n = staticGroup analog ∷ variation ∷ 1 ∷ (le 2 index ++ le 2 (index + n - 1))
 
 -- among binaries or among analogs, a point's kind is its variation
-abbrev pub pointObject : Inputs → Bool → ℕ → Object
+abbrev pub pointObject : PointsView → Bool → ℕ → Object
 pointObject i analog n =
-    record { kind = variationOf (shownAt i analog n); index = n; bytes = pointBytes (shownAt i analog n) }
+    record { kind = staticVariation (shownAt i analog n); index = n; bytes = pointBytes (shownAt i analog n) }
 
 -- so many points from the n-th on
-unfoldable pub pointObjects : Inputs → Bool → ℕ → ℕ → List Object
+unfoldable pub pointObjects : PointsView → Bool → ℕ → ℕ → List Object
 pointObjects i analog n zero = []
 pointObjects i analog n (suc k) = pointObject i analog n ∷ pointObjects i analog (n + 1) k
 
-unfoldable pub rangeBytes : Inputs → Bool → ℕ → ℕ → List ℕ
+unfoldable pub rangeBytes : PointsView → Bool → ℕ → ℕ → List ℕ
 rangeBytes i analog n k = encoded (staticHeading analog) (pointObjects i analog n k)
 
 -- "binaries, then analogs", of a request header
-abbrev pub headerBytes : Inputs → Header → List ℕ
+abbrev pub headerBytes : PointsView → Header → List ℕ
 headerBytes i h = rangeBytes i false (h .binary) (h .binaries) ++ rangeBytes i true (h .analog) (h .analogs)
 
 -- "static parts in the order asked"
-unfoldable pub staticBytes : Inputs → List Header → List ℕ
+unfoldable pub staticBytes : PointsView → List Header → List ℕ
 staticBytes i [] = []
 staticBytes i (h ∷ hs) = headerBytes i h ++ staticBytes i hs
 
 -- "then static part plus 4 above 2,048, 2.2"
-abbrev pub sized : Inputs → Parsed → Parsed
+abbrev pub sized : PointsView → Parsed → Parsed
 sized i (headers hs) = first (ltb fragmentMax (length (staticBytes i hs) + 4) ⇒ fault BadParameter ∷ []) (headers hs)
 sized i (fault f) = fault f
 
@@ -80,5 +80,5 @@ abbrev pub fittedOf : Fault → ℕ → Fault
 fittedOf f size = first ((isFaultless f && ltb fragmentMax (size + 4)) ⇒ BadParameter ∷ []) f
 
 -- what a READ asks for, or its fault, of the bytes after control and function
-abbrev pub readOf : Inputs → List ℕ → Parsed
-readOf i s = sized i (parse (length (i .binaries)) (length (i .analogs)) s)
+abbrev pub askedOf : PointsView → List ℕ → Parsed
+askedOf i s = sized i (parse (length (i .binaries)) (length (i .analogs)) s)

@@ -7,14 +7,14 @@ ghost use Prim.Native.Nat.{ℕ, _+_, _*_, _≤_, _<_};
 ghost use lib.Dec.{eqb};
 ghost use lib.ListN.{length, take};
 ghost use Rattle.octets.specs.Bytes.{splice};
-ghost use Rattle.points.specs.Inputs.{Inputs};
+ghost use Rattle.points.specs.PointsView.{PointsView};
 ghost use Rattle.objects.specs.Runs.{objectBytes};
-ghost use Rattle.request.specs.Parse.{headersMax};
-ghost use Rattle.request.specs.Plans.{plannedOf};
-ghost use Rattle.point_store.specs.PointWords.{inputsIn};
+ghost use Rattle.read_headers.specs.Parse.{headersMax};
+ghost use Rattle.read_headers.specs.Plans.{plannedOf};
+ghost use Rattle.point_store.specs.PointWords.{pointsViewIn};
 ghost use Rattle.static_objects.specs.Static.{
-  groupOf,
-  variationOf,
+  staticGroup,
+  staticVariation,
   pointBytes,
   staticHeading,
   shownAt,
@@ -23,7 +23,7 @@ ghost use Rattle.static_objects.specs.Static.{
   headerBytes,
   staticBytes,
   fittedOf,
-  readOf,
+  askedOf,
 };
 ghost use Rattle.static_objects.specs.Alone.{binariesAlone, analogsAlone};
 use application::FRAGMENT_MAX;
@@ -32,12 +32,12 @@ use point_store::ANALOG_WORDS;
 use point_store::BINARY_WORDS;
 use point_store::Installed;
 use points::Value;
-use request::HEADERS_MAX;
-use request::Header;
-use request::Plan;
+use read_headers::HEADERS_MAX;
+use read_headers::Header;
+use read_headers::Plan;
 
 // What a point shows: a binary's flags with its state, or an analog's flags and value.
-enum Shown {
+enum ShownPoint {
     Binary(u8),
     Analog(u8, Value),
 }
@@ -51,34 +51,34 @@ pub struct SizedPlan {
 // ---- one point, and one header
 
 fn group(analog: bool) -> u8
-    ensures { λ r. ⌜ r ≡ groupOf analog ⌝ }
+    ensures { λ r. ⌜ r ≡ staticGroup analog ⌝ }
 {
     if analog { 30 } else { 1 }
 }
 
-fn variation(s: Shown) -> u8
-    ensures { λ r. ⌜ r ≡ variationOf s ⌝ }
+fn variation(s: ShownPoint) -> u8
+    ensures { λ r. ⌜ r ≡ staticVariation s ⌝ }
 {
     match s {
-        Shown::Binary(_) => 2,
-        Shown::Analog(_, v) => match v {
-            Value::Long(_) => 1,
-            Value::Short(_) => 2,
-            Value::Real(_) => 5,
+        ShownPoint::Binary(_) => 2,
+        ShownPoint::Analog(_, v) => match v {
+            Value::Int32(_) => 1,
+            Value::Int16(_) => 2,
+            Value::Float32(_) => 5,
         },
     }
 }
 
 // The bytes of what a point shows.
-fn size(s: Shown) -> usize
+fn size(s: ShownPoint) -> usize
     ensures { λ r. ⌜ (r ≡ length (pointBytes s)) × (r ≤ 5) ⌝ }
 {
     match s {
-        Shown::Binary(_) => 1,
-        Shown::Analog(_, v) => match v {
-            Value::Long(_) => 5,
-            Value::Short(_) => 3,
-            Value::Real(_) => 5,
+        ShownPoint::Binary(_) => 1,
+        ShownPoint::Analog(_, v) => match v {
+            Value::Int32(_) => 5,
+            Value::Int16(_) => 3,
+            Value::Float32(_) => 5,
         },
     }
 }
@@ -106,18 +106,18 @@ fn put_heading(
 }
 
 // Puts what a point shows at the offset, and answers the offset after it.
-fn put_point(out: &mut [u8], at: usize, s: Shown) -> usize
+fn put_point(out: &mut [u8], at: usize, s: ShownPoint) -> usize
     requires { ⌜ at + length (pointBytes s) ≤ length (now out) ⌝ }
     ensures { λ r. ⌜
         (r ≡ at + length (pointBytes s))
         × (now (out .exit) ≡ splice (now (out .entry)) at (pointBytes s)) ⌝ }
 {
     match s {
-        Shown::Binary(flags) => {
+        ShownPoint::Binary(flags) => {
             out[at] = flags;
             at + 1
         }
-        Shown::Analog(flags, v) => {
+        ShownPoint::Analog(flags, v) => {
             out[at] = flags;
             objects::put_value(out, at + 1, v)
         }
@@ -126,26 +126,26 @@ fn put_point(out: &mut [u8], at: usize, s: Shown) -> usize
 
 // ---- what the i-th point shows, of so many installed
 
-fn binary_shown(ws: &[u32; BINARY_WORDS], count: usize, i: usize) -> Shown
+fn binary_shown(ws: &[u32; BINARY_WORDS], count: usize, i: usize) -> ShownPoint
     ensures { λ r. ⌜ r ≡ shownAt (binariesAlone count (now (ws .entry))) false i ⌝ }
 {
     if i < points::installed(count) {
         let b = point_store::load_binary(ws, i);
-        Shown::Binary(objects::state_byte(b.state, b.flags))
+        ShownPoint::Binary(objects::state_byte(b.state, b.flags))
     } else {
-        Shown::Binary(0)
+        ShownPoint::Binary(0)
     }
 }
 
-fn analog_shown(ws: &[u32; ANALOG_WORDS], count: usize, i: usize) -> Shown
+fn analog_shown(ws: &[u32; ANALOG_WORDS], count: usize, i: usize) -> ShownPoint
     ensures { λ r. ⌜ r ≡ shownAt (analogsAlone count (now (ws .entry))) true i ⌝ }
 {
     if i < points::installed(count) {
         let a = point_store::load_shown(ws, i);
         let v = a.value;
-        Shown::Analog(a.flags, v)
+        ShownPoint::Analog(a.flags, v)
     } else {
-        Shown::Analog(0, Value::Long(0))
+        ShownPoint::Analog(0, Value::Int32(0))
     }
 }
 
@@ -154,7 +154,7 @@ fn analog_shown(ws: &[u32; ANALOG_WORDS], count: usize, i: usize) -> Shown
 // The bytes that n binaries take.
 fn binaries_size(n: usize) -> usize
     requires { ⌜ n < 200000 ⌝ }
-    ensures { λ r. ⌜ ((i : Inputs) (from : ℕ) → r ≡ length (rangeBytes i false from n)) × (r ≤ 7 + n) ⌝ }
+    ensures { λ r. ⌜ ((i : PointsView) (from : ℕ) → r ≡ length (rangeBytes i false from n)) × (r ≤ 7 + n) ⌝ }
 {
     if n == 0 { 0 } else { 7 + n }
 }
@@ -296,7 +296,7 @@ fn put_analogs(
 // ---- the headers of a request. A size reads no binary, and is the same whatever their words are: (b : List ℕ) → …
 
 fn header_size(h: Header, analogs: &[u32; ANALOG_WORDS], n: Installed) -> usize
-    ensures { λ r. ⌜ ((b : List ℕ) → r ≡ length (headerBytes (inputsIn n b (now (analogs .entry))) h)) × (r ≤ 1600000) ⌝ }
+    ensures { λ r. ⌜ ((b : List ℕ) → r ≡ length (headerBytes (pointsViewIn n b (now (analogs .entry))) h)) × (r ≤ 1600000) ⌝ }
 {
     let binary_bytes = binaries_size(h.binaries as usize);
     let analog_bytes = analogs_size(analogs, n.analogs, h.analog as usize, h.analogs as usize);
@@ -311,10 +311,10 @@ fn put_header(
     analogs: &[u32; ANALOG_WORDS],
     n: Installed,
 ) -> usize
-    requires { ⌜ at + length (headerBytes (inputsIn n (now binaries) (now analogs)) h) ≤ length (now out) ⌝ }
+    requires { ⌜ at + length (headerBytes (pointsViewIn n (now binaries) (now analogs)) h) ≤ length (now out) ⌝ }
     ensures { λ r. ⌜
-        (r ≡ at + length (headerBytes (inputsIn n (now (binaries .entry)) (now (analogs .entry))) h))
-        × (now (out .exit) ≡ splice (now (out .entry)) at (headerBytes (inputsIn n (now (binaries .entry)) (now (analogs .entry))) h)) ⌝ }
+        (r ≡ at + length (headerBytes (pointsViewIn n (now (binaries .entry)) (now (analogs .entry))) h))
+        × (now (out .exit) ≡ splice (now (out .entry)) at (headerBytes (pointsViewIn n (now (binaries .entry)) (now (analogs .entry))) h)) ⌝ }
 {
     let to = put_binaries(
         out,
@@ -337,7 +337,7 @@ fn put_header(
 // The bytes of the static part.
 fn static_size(plan: Plan, analogs: &[u32; ANALOG_WORDS], n: Installed) -> usize
     ensures { λ r. ⌜
-        ((b : List ℕ) → r ≡ length (staticBytes (inputsIn n b (now (analogs .entry))) (take (plan .count) (plan .headers))))
+        ((b : List ℕ) → r ≡ length (staticBytes (pointsViewIn n b (now (analogs .entry))) (take (plan .count) (plan .headers))))
         × (r ≤ 25600000) ⌝ }
 {
     let stop = octets::least(plan.count, HEADERS_MAX);
@@ -360,10 +360,10 @@ pub fn put_static(
     analogs: &[u32; ANALOG_WORDS],
     n: Installed,
 ) -> usize
-    requires { ⌜ at + length (staticBytes (inputsIn n (now binaries) (now analogs)) (take (plan .count) (plan .headers))) ≤ length (now out) ⌝ }
+    requires { ⌜ at + length (staticBytes (pointsViewIn n (now binaries) (now analogs)) (take (plan .count) (plan .headers))) ≤ length (now out) ⌝ }
     ensures { λ r. ⌜
-        (r ≡ at + length (staticBytes (inputsIn n (now (binaries .entry)) (now (analogs .entry))) (take (plan .count) (plan .headers))))
-        × (now (out .exit) ≡ splice (now (out .entry)) at (staticBytes (inputsIn n (now (binaries .entry)) (now (analogs .entry))) (take (plan .count) (plan .headers)))) ⌝ }
+        (r ≡ at + length (staticBytes (pointsViewIn n (now (binaries .entry)) (now (analogs .entry))) (take (plan .count) (plan .headers))))
+        × (now (out .exit) ≡ splice (now (out .entry)) at (staticBytes (pointsViewIn n (now (binaries .entry)) (now (analogs .entry))) (take (plan .count) (plan .headers)))) ⌝ }
 {
     let stop = octets::least(plan.count, HEADERS_MAX);
     let mut to = at;
@@ -392,13 +392,13 @@ fn fitted(f: Fault, size: usize) -> Fault
 // What a READ asks for, or its fault, of the bytes after control and function.
 pub fn asked(s: &[u8], analogs: &[u32; ANALOG_WORDS], n: Installed) -> SizedPlan
     ensures { λ r. ⌜
-        ((b : List ℕ) → plannedOf (r .plan) ≡ readOf (inputsIn n b (now (analogs .entry))) (now (s .entry)))
-        × ((b : List ℕ) → r .size ≡ length (staticBytes (inputsIn n b (now (analogs .entry))) (take (r .plan .count) (r .plan .headers))))
+        ((b : List ℕ) → plannedOf (r .plan) ≡ askedOf (pointsViewIn n b (now (analogs .entry))) (now (s .entry)))
+        × ((b : List ℕ) → r .size ≡ length (staticBytes (pointsViewIn n b (now (analogs .entry))) (take (r .plan .count) (r .plan .headers))))
         × (r .plan .count ≤ headersMax) ⌝ }
 {
     let binary_count = points::installed(n.binaries) as u16;
     let analog_count = points::installed(n.analogs) as u16;
-    let plan = request::headers(s, binary_count, analog_count);
+    let plan = read_headers::headers(s, binary_count, analog_count);
     let size = static_size(plan, analogs, n);
     let f = plan.fault;
     let fault = fitted(f, size);

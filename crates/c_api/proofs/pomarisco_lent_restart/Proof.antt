@@ -55,17 +55,17 @@ use Rattle.walk.proofs.Walking.{tail, calls-value, calls-lent, calls-lent-last}
 use Rattle.walk.proofs.Relend.{Mut, relends, regains}
 use Rattle.restart.specs.declared.SetupWords.{SetupWords}
 use Rattle.restart.specs.declared.AnalogSetupWords.{AnalogSetupWords}
-use Rattle.restart.specs.declared.Going.{Going}
+use Rattle.restart.specs.declared.RestartProgress.{RestartProgress}
 use Rattle.restart.specs.declared.Restarted.{Restarted}
-use Rattle.restart.specs.Restart.{analogSetupOf, frontOk, begunOf, moreOf, addedOf, answeredOf, RestartDid}
+use Rattle.restart.specs.Restart.{analogSetupOf, frontOk, begunOf, moreOf, addedOf, answeredOf, RestartHolds}
 use Rattle.c_api.proofs.RestartRecords.{valS, valR, valG, valD, valsR, IsS, IsR, IsG, IsD, tellsS, tellsR, tellsG, tellsD, makesS, makesR, makesG, makesD, copyR, typedS, typedR, typedG, typedD}
 use Rattle.restart.proofs.RestartFacts.{Fresh, Stands, begins, at-place, within, in-room, goes-on, is-over}
 use Rattle.restart.proofs.SetupWords as S
 use Rattle.restart.proofs.SetupWords.Laws as S′
 use Rattle.restart.proofs.AnalogSetupWords as R
 use Rattle.restart.proofs.AnalogSetupWords.Laws as R′
-use Rattle.restart.proofs.Going as G
-use Rattle.restart.proofs.Going.Laws as G′
+use Rattle.restart.proofs.RestartProgress as G
+use Rattle.restart.proofs.RestartProgress.Laws as G′
 use Rattle.restart.proofs.Restarted as D
 use Rattle.restart.proofs.Restarted.Laws as D′
 use Rattle.restart.proofs.begun as begun
@@ -125,7 +125,7 @@ size = mem R.the-row .size
 
 -- where the walk of the setups stands
 record Spot (s : SetupWords) (cs : List ℕ) (xs : List AnalogSetupWords) : Type 0 where
-  g : Going
+  g : RestartProgress
   ps : List ℕ
   k : ℕ
   is : IsG g
@@ -205,7 +205,7 @@ module _ {M : Type 1} (𝓤 : URA M) (H : Heap 𝓤) (A : Atoms 𝓤) (W : Given
   abbrev Last₂ : List ℕ → Fml
   Last₂ bs = fres (x₂ .name) (Bs .coded .code bs)
 
-  exits : (d : Restarted) (bs ps : List ℕ) → IsD d → RestartDid s cs xs (d .refusal) (d .head) bs ps
+  exits : (d : Restarted) (bs ps : List ℕ) → IsD d → RestartHolds s cs xs (d .refusal) (d .head) bs ps
       → ent 𝓤 (⋆ 𝓤 H A (‵ (flft κ₁ q₁) ∷ ‵ (Ref₃ 3 κ₃ (x₃ .name) ps) ∷ ‵ (flft κ₃ q₃) ∷ ‵ (Last₂ bs) ∷ ‵ (flft κ₀ q₀) ∷ ‵ (flft κ₂ q₂) ∷ [])) (Post (valD d))
   exits d bs ps is e =
       qed W (‵ (flft κ₁ q₁) ∷ ‵ (Ref₃ 3 κ₃ (x₃ .name) ps) ∷ ‵ (flft κ₃ q₃) ∷ ‵ (Last₂ bs) ∷ ‵ (flft κ₀ q₀) ∷ ‵ (flft κ₂ q₂) ∷ []) ∵
@@ -215,7 +215,7 @@ module _ {M : Type 1} (𝓤 : URA M) (H : Heap 𝓤) (A : Atoms 𝓤) (W : Given
       owned ! D.the-row (Is D.the-row) (makesD 𝓤 H A) d _ is $ done !
 
   -- ---- the call of `begun`, which is lent the classes and the binaries for good
-  abbrev g₀ : Going
+  abbrev g₀ : RestartProgress
   g₀ = begunOf (frontOk s cs n)
 
   abbrev to-begun : Begun 𝓤 H A at-mem run .Ghost
@@ -235,7 +235,7 @@ module _ {M : Type 1} (𝓤 : URA M) (H : Heap 𝓤) (A : Atoms 𝓤) (W : Given
       owned ! S.the-row (Is S.the-row) (makesS 𝓤 H A) s _ s-is $ fjoin ! $ move ! (1 ∷ 0 ∷ []) $ join ! $ frame ! $ done !
 
   -- ---- one call of `added`, the analogs being lent again for ν under the name δ
-  module _ (g : Going) (ps : List ℕ) (r : AnalogSetupWords) (ν : ℕ) (δ : GName) where
+  module _ (g : RestartProgress) (ps : List ℕ) (r : AnalogSetupWords) (ν : ℕ) (δ : GName) where
     abbrev to-added : Added 𝓤 H A at-mem run .Ghost
     to-added = (((ν ∷ [], tt), (fullShare, tt), tt, (g, (record { ptr = x₃ .ptr; name = δ; now = ps }, (r, tt))), (valG g ∷ [], (ptrOf x₃ ∷ [], (valR r ∷ [], tt)))), tt)
 
@@ -247,10 +247,10 @@ module _ {M : Type 1} (𝓤 : URA M) (H : Heap 𝓤) (A : Atoms 𝓤) (W : Given
         qed W ((Token ⊛ ‵ (Ref₃ 0 (ν ∷ []) δ ps)) ∷ []) ∵ says ! fits $ split ! $ frame ! $
         nothing ! $ owned ! R.the-row (Is R.the-row) (makesR 𝓤 H A) r _ r-is $ fjoin ! $ move ! (1 ∷ 0 ∷ []) $ fjoin ! $ owned ! G.the-row (Is G.the-row) (makesG 𝓤 H A) g _ g-is $ fjoin ! $ done !
 
-  abbrev to-more : Going → More 𝓤 H A at-mem run .Ghost
+  abbrev to-more : RestartProgress → More 𝓤 H A at-mem run .Ghost
   to-more g = ((tt, tt, tt, (g, (n, tt)), (valG g ∷ [], (vint w64 n ∷ [], tt))), tt)
 
-  abbrev to-answered : Going → Answered 𝓤 H A at-mem run .Ghost
+  abbrev to-answered : RestartProgress → Answered 𝓤 H A at-mem run .Ghost
   to-answered g = ((tt, tt, tt, (s, (length cs, (g, tt))), (valS s ∷ [], (vint w64 (length cs) ∷ [], (valG g ∷ [], tt)))), tt)
 
   module _ (𝓣 : Tables 𝓤 H) (fm : FmC 𝓤 H (W .laws) (𝓣 .C)) (known-more : Triple 𝓤 (𝓣 .C #more) (More 𝓤 H A at-mem run)) (known-added : Triple 𝓤 (𝓣 .C #added) (Added 𝓤 H A at-mem run)) (known-answered : Triple 𝓤 (𝓣 .C #answered) (Answered 𝓤 H A at-mem run)) where

@@ -12,15 +12,15 @@ enum-told c = search needs
 enum-known-w : tie.Need-enum-known-w
 enum-known-w c = search needs
 
-in-time-requires : tie.Need-in-time-requires
-in-time-requires c κs = search needs
+is-confirmed-requires : tie.Need-is-confirmed-requires
+is-confirmed-requires c κs = search needs
 
 returns : tie.Need-returns
 returns c =
     let a = c .before .before .before .before .before .args in
     let g = c .before .before .before .w .given in
     λ w same.
-    confirm-good w (a .w) (a .q .0) (a .uns) (a .time) (g .0 .0) (g .0 .1 .0) (g .0 .1 .1 .0) (g .0 .1 .1 .1 .0) (g .1) (a .confirm-time) same (sym (c .before .in-time .ensures) ∙ c .if1 .taken)
+    confirm-good w (a .w) (a .q .0) (a .uns) (a .time) (g .0 .0) (g .0 .1 .0) (g .0 .1 .1 .0) (g .0 .1 .1 .1 .0) (g .1) (a .confirm-time) same (sym (c .before .is-confirmed .ensures) ∙ c .if1 .taken)
 
 returns-2 : tie.Need-returns-2
 returns-2 c =
@@ -32,7 +32,7 @@ returns-3 c =
     let a = c .before .before .before .before .before .args in
     let g = c .before .before .before .w .given in
     λ w same.
-    confirm-late w (a .w) (a .q .0) (a .uns) (a .time) (g .0 .0) (g .0 .1 .0) (g .0 .1 .1 .0) (g .0 .1 .1 .1 .0) (g .1) (a .confirm-time) same (sym (c .before .in-time .ensures) ∙ c .if1 .left)
+    confirm-late w (a .w) (a .q .0) (a .uns) (a .time) (g .0 .0) (g .0 .1 .0) (g .0 .1 .1 .0) (g .0 .1 .1 .1 .0) (g .1) (a .confirm-time) same (sym (c .before .is-confirmed .ensures) ∙ c .if1 .left)
 
 pub confirm-spec : {M : Type 1} → statement M
 confirm-spec =
@@ -40,7 +40,7 @@ confirm-spec =
     (tie.spec
     enum-told
     enum-known-w
-    in-time-requires
+    is-confirmed-requires
     returns
     returns-2
     returns-3)

@@ -6,7 +6,7 @@ use Rattle.event_store.specs.EventWords.{slotsIn, bufferIn}
 use Rattle.event_objects.proofs.LoopLaws.{held-of, Putting, begun, written, yes, no}
 use Rattle.event_objects.proofs.EventLaws.{heading-length}
 use Rattle.event_objects.specs.Events.{eventHeading, eventObject, carriedObjects}
-use Rattle.events.specs.Queue.{noHeld}
+use Rattle.events.specs.BufferView.{noHeld}
 use Rattle.events.specs.declared.Held.{Held}
 use Rattle.objects.proofs.WriterLaws.{writing-passed, same-fits, same-put, own-fits, own-put}
 use lib.Seq.{slice}

@@ -1,6 +1,6 @@
 -- `fragments::after_read` meets its contract.
 -- Assumes nothing.
-use Rattle.fragments.proofs.LentGivenLaws.{after-read}
+use Rattle.fragments.proofs.PartLaws.{after-read}
 use borrow.Author.Needs.{needs}
 use Rattle.fragments.proofs.after_read.Statement.{statement}
 use Rattle.fragments.proofs.after_read.Tie as tie

@@ -1,6 +1,6 @@
 -- `fragments::after_request` meets its contract.
 -- Assumes nothing.
-use Rattle.fragments.proofs.LentGivenLaws.{after-request}
+use Rattle.fragments.proofs.PartLaws.{after-request}
 use borrow.Author.Needs.{needs}
 use Rattle.fragments.proofs.after_request.Statement.{statement}
 use Rattle.fragments.proofs.after_request.Tie as tie

@@ -4,17 +4,17 @@ use mathlib.Core.List.{List}
 use mathlib.Core.Path.{subst, _∙_}
 use Prim.Native.Nat.{ℕ}
 use Rattle.laws.proofs.Filling.{to-end}
-use Rattle.point_store.specs.PointWords.{inputsIn}
-use Rattle.event_store.specs.EventWords.{queueIn}
+use Rattle.point_store.specs.PointWords.{pointsViewIn}
+use Rattle.event_store.specs.EventWords.{bufferViewIn}
 use Rattle.read.specs.Response.{RepliedAs}
 use Rattle.outstation.specs.Lent.{installedOf}
-use Rattle.fragments.proofs.LentGivenLaws.{read-in}
+use Rattle.fragments.proofs.PartLaws.{read-in}
 use borrow.Author.Needs.{needs}
 use Rattle.fragments.proofs.answer_read.Statement.{statement}
 use Rattle.fragments.proofs.answer_read.Tie as tie
 
-status-of-requires : tie.Need-status-of-requires
-status-of-requires c κs = search needs
+buffer-status-requires : tie.Need-buffer-status-requires
+buffer-status-requires c κs = search needs
 
 sub-respond : tie.Need-sub-respond
 sub-respond c = search needs
@@ -61,10 +61,10 @@ returns c =
     let s = c .before .before .before .before .before .before .before .before .before .before .before .before .before .before .before .before .before .before .before .before .before .before .before .before in
     let a = s .args in
     let re = c .before .before .before .before .before .before .before .before .before .before .before .before .before .before .before .before .before .respond in
-    let t = c .before .before .before .before .before .before .before .before .before .before .before .before .before .before .before .before .before .before .before .before .before .status-of in
+    let t = c .before .before .before .before .before .before .before .before .before .before .before .before .before .before .before .before .before .before .before .before .before .buffer-status in
     let rs = c .before .before .before .before .before .before .before .before .before .before .before .before .con-by in
     let g =
-    subst (λ (x : List ℕ). RepliedAs (inputsIn (installedOf (a .h)) (a .binaries .now) (a .analogs .now)) x (queueIn (a .held .now) (t .result)) (a .out .now) (re .result) (queueIn (re .last .1 .1 .1 .1 .1 .0) (t .result)) (re .last .0))
+    subst (λ (x : List ℕ). RepliedAs (pointsViewIn (installedOf (a .h)) (a .binaries .now) (a .analogs .now)) x (bufferViewIn (a .held .now) (t .result)) (a .out .now) (re .result) (bufferViewIn (re .last .1 .1 .1 .1 .1 .0) (t .result)) (re .last .0))
     (to-end (a .f .now) 2) (re .ensures) in
     read-in (a .h) (a .binaries .now) (a .analogs .now) (a .held .now) (a .request .now) (a .answer .now) (a .q .0) (a .time) (a .f .now) _ _ _ (re .result) (a .out .now) _ _ _ _
     (c .before .before .remember .result) (c .before .after-read .result) (c .none .result) (c .none .ensures) (c .before .after-read .ensures) (c .before .before .remember .ensures)
@@ -75,7 +75,7 @@ pub answer-read-spec : {M : Type 1} → statement M
 answer-read-spec =
     tie.close
     (tie.spec
-    status-of-requires
+    buffer-status-requires
     sub-respond
     part-respond-start
     part-respond-end

@@ -7,12 +7,12 @@ use native.Mathlib.Omega.{arith}
 use lib.Dec.{eqb}
 use lib.ListN.{length, take, drop, length-take}
 use Rattle.laws.proofs.Filling.{to-end}
-use Rattle.events.specs.Queue.{Queue}
-use Rattle.outstation.specs.Step.{deedBy}
-use Rattle.effects.specs.Effects.{Worked, seenWorld}
+use Rattle.events.specs.BufferView.{BufferView}
+use Rattle.outstation.specs.Step.{effectBy}
+use Rattle.effects.specs.Effects.{EffectMeets, contextView}
 use Rattle.fragments.proofs.AnswerLaws.{kept-most}
-use Rattle.effects.proofs.EffectLaws.{deed-small}
-use Rattle.fragments.proofs.LentGivenLaws.{other-in}
+use Rattle.effects.proofs.EffectLaws.{effect-small}
+use Rattle.fragments.proofs.PartLaws.{other-in}
 use borrow.Author.Needs.{needs}
 use Rattle.fragments.proofs.answer_request.Statement.{statement}
 use Rattle.fragments.proofs.answer_request.Tie as tie
@@ -22,35 +22,35 @@ module _ (c : tie.After-put-answer) where
   abbrev start : tie.Start
   start = c .before .before .before .before .before .before .before .before .before .before .before .before .before .before .before .before
 
-  small : c .before .before .before .before .before .before .before .before .before .deed-of .result .size ≤ 113
+  small : c .before .before .before .before .before .before .before .before .before .effect-by .result .size ≤ 113
   small =
       let a = start .args in
-      deed-small (c .before .before .before .before .before .before .before .before .before .before .before .before .seen-of .result) (a .q .0) (a .function) (a .time) (take (length (a .f .now) - 2) (drop 2 (a .f .now))) (c .before .before .before .before .before .before .before .before .before .deed-of .result) (a .out .now) _
-      (c .before .before .before .before .before .before .before .before .before .deed-of .ensures)
+      effect-small (c .before .before .before .before .before .before .before .before .before .before .before .before .context-of .result) (a .q .0) (a .function) (a .time) (take (length (a .f .now) - 2) (drop 2 (a .f .now))) (c .before .before .before .before .before .before .before .before .before .effect-by .result) (a .out .now) _
+      (c .before .before .before .before .before .before .before .before .before .effect-by .ensures)
 
   less : c .put-answer .result ≤ 113
-  less = kept-most (eqb (start .args .function) 6) (c .put-answer .result) (c .before .before .before .before .before .before .before .before .before .deed-of .result .size) (c .put-answer .ensures .1) small
+  less = kept-most (eqb (start .args .function) 6) (c .put-answer .result) (c .before .before .before .before .before .before .before .before .before .effect-by .result .size) (c .put-answer .ensures .1) small
 
   same : length (c .put-answer .last .0) ≡ length (start .args .out .now)
-  same = c .put-answer .kept .0 ∙ c .before .before .before .before .before .before .before .before .before .deed-of .kept .1 .1 .1 .1 .1 .0
+  same = c .put-answer .kept .0 ∙ c .before .before .before .before .before .before .before .before .before .effect-by .kept .1 .1 .1 .1 .1 .0
 
-seen-of-requires : tie.Need-seen-of-requires
-seen-of-requires c κs = search needs
+context-of-requires : tie.Need-context-of-requires
+context-of-requires c κs = search needs
 
-sub-deed-of : tie.Need-sub-deed-of
-sub-deed-of c = search needs
+sub-effect-by : tie.Need-sub-effect-by
+sub-effect-by c = search needs
 
-part-deed-of-start : tie.Need-part-deed-of-start
-part-deed-of-start c = search needs
+part-effect-by-start : tie.Need-part-effect-by-start
+part-effect-by-start c = search needs
 
-part-deed-of-end : tie.Need-part-deed-of-end
-part-deed-of-end c = search needs
+part-effect-by-end : tie.Need-part-effect-by-end
+part-effect-by-end c = search needs
 
-deed-of-requires : tie.Need-deed-of-requires
-deed-of-requires c κs = search needs
+effect-by-requires : tie.Need-effect-by-requires
+effect-by-requires c κs = search needs
 
-status-of-requires : tie.Need-status-of-requires
-status-of-requires c κs = search needs
+buffer-status-requires : tie.Need-buffer-status-requires
+buffer-status-requires c κs = search needs
 
 clear-requires : tie.Need-clear-requires
 clear-requires c κs = search needs
@@ -88,26 +88,26 @@ returns c =
     let p = c .before .before .before .before .before .before .before .before .before .before in
     let s = start p in
     let a = s .args in
-    let dd = c .before .before .before .before .before .before .before .before .before .before .before .before .before .before .before .before .before .before .before .deed-of in
-    let seen = c .before .before .before .before .before .before .before .before .before .before .before .before .before .before .before .before .before .before .before .before .before .before .seen-of in
+    let dd = c .before .before .before .before .before .before .before .before .before .before .before .before .before .before .before .before .before .before .before .effect-by in
+    let seen = c .before .before .before .before .before .before .before .before .before .before .before .before .before .before .before .before .before .before .before .before .before .before .context-of in
     let pa = p .put-answer in
     let short : length (take (pa .result) (pa .last .0)) ≤ 113 = simp length-take (omega (arith, less p)) in
     other-in (a .h) (a .held .now) (a .request .now) (a .answer .now) (a .objects .now) (a .q .0) (a .function) (a .time) (a .f .now) _ _ _ _ (dd .result) (a .out .now) _ _
     (pa .result) _ (c .before .before .before .before .remember .result) (c .before .after-request .result) (c .before .after-request .ensures) (c .before .before .before .before .remember .ensures) (s .pre .1) short (s .pre .2)
-    (c .answer-as .ensures) _ (seen .result) (c .before .before .before .before .before .before .before .before .before .before .before .before .before .before .before .status-of .ensures) (seen .ensures)
-    (λ (u : Queue). subst (λ (x : List ℕ). Worked (dd .result) (a .out .now) (dd .last .1 .1 .1 .1 .1 .0) (deedBy (seenWorld (seen .result) u) (a .q .0) (a .function) (a .time) x)) (to-end (a .f .now) 2) (dd .ensures u))
+    (c .answer-as .ensures) _ (seen .result) (c .before .before .before .before .before .before .before .before .before .before .before .before .before .before .before .buffer-status .ensures) (seen .ensures)
+    (λ (u : BufferView). subst (λ (x : List ℕ). EffectMeets (dd .result) (a .out .now) (dd .last .1 .1 .1 .1 .1 .0) (effectBy (contextView (seen .result) u) (a .q .0) (a .function) (a .time) x)) (to-end (a .f .now) 2) (dd .ensures u))
     (c .before .before .before .before .before .before .before .before .before .before .before .before .before .clear .ensures) (pa .ensures)
 
 pub answer-request-spec : {M : Type 1} → statement M
 answer-request-spec =
     tie.close
     (tie.spec
-    seen-of-requires
-    sub-deed-of
-    part-deed-of-start
-    part-deed-of-end
-    deed-of-requires
-    status-of-requires
+    context-of-requires
+    sub-effect-by
+    part-effect-by-start
+    part-effect-by-end
+    effect-by-requires
+    buffer-status-requires
     clear-requires
     put-answer-requires
     slice-reshare-prefix-remember

@@ -7,12 +7,12 @@ use lib.Dec.{ltb}
 use lib.ListN.{length}
 use Rattle.laws.specs.Limits.{fragmentMax}
 use Rattle.outstation.specs.Readings.{badTime}
-use Rattle.outstation.specs.World.{World}
+use Rattle.outstation.specs.OutstationView.{OutstationView}
 use Rattle.fragments.specs.declared.FragmentAnswer.the-variants as Fs
 use Rattle.fragments.proofs.AskLaws.{request-sized, fragment-late, fragment-small, fragment-malformed, fragment-confirm, fragment-request}
-use Rattle.outstation.specs.Lent.{Lent, Outstation, worldOf}
-use Rattle.fragments.specs.Given.{Given, answeredBy}
-use Rattle.fragments.proofs.LentGivenLaws.{given-in, refused-in}
+use Rattle.outstation.specs.Lent.{Lent, Outstation, viewOf}
+use Rattle.fragments.specs.FragmentMeets.{FragmentMeets, answeredBy}
+use Rattle.fragments.proofs.PartLaws.{given-in, refused-in}
 use borrow.Author.Needs.{needs}
 use Rattle.fragments.proofs.fragment.Statement.{statement}
 use Rattle.fragments.proofs.fragment.Tie as tie
@@ -26,8 +26,8 @@ mem s =
 abbrev unit : tie.Start → Outstation
 unit s = record { head = s .args .h; lent = mem s }
 
-abbrev was : tie.Start → World
-was s = worldOf (s .args .h) (mem s)
+abbrev was : tie.Start → OutstationView
+was s = viewOf (s .args .h) (mem s)
 
 -- a fragment that is classified is in time and has room for its answer
 module _ (c : tie.After-classify) where
@@ -50,7 +50,7 @@ returns : tie.Need-returns
 returns c =
     let s = c .before .before .before .before .before in
     let a = s .args in
-    fragment-late (was s) (a .time) (a .f .now) (length (a .out .now)) (Given (unit s) (answeredBy (c .refuse .result) (mem s)) (a .out .now) (a .out .now))
+    fragment-late (was s) (a .time) (a .f .now) (length (a .out .now)) (FragmentMeets (unit s) (answeredBy (c .refuse .result) (mem s)) (a .out .now) (a .out .now))
     (sym (c .before .before .bad-time .ensures) ∙ c .before .if1 .taken)
     (given-in (a .h) (mem s) (mem s) (c .refuse .result) (a .out .now) (a .out .now) _
     (refused-in (c .refuse .result) (a .h) Fs.Time 1 (c .refuse .ensures .0) (c .refuse .ensures .1) (c .refuse .ensures .2) (λ d x. refl) refl (mem s) (a .out .now)))
@@ -62,10 +62,10 @@ returns-2 : tie.Need-returns-2
 returns-2 c =
     let s = c .before .before .before .before .before .before in
     let a = s .args in
-    fragment-small (was s) (a .time) (a .f .now) (length (a .out .now)) (Given (unit s) (answeredBy (c .refuse2 .result) (mem s)) (a .out .now) (a .out .now))
+    fragment-small (was s) (a .time) (a .f .now) (length (a .out .now)) (FragmentMeets (unit s) (answeredBy (c .refuse2 .result) (mem s)) (a .out .now) (a .out .now))
     (sym (c .before .before .before .bad-time .ensures) ∙ c .before .before .if1 .left) (lt-ltb _ _ (c .before .if2 .taken))
     (given-in (a .h) (mem s) (mem s) (c .refuse2 .result) (a .out .now) (a .out .now) _
-    (refused-in (c .refuse2 .result) (a .h) Fs.AnswerLent 33 (c .refuse2 .ensures .0) (c .refuse2 .ensures .1) (c .refuse2 .ensures .2) (λ d x. refl) refl (mem s) (a .out .now)))
+    (refused-in (c .refuse2 .result) (a .h) Fs.OutputTooSmall 33 (c .refuse2 .ensures .0) (c .refuse2 .ensures .1) (c .refuse2 .ensures .2) (λ d x. refl) refl (mem s) (a .out .now)))
 
 classify-requires : tie.Need-classify-requires
 classify-requires c κs = search needs
@@ -97,7 +97,7 @@ returns-3 c =
     let cl = c .before .before .before in
     let s = start cl in
     let a = s .args in
-    fragment-malformed (was s) (a .time) (a .f .now) (length (a .out .now)) (Given (unit s) (answeredBy (c .refuse3 .result) (mem s)) (a .out .now) (a .out .now))
+    fragment-malformed (was s) (a .time) (a .f .now) (length (a .out .now)) (FragmentMeets (unit s) (answeredBy (c .refuse3 .result) (mem s)) (a .out .now) (a .out .now))
     (in-time cl) (roomy cl) (cl .classify .result) (cl .classify .ensures) (c .before .enum-told .given .1)
     (given-in (a .h) (mem s) (mem s) (c .refuse3 .result) (a .out .now) (a .out .now) _
     (refused-in (c .refuse3 .result) (a .h) Fs.Malformed 31 (c .refuse3 .ensures .0) (c .refuse3 .ensures .1) (c .refuse3 .ensures .2) (λ d x. refl) refl (mem s) (a .out .now)))
@@ -108,7 +108,7 @@ returns-4 c =
     let s = start cl in
     let a = s .args in
     let g = c .before .before .before .kind .given in
-    fragment-confirm (was s) (a .time) (a .f .now) (length (a .out .now)) (Given (unit s) (answeredBy (c .take-confirm .result) _) (a .out .now) (a .out .now))
+    fragment-confirm (was s) (a .time) (a .f .now) (length (a .out .now)) (FragmentMeets (unit s) (answeredBy (c .take-confirm .result) _) (a .out .now) (a .out .now))
     (in-time cl) (roomy cl) (cl .classify .result) (cl .classify .ensures) (g .0 .0) (g .0 .1 .0) (g .1) (given-in (a .h) (mem s) _ (c .take-confirm .result) (a .out .now) (a .out .now) _ (c .take-confirm .ensures (mem s) (a .out .now)))
 
 same-length : tie.Need-same-length
@@ -121,7 +121,7 @@ returns-5 c =
     let a = s .args in
     let g = c .before .before .before .before .before .before .before .before .before .kind2 .given in
     let r = c .before .before .take-request in
-    fragment-request (was s) (a .time) (a .f .now) (length (a .out .now)) (Given (unit s) (answeredBy (r .result) _) (a .out .now) _)
+    fragment-request (was s) (a .time) (a .f .now) (length (a .out .now)) (FragmentMeets (unit s) (answeredBy (r .result) _) (a .out .now) _)
     (in-time cl) (roomy cl) (cl .classify .result) (cl .classify .ensures) (g .0 .0) (g .0 .1 .0) (g .1) (given-in (a .h) (mem s) _ (r .result) (a .out .now) _ _ (r .ensures))
 
 pub fragment-spec : {M : Type 1} → statement M

@@ -5,8 +5,8 @@ use native.Mathlib.Omega.{arith}
 use borrow.Author.Tests.{eq-eqb, ne-eqb}
 use lib.ListN.{length}
 use Rattle.octets.specs.Bytes.{splice}
-use Rattle.repeat.specs.Repeat.{answerOf, lastIn}
-use Rattle.repeat.specs.declared.LastLengths.{LastLengths}
+use Rattle.last_request.specs.Repeat.{keptAnswer, lastIn}
+use Rattle.last_request.specs.declared.LastLengths.{LastLengths}
 use borrow.Author.Needs.{needs}
 use Rattle.fragments.proofs.put_again.Statement.{statement}
 use Rattle.fragments.proofs.put_again.Tie as tie
@@ -29,8 +29,8 @@ returns-2 c =
     let e = c .before .before .before .before .last-of .ensures in
     let a = c .before .before .before .before .before .before .before .args in
     rw (ne-eqb _ _ (c .before .before .before .before .before .if1 .left)) (
-      an .0 ∙ ap (λ (k : LastLengths). splice (a .out .now) 0 (answerOf (lastIn (a .request .now) (a .answer .now) k))) e,
-      an .1 ∙ ap (λ (k : LastLengths). length (answerOf (lastIn (a .request .now) (a .answer .now) k))) e,
+      an .0 ∙ ap (λ (k : LastLengths). splice (a .out .now) 0 (keptAnswer (lastIn (a .request .now) (a .answer .now) k))) e,
+      an .1 ∙ ap (λ (k : LastLengths). length (keptAnswer (lastIn (a .request .now) (a .answer .now) k))) e,
       an .2,
     )
 

@@ -4,13 +4,13 @@ use mathlib.Core.Path.{ap, _∙_}
 use Rattle.octets.specs.Bytes.{splice}
 use Rattle.application.specs.Response.{responseOf}
 use Rattle.events.specs.declared.Classes.{Classes}
-use Rattle.events.specs.Queue.{queue}
+use Rattle.events.specs.BufferView.{bufferView}
 use borrow.Author.Needs.{needs}
 use Rattle.fragments.proofs.put_header.Statement.{statement}
 use Rattle.fragments.proofs.put_header.Tie as tie
 
-left-behind-requires : tie.Need-left-behind-requires
-left-behind-requires c κs = search needs
+classes-pending-requires : tie.Need-classes-pending-requires
+classes-pending-requires c κs = search needs
 
 put-response-requires : tie.Need-put-response-requires
 put-response-requires c κs = search needs
@@ -19,7 +19,7 @@ same-length : tie.Need-same-length
 same-length c = search needs
 
 returns : tie.Need-returns
-unfolding queue
+unfolding bufferView
 returns c =
     let l = c .before .before .before .before in
     let a = l .before .before .args in
@@ -29,8 +29,8 @@ returns c =
     splice (a .out .now) 0
     (responseOf (a .q .0) (a .s .con)
     (record { «class_1» = x .one; «class_2» = x .two; «class_3» = x .three; restart = a .restarted; dropped = a .t .overflow }) (a .s .fault)))
-    (l .left-behind .ensures)
+    (l .classes-pending .ensures)
 
 pub put-header-spec : {M : Type 1} → statement M
 put-header-spec =
-    tie.close (tie.spec left-behind-requires put-response-requires same-length returns)
+    tie.close (tie.spec classes-pending-requires put-response-requires same-length returns)

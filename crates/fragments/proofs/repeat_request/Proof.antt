@@ -1,6 +1,6 @@
 -- `fragments::repeat_request` meets its contract.
 -- Assumes nothing.
-use Rattle.fragments.proofs.LentGivenLaws.{repeated-in}
+use Rattle.fragments.proofs.PartLaws.{repeated-in}
 use borrow.Author.Needs.{needs}
 use Rattle.fragments.proofs.repeat_request.Statement.{statement}
 use Rattle.fragments.proofs.repeat_request.Tie as tie

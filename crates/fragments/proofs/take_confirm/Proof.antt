@@ -3,8 +3,8 @@
 use mathlib.Core.Path.{refl}
 use Rattle.fragments.specs.declared.FragmentAnswer.the-variants as Fs
 use Rattle.effects.specs.declared.Confirmation.the-variants as Cs
-use Rattle.fragments.specs.Given.{withHeld}
-use Rattle.fragments.proofs.LentGivenLaws.{refused-in, confirm-in}
+use Rattle.fragments.specs.FragmentMeets.{withHeld}
+use Rattle.fragments.proofs.PartLaws.{refused-in, confirm-in}
 use borrow.Author.Needs.{needs}
 use Rattle.fragments.proofs.take_confirm.Statement.{statement}
 use Rattle.fragments.proofs.take_confirm.Tie as tie

@@ -2,12 +2,12 @@
 -- Assumes nothing.
 use mathlib.Core.Path.{sym, ap, _∙_}
 use borrow.Author.Tests.{eq-eqb, ne-eqb}
-use Rattle.outstation.specs.World.{World}
-use Rattle.repeat.specs.Repeat.{isRepeat, lastIn}
+use Rattle.outstation.specs.OutstationView.{OutstationView}
+use Rattle.last_request.specs.Repeat.{isRepeat, lastIn}
 use Rattle.fragments.proofs.AnswerLaws.{by-read, by-repeat, by-other}
-use Rattle.repeat.specs.declared.LastLengths.{LastLengths}
-use Rattle.outstation.specs.Lent.{Lent, worldOf}
-use Rattle.fragments.specs.Given.{GivenIn}
+use Rattle.last_request.specs.declared.LastLengths.{LastLengths}
+use Rattle.outstation.specs.Lent.{Lent, viewOf}
+use Rattle.fragments.specs.FragmentMeets.{PartMeets}
 use borrow.Author.Needs.{needs}
 use Rattle.fragments.proofs.take_request.Statement.{statement}
 use Rattle.fragments.proofs.take_request.Tie as tie
@@ -18,8 +18,8 @@ mem s =
     let a = s .args in
     record { binaries = a .binaries .now; analogs = a .analogs .now; held = a .held .now; request = a .request .now; answer = a .answer .now; objects = a .objects .now }
 
-abbrev was : tie.Start → World
-was s = worldOf (s .args .h) (mem s)
+abbrev was : tie.Start → OutstationView
+was s = viewOf (s .args .h) (mem s)
 
 answer-read-requires : tie.Need-answer-read-requires
 answer-read-requires c κs =
@@ -33,13 +33,13 @@ returns c =
     let s = c .before .before .before .before .before .before .before .before .before .before in
     let a = s .args in
     let r = c .before .before .answer-read in
-    by-read (was s) (a .q .0) (a .function) (a .time) (a .f .now) (GivenIn (a .h) (r .result) _ (a .out .now) _) (eq-eqb _ _ (c .before .before .before .before .before .before .before .if1 .taken)) (r .ensures (a .objects .now))
+    by-read (was s) (a .q .0) (a .function) (a .time) (a .f .now) (PartMeets (a .h) (r .result) _ (a .out .now) _) (eq-eqb _ _ (c .before .before .before .before .before .before .before .if1 .taken)) (r .ensures (a .objects .now))
 
 last-of-requires : tie.Need-last-of-requires
 last-of-requires c κs = search needs
 
-repeats-requires : tie.Need-repeats-requires
-repeats-requires c κs = c .before .before .before .before .before .before .pre .0
+is-repeat-requires : tie.Need-is-repeat-requires
+is-repeat-requires c κs = c .before .before .before .before .before .before .pre .0
 
 repeat-request-requires : tie.Need-repeat-request-requires
 repeat-request-requires c κs =
@@ -53,8 +53,8 @@ returns-2 c =
     let s = c .before .before .before .before .before .before .before .before .before .before .before .before .before .before in
     let a = s .args in
     let r = c .before .before .repeat-request in
-    by-repeat (was s) (a .q .0) (a .function) (a .time) (a .f .now) (GivenIn (a .h) (r .result) _ (a .out .now) _) (ne-eqb _ _ (c .before .before .before .before .before .before .before .before .before .before .before .if1 .left))
-    (sym (c .before .before .before .before .before .before .before .repeats .ensures ∙ ap (λ (k : LastLengths). isRepeat (lastIn (a .request .now) (a .answer .now) k) (a .f .now)) (c .before .before .before .before .before .before .before .before .last-of .ensures)) ∙ c .before .before .before .before .before .before .if2 .taken) (r .ensures (mem s))
+    by-repeat (was s) (a .q .0) (a .function) (a .time) (a .f .now) (PartMeets (a .h) (r .result) _ (a .out .now) _) (ne-eqb _ _ (c .before .before .before .before .before .before .before .before .before .before .before .if1 .left))
+    (sym (c .before .before .before .before .before .before .before .is-repeat .ensures ∙ ap (λ (k : LastLengths). isRepeat (lastIn (a .request .now) (a .answer .now) k) (a .f .now)) (c .before .before .before .before .before .before .before .before .last-of .ensures)) ∙ c .before .before .before .before .before .before .if2 .taken) (r .ensures (mem s))
 
 answer-request-requires : tie.Need-answer-request-requires
 answer-request-requires c κs =
@@ -68,8 +68,8 @@ returns-3 c =
     let s = c .before .before .before .before .before .before .before .before .before .before .before .before .before .before .before .before in
     let a = s .args in
     let r = c .before .before .answer-request in
-    by-other (was s) (a .q .0) (a .function) (a .time) (a .f .now) (GivenIn (a .h) (r .result) _ (a .out .now) _) (ne-eqb _ _ (c .before .before .before .before .before .before .before .before .before .before .before .before .before .if1 .left))
-    (sym (c .before .before .before .before .before .before .before .before .before .repeats .ensures ∙ ap (λ (k : LastLengths). isRepeat (lastIn (a .request .now) (a .answer .now) k) (a .f .now)) (c .before .before .before .before .before .before .before .before .before .before .last-of .ensures)) ∙ c .before .before .before .before .before .before .before .before .if2 .left) (r .ensures (a .binaries .now) (a .analogs .now))
+    by-other (was s) (a .q .0) (a .function) (a .time) (a .f .now) (PartMeets (a .h) (r .result) _ (a .out .now) _) (ne-eqb _ _ (c .before .before .before .before .before .before .before .before .before .before .before .before .before .if1 .left))
+    (sym (c .before .before .before .before .before .before .before .before .before .is-repeat .ensures ∙ ap (λ (k : LastLengths). isRepeat (lastIn (a .request .now) (a .answer .now) k) (a .f .now)) (c .before .before .before .before .before .before .before .before .before .before .last-of .ensures)) ∙ c .before .before .before .before .before .before .before .before .if2 .left) (r .ensures (a .binaries .now) (a .analogs .now))
 
 pub take-request-spec : {M : Type 1} → statement M
 take-request-spec =
@@ -79,7 +79,7 @@ take-request-spec =
     same-length
     returns
     last-of-requires
-    repeats-requires
+    is-repeat-requires
     repeat-request-requires
     same-length-2
     returns-2

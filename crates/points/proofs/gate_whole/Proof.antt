@@ -41,12 +41,12 @@ returns : tie.Need-returns
 returns c = rw (c .enum-told .given .1)
 
 returns-2 : tie.Need-returns-2
-returns-2 c = rw (c .enum-told2 .given .1, eq-bits (c .before .before .fits .value) (c .before .before .fits .reported))
+returns-2 c = rw (c .enum-told2 .given .1, eq-bits (c .before .before .fits .value) (c .before .before .fits .reported-value))
 
 returns-3 : tie.Need-returns-3
 returns-3 c =
     let F = c .before .before .before .before .fits in
-    rw (c .before .before .g .given .1, rw (toZ-ofZ (F .value), toZ-ofZ (F .reported)) at (c .whole-distance .ensures))
+    rw (c .before .before .g .given .1, rw (toZ-ofZ (F .value), toZ-ofZ (F .reported-value)) at (c .whole-distance .ensures))
 
 returns-4 : tie.Need-returns-4
 returns-4 c =

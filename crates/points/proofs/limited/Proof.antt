@@ -4,7 +4,7 @@ use mathlib.Core.Path.{sym, ap}
 use lib.Dec.{T}
 use lib.Ieee.{binary32, fits, ofBits, neg}
 use borrow.Author.Needs.{needs}
-use Rattle.points.specs.Scaling.{limitedTo}
+use Rattle.points.specs.Scaling.{limitedOf}
 use Rattle.points.proofs.Largest.{high, deep, within}
 use Rattle.points.proofs.limited.Statement.{statement}
 use Rattle.points.proofs.limited.Tie as tie
@@ -13,12 +13,12 @@ held : (c : tie.Start) → T (fits binary32 (c .args .v))
 held c = search needs
 
 returns : tie.Need-returns
-unfolding ofBits limitedTo
-returns c = sym (ap limitedTo (high (c .before .args .v) (held (c .before)) (c .if1 .taken)))
+unfolding ofBits limitedOf
+returns c = sym (ap limitedOf (high (c .before .args .v) (held (c .before)) (c .if1 .taken)))
 
 returns-2 : tie.Need-returns-2
-unfolding ofBits neg limitedTo
-returns-2 c = sym (ap limitedTo (deep (c .before .before .args .v) (held (c .before .before)) (c .if2 .taken)))
+unfolding ofBits neg limitedOf
+returns-2 c = sym (ap limitedOf (deep (c .before .before .args .v) (held (c .before .before)) (c .if2 .taken)))
 
 returns-3 : tie.Need-returns-3
 unfolding ofBits neg

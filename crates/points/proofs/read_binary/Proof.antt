@@ -4,7 +4,7 @@ use borrow.Author.Needs.{needs}
 use mathlib.Core.Path.{_≡_, refl}
 use mathlib.Core.Bool.{Bool, true, false, not, Bool·beq}
 use borrow.Author.Tests.{lt-ltb, le-ltb}
-use Rattle.points.specs.Reading.{binaryReading, changed}
+use Rattle.points.specs.Reading.{readBinary, changed}
 use Rattle.points.proofs.read_binary.Statement.{statement}
 use Rattle.points.proofs.read_binary.Tie as tie
 
@@ -15,7 +15,7 @@ differ false true = refl
 differ false false = refl
 
 returns : tie.Need-returns
-unfolding binaryReading
+unfolding readBinary
 returns c = rw (lt-ltb _ _ (c .if1 .taken))
 
 is-reported-requires : tie.Need-is-reported-requires
@@ -28,7 +28,7 @@ is-raised-requires : tie.Need-is-raised-requires
 is-raised-requires c κs = search needs
 
 returns-2 : tie.Need-returns-2
-unfolding binaryReading
+unfolding readBinary
 returns-2 c =
     let a = c .before .before .before .before .before .args in
     rw (

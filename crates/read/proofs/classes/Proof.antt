@@ -8,9 +8,9 @@ use lib.Dec.{eqb}
 use lib.ListN.{length}
 use Rattle.laws.proofs.Loops.{long}
 use Rattle.events.proofs.SeenLaws.{Noting, noting-start, noting-more, noted}
-use Rattle.request.specs.Parse.{headersMax, asksFor}
-use Rattle.request.specs.declared.Header.{Header}
-use Rattle.request.proofs.AskLaws.{noHeader, in-plan}
+use Rattle.read_headers.specs.Parse.{headersMax, asksFor}
+use Rattle.read_headers.specs.declared.Header.{Header}
+use Rattle.read_headers.proofs.AskLaws.{noHeader, in-plan}
 use borrow.Author.Needs.{needs}
 use Rattle.read.proofs.classes.Statement.{statement}
 use Rattle.read.proofs.classes.Tie as tie

@@ -5,8 +5,8 @@ use lib.ListN.{take, length-append}
 use Rattle.event_objects.specs.Events.{carriedBytes}
 use Rattle.static_objects.specs.Static.{staticBytes}
 use Rattle.read.proofs.ResponseLaws.{two-put}
-use Rattle.event_store.specs.EventWords.{queueIn}
-use Rattle.point_store.specs.PointWords.{inputsIn}
+use Rattle.event_store.specs.EventWords.{bufferViewIn}
+use Rattle.point_store.specs.PointWords.{pointsViewIn}
 use borrow.Author.Needs.{needs}
 use Rattle.read.proofs.put_objects.Statement.{statement}
 use Rattle.read.proofs.put_objects.Tie as tie
@@ -25,8 +25,8 @@ returns c =
     let events = c .before .before .before .before .before .before in
     let static = c .before .before .put-static in
     let a = events .before .before .before .args in
-    let s = staticBytes (inputsIn (a .n) (a .binaries .now) (a .analogs .now)) (take (a .plan .count) (a .plan .headers)) in (
-      omega (arith, length-append (carriedBytes (queueIn (a .held .now) (a .status) .held)) s, static .ensures .0, events .put-events .ensures .0),
+    let s = staticBytes (pointsViewIn (a .n) (a .binaries .now) (a .analogs .now)) (take (a .plan .count) (a .plan .headers)) in (
+      omega (arith, length-append (carriedBytes (bufferViewIn (a .held .now) (a .status) .held)) s, static .ensures .0, events .put-events .ensures .0),
       two-put _ _ _ _ _ _ (events .put-events .ensures .0) (events .put-events .ensures .1) (static .ensures .1),
     )
 

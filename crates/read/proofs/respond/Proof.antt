@@ -5,12 +5,12 @@ use Prim.Native.Nat.{_+_, _≤_}
 use native.Mathlib.Omega.{arith}
 use lib.ListN.{length, take}
 use Rattle.laws.specs.Limits.{fragmentMax}
-use Rattle.request.specs.Parse.{parse}
-use Rattle.request.specs.Plans.{plannedOf}
+use Rattle.read_headers.specs.Parse.{parse}
+use Rattle.read_headers.specs.Plans.{plannedOf}
 use Rattle.static_objects.proofs.HeaderLaws.{plan-headers, plan-fault}
 use Rattle.read.proofs.ResponseLaws.{fitting, beside, answered, refused, chosen}
-use Rattle.event_store.specs.EventWords.{queueIn}
-use Rattle.point_store.specs.PointWords.{inputsIn}
+use Rattle.event_store.specs.EventWords.{bufferViewIn}
+use Rattle.point_store.specs.PointWords.{pointsViewIn}
 use borrow.Author.Needs.{needs}
 use Rattle.read.proofs.respond.Statement.{statement}
 use Rattle.read.proofs.respond.Tie as tie
@@ -20,7 +20,7 @@ fits : (c : tie.Then1) → c .before .before .before .asked .result .size + 4 �
 fits c =
     let q = c .before .before .before in
     let a = q .before .before .before .args in
-    let i = inputsIn (a .n) (a .binaries .now) (a .analogs .now) in
+    let i = pointsViewIn (a .n) (a .binaries .now) (a .analogs .now) in
     let e = sym (plan-headers (q .asked .result .plan) (sym (c .before .is-faultless .ensures) ∙ c .if1 .taken)) ∙ q .asked .ensures .0 (a .binaries .now) in
     omega (arith, fitting i (parse (length (i .binaries)) (length (i .analogs)) (a .s .now)) _ e, q .asked .ensures .1 (a .binaries .now))
 
@@ -33,11 +33,11 @@ is-faultless-requires c κs = search needs
 classes-requires : tie.Need-classes-requires
 classes-requires c κs = search needs
 
-sub-select : tie.Need-sub-select
-sub-select c = omega (arith, fits (c .before .before .before))
+sub-mark-carried : tie.Need-sub-mark-carried
+sub-mark-carried c = omega (arith, fits (c .before .before .before))
 
-select-requires : tie.Need-select-requires
-select-requires c κs = search needs
+mark-carried-requires : tie.Need-mark-carried-requires
+mark-carried-requires c κs = search needs
 
 put-objects-requires : tie.Need-put-objects-requires
 put-objects-requires c κs =
@@ -45,7 +45,7 @@ put-objects-requires c κs =
     let q = m .before .before .before .before in
     let s = q .before .before .before in
     let a = s .args in
-    omega (arith, beside (m .classes .result) (q .asked .result .size) (queueIn (a .held .now) (a .status)) _ (fits (m .before)) (c .before .before .select .ensures), q .asked .ensures .1 (a .binaries .now), s .pre)
+    omega (arith, beside (m .classes .result) (q .asked .result .size) (bufferViewIn (a .held .now) (a .status)) _ (fits (m .before)) (c .before .before .mark-carried .ensures), q .asked .ensures .1 (a .binaries .now), s .pre)
 
 clear-requires : tie.Need-clear-requires
 clear-requires c κs = search needs
@@ -62,7 +62,7 @@ returns c =
     let a = q .before .before .before .args in
     let p = q .asked .result .plan in
     let e = sym (plan-headers p (sym (m .before .before .is-faultless .ensures) ∙ m .before .if1 .taken)) ∙ q .asked .ensures .0 (a .binaries .now) in
-    let k = c .before .before .before .before .before .select .ensures ∙ chosen (queueIn (a .held .now) (a .status)) (m .classes .ensures) (q .asked .ensures .1 (a .binaries .now)) in
+    let k = c .before .before .before .before .before .mark-carried .ensures ∙ chosen (bufferViewIn (a .held .now) (a .status)) (m .classes .ensures) (q .asked .ensures .1 (a .binaries .now)) in
     let w = answered _ _ _ _ _ _ _ _ e k (put .ensures .0) (put .ensures .1) in
     record { asked = take (p .count) (p .headers); plan = q .asked .ensures .0 (a .binaries .now); events = w .0; size = w .1; bytes = w .2 }
 
@@ -83,8 +83,8 @@ respond-spec =
     asked-requires
     is-faultless-requires
     classes-requires
-    sub-select
-    select-requires
+    sub-mark-carried
+    mark-carried-requires
     put-objects-requires
     same-length
     returns

@@ -8,8 +8,8 @@ use native.Mathlib.Omega.{arith}
 use lib.ListN.{length}
 use Rattle.objects.specs.Runs.{sizeAfter}
 use Rattle.objects.proofs.WriterLaws.{encoded-size, sum-same, sum-own, sum-end}
-use Rattle.static_objects.specs.Static.{variationOf, pointBytes, staticHeading, pointObjects, rangeBytes}
-use Rattle.static_objects.specs.declared.Shown.{Shown}
+use Rattle.static_objects.specs.Static.{staticVariation, pointBytes, staticHeading, pointObjects, rangeBytes}
+use Rattle.static_objects.specs.declared.ShownPoint.{ShownPoint}
 use Rattle.static_objects.proofs.StaticLaws.{heading-length, points-nil, points-cons, none-first}
 use Rattle.static_objects.specs.Alone.{analogsAlone}
 use Rattle.static_objects.proofs.analogs_size.Statement.{statement}
@@ -53,7 +53,7 @@ loop-again c =
     let s = c .before .before .before in
     let l = s .before in
     let e = s .analog-shown .ensures in (
-      sum-same 7 _ _ _ _ (l .before .loop .inv .0) _ _ (points-cons _ _ _ _ (l .loop-test .taken)) _ (c .before .before .variation .ensures ∙ ap variationOf e) _ (c .before .size .ensures .0 ∙ ap (λ (x : Shown). length (pointBytes x)) e) (c .if1 .taken),
+      sum-same 7 _ _ _ _ (l .before .loop .inv .0) _ _ (points-cons _ _ _ _ (l .loop-test .taken)) _ (c .before .before .variation .ensures ∙ ap staticVariation e) _ (c .before .size .ensures .0 ∙ ap (λ (x : ShownPoint). length (pointBytes x)) e) (c .if1 .taken),
       omega (arith, l .before .loop .inv .1, c .before .size .ensures .1),
       omega (arith, l .before .loop .inv .2),
     )
@@ -72,7 +72,7 @@ loop-again-2 c =
     let s = c .before .before .before in
     let l = s .before in
     let e = s .analog-shown .ensures in (
-      sum-own 7 _ _ _ _ (l .before .loop .inv .0) _ _ (points-cons _ _ _ _ (l .loop-test .taken)) _ (c .before .before .variation .ensures ∙ ap variationOf e) _ (c .before .size .ensures .0 ∙ ap (λ (x : Shown). length (pointBytes x)) e) (c .if1 .left),
+      sum-own 7 _ _ _ _ (l .before .loop .inv .0) _ _ (points-cons _ _ _ _ (l .loop-test .taken)) _ (c .before .before .variation .ensures ∙ ap staticVariation e) _ (c .before .size .ensures .0 ∙ ap (λ (x : ShownPoint). length (pointBytes x)) e) (c .if1 .left),
       omega (arith, l .before .loop .inv .1, c .before .size .ensures .1),
       omega (arith, l .before .loop .inv .2),
     )

@@ -3,12 +3,12 @@
 use mathlib.Core.Path.{_≡_, ap, _∙_}
 use mathlib.Core.List.{List}
 use Prim.Native.Nat.{ℕ}
-use Rattle.request.specs.Parse.{parse}
-use Rattle.request.specs.Plans.{plannedOf}
+use Rattle.read_headers.specs.Parse.{parse}
+use Rattle.read_headers.specs.Plans.{plannedOf}
 use Rattle.static_objects.proofs.AloneLaws.{binaries-count, analogs-count}
 use Rattle.static_objects.proofs.HeaderLaws.{fitted-plan, parsed-as}
 use Rattle.static_objects.specs.Static.{sized}
-use Rattle.point_store.specs.PointWords.{inputsIn}
+use Rattle.point_store.specs.PointWords.{pointsViewIn}
 use lib.ListN.{length}
 use borrow.Author.Needs.{needs}
 use Rattle.static_objects.proofs.asked.Statement.{statement}
@@ -17,7 +17,7 @@ use Rattle.static_objects.proofs.asked.Tie as tie
 -- the plan that the code has is the parsed bytes
 parsed : (c : tie.After-headers) (b : List ℕ)
     → let a = c .before .before .before .before .args in
-    let i = inputsIn (a .n) b (a .analogs .now) in
+    let i = pointsViewIn (a .n) b (a .analogs .now) in
     plannedOf (c .headers .result) ≡ parse (length (i .binaries)) (length (i .analogs)) (a .s .now)
 parsed c b =
     let a = c .before .before .before .before .args in
@@ -49,8 +49,8 @@ returns : tie.Need-returns
 returns c =
     let z = c .before .before in
     let a = z .before .before .before .before .before .args in (
-      λ b. fitted-plan (inputsIn (a .n) b (a .analogs .now)) (z .before .headers .result) _ _ (c .before .fitted .ensures) (z .static-size .ensures .0 b)
-          ∙ ap (sized (inputsIn (a .n) b (a .analogs .now))) (parsed (z .before) b),
+      λ b. fitted-plan (pointsViewIn (a .n) b (a .analogs .now)) (z .before .headers .result) _ _ (c .before .fitted .ensures) (z .static-size .ensures .0 b)
+          ∙ ap (sized (pointsViewIn (a .n) b (a .analogs .now))) (parsed (z .before) b),
       z .static-size .ensures .0,
       z .before .headers .ensures .1,
     )

@@ -2,7 +2,7 @@
 -- Assumes nothing.
 use mathlib.Core.Path.{ap, _∙_}
 use native.Mathlib.Omega.{arith}
-use Rattle.static_objects.specs.declared.Shown.the-variants.{Binary}
+use Rattle.static_objects.specs.declared.ShownPoint.the-variants.{Binary}
 use Rattle.static_objects.proofs.AloneLaws.{binary-in, binary-out}
 use borrow.Author.Needs.{needs}
 use Rattle.static_objects.proofs.binary_shown.Statement.{statement}

@@ -4,7 +4,7 @@ use mathlib.Core.Path.{ap, _∙_}
 use native.Mathlib.Omega.{arith}
 use lib.ListN.{length}
 use Rattle.static_objects.proofs.HeaderLaws.{header-length}
-use Rattle.point_store.specs.PointWords.{inputsIn}
+use Rattle.point_store.specs.PointWords.{pointsViewIn}
 use Rattle.static_objects.proofs.AloneLaws.{analogs-alone}
 use borrow.Author.Needs.{needs}
 use Rattle.static_objects.proofs.header_size.Statement.{statement}
@@ -32,7 +32,7 @@ returns : tie.Need-returns
 returns c =
     let a = c .before .before .before .before .before .args in (
       λ b.
-          let i = inputsIn (a .n) b (a .analogs .now) in
+          let i = pointsViewIn (a .n) b (a .analogs .now) in
           let size = c .analogs-size .ensures .0 ∙ ap length (analogs-alone (a .n) b (a .analogs .now) (a .h .analog) (a .h .analogs)) in
           omega (arith, header-length i (a .h), size, c .before .before .before .binaries-size .ensures .0 i (a .h .binary)),
       search needs,

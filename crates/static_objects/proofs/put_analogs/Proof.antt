@@ -5,7 +5,7 @@ use mathlib.Core.Path.{_≡_, refl, sym, ap, _∙_}
 use mathlib.Core.Bool.{true}
 use Prim.Native.Nat.{_+_, _≤_}
 use native.Mathlib.Omega.{arith}
-use Rattle.static_objects.specs.Static.{shownAt, variationOf, pointBytes, staticHeading, pointObjects, rangeBytes}
+use Rattle.static_objects.specs.Static.{shownAt, staticVariation, pointBytes, staticHeading, pointObjects, rangeBytes}
 use Rattle.static_objects.proofs.StaticLaws.{heading-length, points-nil, points-cons, none-first, kind-some}
 use Rattle.static_objects.proofs.RunWriting.{Running, running-start, running-end, top-fits, joined-fits, joined, begun-fits, begun}
 use Rattle.static_objects.specs.Alone.{analogsAlone}
@@ -24,8 +24,8 @@ abbrev μ-loop : tie.MeasureT-loop
 -- the variation of the point to show
 kind : (c : tie.After-variation Inv-loop μ-loop)
     → let a = c .before .before .before .before .before .args in
-    c .variation .result ≡ variationOf (shownAt (analogsAlone (a .count) (a .ws .now)) true (c .before .before .before .loop .i))
-kind c = c .variation .ensures ∙ ap variationOf (c .before .analog-shown .ensures)
+    c .variation .result ≡ staticVariation (shownAt (analogsAlone (a .count) (a .ws .now)) true (c .before .before .before .loop .i))
+kind c = c .variation .ensures ∙ ap staticVariation (c .before .analog-shown .ensures)
 
 loop-holds : tie.Need-loop-holds Inv-loop μ-loop
 unfolding rangeBytes

@@ -7,7 +7,7 @@ use native.Mathlib.Omega.{arith}
 use lib.ListN.{length}
 use Rattle.octets.specs.Bytes.{splice}
 use Rattle.static_objects.proofs.HeaderLaws.{header-put, header-length}
-use Rattle.point_store.specs.PointWords.{inputsIn}
+use Rattle.point_store.specs.PointWords.{pointsViewIn}
 use Rattle.static_objects.proofs.AloneLaws.{binaries-alone, analogs-alone}
 use borrow.Author.Needs.{needs}
 use Rattle.static_objects.proofs.put_header.Statement.{statement}
@@ -24,7 +24,7 @@ put-binaries-requires c κs =
     let s = c .before .before .before .before in
     let a = s .args in
     let some = ap length (binaries-alone (a .n) (a .binaries .now) (a .analogs .now) (a .h .binary) (a .h .binaries)) in (
-      omega (arith, s .pre, some, header-length (inputsIn (a .n) (a .binaries .now) (a .analogs .now)) (a .h)),
+      omega (arith, s .pre, some, header-length (pointsViewIn (a .n) (a .binaries .now) (a .analogs .now)) (a .h)),
       omega (arith, c .struct-known2 .given, c .before .struct-known .given),
     )
 
@@ -41,7 +41,7 @@ put-analogs-requires c κs =
     let a = s .args in
     let some = ap length (binaries-alone (a .n) (a .binaries .now) (a .analogs .now) (a .h .binary) (a .h .binaries)) in
     let more = ap length (analogs-alone (a .n) (a .binaries .now) (a .analogs .now) (a .h .analog) (a .h .analogs)) in (
-      omega (arith, s .pre, some, more, header-length (inputsIn (a .n) (a .binaries .now) (a .analogs .now)) (a .h), q .put-binaries .ensures .0, q .put-binaries .kept .0),
+      omega (arith, s .pre, some, more, header-length (pointsViewIn (a .n) (a .binaries .now) (a .analogs .now)) (a .h), q .put-binaries .ensures .0, q .put-binaries .kept .0),
       omega (arith, c .struct-known4 .given, c .before .struct-known3 .given),
     )
 
@@ -53,7 +53,7 @@ returns c =
     let p = c .before .before .put-analogs in
     let q = c .before .before .before .before .before .before .before .before in
     let a = q .before .before .before .before .before .args in
-    let i = inputsIn (a .n) (a .binaries .now) (a .analogs .now) in
+    let i = pointsViewIn (a .n) (a .binaries .now) (a .analogs .now) in
     let some = binaries-alone (a .n) (a .binaries .now) (a .analogs .now) (a .h .binary) (a .h .binaries) in
     let more = analogs-alone (a .n) (a .binaries .now) (a .analogs .now) (a .h .analog) (a .h .analogs) in (
       omega (arith, header-length i (a .h), ap length some, ap length more, q .put-binaries .ensures .0, p .ensures .0),

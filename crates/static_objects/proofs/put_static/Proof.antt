@@ -8,17 +8,17 @@ use mathlib.Core.List.{List}
 use lib.ListN.{length, take}
 use Rattle.laws.proofs.Loops.{long}
 use Rattle.octets.specs.Bytes.{splice}
-use Rattle.request.specs.Parse.{headersMax}
-use Rattle.request.specs.declared.Header.{Header}
-use Rattle.request.proofs.AskLaws.{in-plan}
+use Rattle.read_headers.specs.Parse.{headersMax}
+use Rattle.read_headers.specs.declared.Header.{Header}
+use Rattle.read_headers.proofs.AskLaws.{in-plan}
 use Rattle.static_objects.specs.Static.{staticBytes}
 use Rattle.static_objects.proofs.HeaderLaws.{Putting, room-for, put-more, written}
-use Rattle.point_store.specs.PointWords.{inputsIn}
+use Rattle.point_store.specs.PointWords.{pointsViewIn}
 use Rattle.static_objects.proofs.put_static.Statement.{statement}
 use Rattle.static_objects.proofs.put_static.Tie as tie
 
 abbrev Inv-loop : tie.InvT-loop
-Inv-loop out₀ at binaries analogs n plan stop to₀ i₀ out to i = Putting (inputsIn n binaries analogs) out₀ at stop (plan .headers) out to i
+Inv-loop out₀ at binaries analogs n plan stop to₀ i₀ out to i = Putting (pointsViewIn n binaries analogs) out₀ at stop (plan .headers) out to i
 
 abbrev μ-loop : tie.MeasureT-loop
 μ-loop out₀ at binaries analogs n plan stop to₀ i₀ out to i = stop - i
@@ -34,7 +34,7 @@ loop-holds : tie.Need-loop-holds Inv-loop μ-loop
 loop-holds c =
     let a = c .before .before .args in
     let e : take (c .least .result) (a .t3 .headers) ≡ take (a .t3 .count) (a .t3 .headers) = in-plan (a .t3) (c .least .result) (c .least .ensures) (slots (c .before .before)) in
-    let i = inputsIn (a .n) (a .binaries .now) (a .analogs .now) in
+    let i = pointsViewIn (a .n) (a .binaries .now) (a .analogs .now) in
     let f : a .at + length (staticBytes i (take (c .least .result) (a .t3 .headers))) ≤ length (a .out .now) = rw e (c .before .before .pre) in
     record { ahead = refl; long = refl; room = refl; fits = f }
 
@@ -67,7 +67,7 @@ same-length c = c .before .loop .inv .long
 returns : tie.Need-returns Inv-loop μ-loop
 returns c =
     let a = c .before .before .before .before .args in
-    let i = inputsIn (a .n) (a .binaries .now) (a .analogs .now) in
+    let i = pointsViewIn (a .n) (a .binaries .now) (a .analogs .now) in
     let e = in-plan (a .t3) (c .before .before .least .result) (c .before .before .least .ensures) (slots (c .before .before .before .before)) in
     let w = written _ _ _ _ _ _ _ _ (c .before .loop .inv) (c .loop-test .left) in (
       w .0 ∙ ap (λ (l : List Header). a .at + length (staticBytes i l)) e,

@@ -7,17 +7,17 @@ use mathlib.Core.List.{List, []}
 use native.Mathlib.Omega.{arith}
 use lib.ListN.{length}
 use Rattle.laws.proofs.Loops.{long}
-use Rattle.request.specs.Parse.{headersMax}
-use Rattle.request.specs.declared.Header.{Header}
-use Rattle.request.proofs.AskLaws.{in-plan}
+use Rattle.read_headers.specs.Parse.{headersMax}
+use Rattle.read_headers.specs.declared.Header.{Header}
+use Rattle.read_headers.proofs.AskLaws.{in-plan}
 use Rattle.static_objects.specs.Static.{staticBytes}
 use Rattle.static_objects.proofs.HeaderLaws.{Summing, sum-more, summed}
-use Rattle.point_store.specs.PointWords.{inputsIn}
+use Rattle.point_store.specs.PointWords.{pointsViewIn}
 use Rattle.static_objects.proofs.static_size.Statement.{statement}
 use Rattle.static_objects.proofs.static_size.Tie as tie
 
 abbrev Inv-loop : tie.InvT-loop
-Inv-loop analogs n plan stop total₀ i₀ total i = (b : List ℕ) → Summing (inputsIn n b analogs) stop (plan .headers) total i
+Inv-loop analogs n plan stop total₀ i₀ total i = (b : List ℕ) → Summing (pointsViewIn n b analogs) stop (plan .headers) total i
 
 abbrev μ-loop : tie.MeasureT-loop
 μ-loop analogs n plan stop total₀ i₀ total i = stop - i
@@ -63,7 +63,7 @@ returns c =
     let g = c .before .loop .inv in (
       λ b.
           summed _ _ _ _ _ (g b) (c .loop-test .left)
-          ∙ ap (λ (l : List Header). length (staticBytes (inputsIn (a .n) b (a .analogs .now)) l)) (in-plan (a .t1) _ (c .before .before .least .ensures) (slots (c .before .before .before))),
+          ∙ ap (λ (l : List Header). length (staticBytes (pointsViewIn (a .n) b (a .analogs .now)) l)) (in-plan (a .t1) _ (c .before .before .least .ensures) (slots (c .before .before .before))),
       omega (arith, g [] .small, g [] .read, c .before .before .least .ensures),
     )
 

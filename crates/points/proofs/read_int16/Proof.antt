@@ -1,0 +1,78 @@
+-- `points::read_int16` meets its contract: a signed number is read back from its bits.
+-- Assumes nothing.
+use borrow.Author.Needs.{needs, sfits-of}
+use borrow.Author.Tests.{lt-ltb, le-ltb}
+use mathlib.Core.Path.{_≡_}
+use mir.Syntax.{w16, w32}
+use mir.Val.{SFits}
+use mir.Facts.{toZ-ofZ}
+use Rattle.points.specs.Reading.{wholeGate}
+use Rattle.points.proofs.read_int16.Statement.{statement}
+use Rattle.points.proofs.read_int16.Tie as tie
+
+-- fields 1 and 2 of the struct: the value last reported and the previous value
+reported-fits : (c : tie.After-struct-told) → SFits w32 (c .before .before .args .t .«reported_value»)
+reported-fits c = sfits-of (c .struct-told .given .1 .0 .1)
+
+previous-fits : (c : tie.After-struct-told2) → SFits w32 (c .before .before .before .args .t .previous)
+previous-fits c = sfits-of (c .struct-told2 .given .1 .1 .0 .1)
+
+gated : (c : tie.After-gate-whole) →
+    let a = c .before .before .before .before .args in
+    c .gate-whole .result ≡ wholeGate (a .t) (a .z)
+gated c =
+    let t = c .before in
+    rw (toZ-ofZ (t .before .before .before .fits .z), toZ-ofZ (reported-fits (t .before)), toZ-ofZ (previous-fits t)) at (c .gate-whole .ensures)
+
+returns : tie.Need-returns
+returns c = rw (lt-ltb _ _ (c .if1 .taken))
+
+gate-whole-requires : tie.Need-gate-whole-requires
+gate-whole-requires c κs = search needs
+
+clamp-value-requires : tie.Need-clamp-value-requires
+clamp-value-requires c κs = search needs
+
+shown-flags-requires : tie.Need-shown-flags-requires
+shown-flags-requires c κs = search needs
+
+is-reported-requires : tie.Need-is-reported-requires
+is-reported-requires c κs = search needs
+
+whole-gate-after-requires : tie.Need-whole-gate-after-requires
+whole-gate-after-requires c κs = search needs
+
+analog-after-requires : tie.Need-analog-after-requires
+analog-after-requires c κs = search needs
+
+returns-2 : tie.Need-returns-2
+returns-2 c =
+    let track = c .before .before in
+    let report = track .before in
+    let show = report .before in
+    let clamp = show .before in
+    let gate = clamp .before in
+    let test = gate .before .before .before in
+    let z = toZ-ofZ (test .before .fits .z) in
+    rw (
+      le-ltb _ _ (test .if1 .left),
+      ← (gated gate),
+      ← (rw z at (clamp .clamp-value .ensures)),
+      ← (show .shown-flags .ensures),
+      ← (report .is-reported .ensures),
+      ← (rw z at (track .whole-gate-after .ensures)),
+    )
+    (rw (toZ-ofZ (sfits-of {w = w16} (c .before .struct-told3 .given .0 .1))) at (c .analog-after .ensures))
+
+pub read-int16-spec : {M : Type 1} → statement M
+read-int16-spec =
+    tie.close
+    (tie.spec
+    returns
+    gate-whole-requires
+    clamp-value-requires
+    shown-flags-requires
+    is-reported-requires
+    whole-gate-after-requires
+    analog-after-requires
+    returns-2)
