@@ -9,7 +9,7 @@ use borrow.Author.Tests.{eqb-true, eqb-false, eq-eqb, ne-eqb}
 use lib.Dec.{eqb}
 use lib.ListN.{length, take, drop, getD, length-take, drop-of-length-le, length-map, List·getD-map}
 use lib.Seq.{slice}
-use Rattle.laws.proofs.Loops.{front}
+use Rattle.laws.proofs.Loops.{slice-front}
 use Rattle.objects.specs.Runs.{lead}
 use Rattle.objects.proofs.RunLaws.{lead-nil, lead-same, lead-other}
 use Rattle.laws.specs.Limits.{eventsMax}
@@ -50,7 +50,7 @@ module _ (kinds : List ℕ) (to k m t i : ℕ) (g : m + leadKind k (slice i to k
 
   module _ (d : ℕ) (below : i < to) (fits : to ≤ length kinds) where
     next : slice i to kinds ≡ getD kinds i d ∷ slice (i + 1) to kinds
-    next = front (λ l. l) (λ l. l) to i i kinds d below fits
+    next = slice-front (λ l. l) (λ l. l) to i i kinds d below fits
 
     pub count-pass : getD kinds i d ≡ 0 → m + leadKind k (slice (i + 1) to kinds) ≡ t
     count-pass h = omega (arith, g, ap (leadKind k) next ∙ lead-pass k (getD kinds i d) (slice (i + 1) to kinds) h)

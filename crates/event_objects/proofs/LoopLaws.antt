@@ -7,7 +7,7 @@ use Prim.Native.Nat.{ℕ, _+_, _≤_, _<_, min}
 use native.Mathlib.Omega.{arith}
 use lib.ListN.{length, take, getD, length-take, drop-of-length-le}
 use lib.Seq.{slice}
-use Rattle.laws.proofs.Loops.{front}
+use Rattle.laws.proofs.Loops.{slice-front}
 use Rattle.laws.proofs.Filling.{clamped}
 use Rattle.laws.specs.Limits.{eventsMax}
 use Rattle.octets.specs.Bytes.{splice}
@@ -28,7 +28,7 @@ over n i ys h =
 
 module _ (n i : ℕ) (ys : List Held) (below : i < n) (fits : n ≤ length ys) where
   head : slice i n ys ≡ getD ys i noHeld ∷ slice (i + 1) n ys
-  head = front (λ l. l) (λ l. l) n i i ys noHeld below fits
+  head = slice-front (λ l. l) (λ l. l) n i i ys noHeld below fits
 
   pub yes : getD ys i noHeld .carried ≡ true → carriedObjects (slice i n ys) ≡ eventObject (getD ys i noHeld .event) ∷ carriedObjects (slice (i + 1) n ys)
   yes h = ap carriedObjects head ∙ carried-yes (getD ys i noHeld) (slice (i + 1) n ys) h

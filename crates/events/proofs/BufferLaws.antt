@@ -10,7 +10,7 @@ use borrow.Author.Tests.{lt-ltb}
 use lib.ListN.{length, take, getD, set, length-take, length-set}
 use lib.Seq.{slice, slice-empty, take-suc-set}
 use Rattle.laws.specs.Limits.{eventsMax}
-use Rattle.laws.proofs.Loops.{take-slice, put, skip, keep, done}
+use Rattle.laws.proofs.Loops.{take-slice, slice-after-store, slice-after-skip, slice-after-keep, slice-at-end}
 use Rattle.laws.proofs.Filling.{clamped}
 use Rattle.events.specs.BufferView.{Buffer, bufferView, noHeld, newly, edited, pushed}
 use Rattle.events.specs.declared.Event.{Event}
@@ -51,7 +51,7 @@ module _ (G H K : List Held → List Held) (n : ℕ) (from next : Buffer) (i j :
         slots = length-set (next .held) j v ∙ g .slots;
         count = g .count;
         overflow = g .overflow;
-        rest = put H K n i j (next .held) noHeld below (omega arith) v (g .written) e ∙ g .rest;
+        rest = slice-after-store H K n i j (next .held) noHeld below (omega arith) v (g .written) e ∙ g .rest;
       }
 
   -- a turn that stores nothing and passes its slot over
@@ -63,7 +63,7 @@ module _ (G H K : List Held → List Held) (n : ℕ) (from next : Buffer) (i j :
         slots = g .slots;
         count = g .count;
         overflow = g .overflow;
-        rest = skip H K n i j (next .held) noHeld below (omega arith) e ∙ g .rest;
+        rest = slice-after-skip H K n i j (next .held) noHeld below (omega arith) e ∙ g .rest;
       }
 
   -- a turn that leaves its slot as it is
@@ -77,7 +77,7 @@ module _ (G H K : List Held → List Held) (n : ℕ) (from next : Buffer) (i j :
         count = g .count;
         overflow = g .overflow;
         rest =
-            keep H K n i j (next .held) noHeld below (omega arith) e
+            slice-after-keep H K n i j (next .held) noHeld below (omega arith) e
             ∙ ap (λ (m : ℕ). take m (next .held) ++ H (slice i n (next .held))) same
             ∙ g .rest;
       }
@@ -91,7 +91,7 @@ shortened G H n from next i j slots least over none g =
     λ k.
     record {
       held =
-          (sym (done H n i j (next .held) (g .read) over none)
+          (sym (slice-at-end H n i j (next .held) (g .read) over none)
           ∙ g .rest
           ∙ ap G (clamped (from .held) eventsMax (from .count) n slots least)) k;
       overflow = g .overflow k;

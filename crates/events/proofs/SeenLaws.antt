@@ -8,7 +8,7 @@ use native.Mathlib.Omega.{arith}
 use lib.ListN.{length, take, getD}
 use lib.Seq.{slice, slice-empty}
 use Rattle.laws.specs.Lists.{some}
-use Rattle.laws.proofs.Loops.{front}
+use Rattle.laws.proofs.Loops.{slice-front}
 
 turn : (s q r : Bool) → ((s || q) || r) ≡ (s || (q || r))
 turn true q r = refl
@@ -38,7 +38,7 @@ module _ {A : Type 0} (p : A → Bool) (l : List A) (n : ℕ) where
           rest =
               ap (λ (x : Bool). x || some p r) e
               ∙ turn seen (p (getD l i d)) (some p r)
-              ∙ ap (λ (x : List A). seen || some p x) (sym (front (λ x. x) (λ x. x) n i i l d below (s .fits)))
+              ∙ ap (λ (x : List A). seen || some p x) (sym (slice-front (λ x. x) (λ x. x) n i i l d below (s .fits)))
               ∙ s .rest;
         }
 

@@ -87,7 +87,7 @@ module _ (outputs arm : ℕ) (l : LatchView) (r : Request) where
   -- of a SELECT
   select-arms : functionIn r ≡ 3 → (q t : ℕ) (o : List ℕ) → controls outputs arm Select l r .latch ≡ selected q t o → Arms outputs arm r q t o
   unfolding controlEffect
-  select-arms f q t o e = by (formed (objectsIn r)) refl e where
+  select-arms f q t o e = by-form (formed (objectsIn r)) refl e where
     zero : (w n : ℕ) → formed (objectsIn r) ≡ Objects w n
         → (b : Bool) → allZero (statuses outputs [] (crobs w n (drop (3 + w) (objectsIn r)))) ≡ b
         → cond (all (true ∷ b ∷ [])) (selected (sequenceIn r) (r .time) (objectsIn r)) noSelect ≡ selected q t o
@@ -101,10 +101,10 @@ module _ (outputs arm : ℕ) (l : LatchView) (r : Request) where
         }
     zero w n x false z k = let y : _≡_ {A = ℕ} 0 1 = cc in absurd (omega arith)
 
-    by : (x : Form) → formed (objectsIn r) ≡ x → byForm x outputs arm l Select (sequenceIn r) (r .time) (objectsIn r) .latch ≡ selected q t o
+    by-form : (x : Form) → formed (objectsIn r) ≡ x → byForm x outputs arm l Select (sequenceIn r) (r .time) (objectsIn r) .latch ≡ selected q t o
         → Arms outputs arm r q t o
-    by (Wrong y) x k = let z : _≡_ {A = ℕ} 0 1 = cc in absurd (omega arith)
-    by (Objects w n) x k = zero w n x (allZero (statuses outputs [] (crobs w n (drop (3 + w) (objectsIn r))))) refl k
+    by-form (Wrong y) x k = let z : _≡_ {A = ℕ} 0 1 = cc in absurd (omega arith)
+    by-form (Objects w n) x k = zero w n x (allZero (statuses outputs [] (crobs w n (drop (3 + w) (objectsIn r))))) refl k
 
   -- of another control
   others-empty : (f : ControlFunction) → (g : (x : Form) → byForm x outputs arm l f (sequenceIn r) (r .time) (objectsIn r) .latch ≡ noSelect)
@@ -146,17 +146,17 @@ module _ (outputs arm : ℕ) (l : LatchView) (r : Request) where
   operate-acts : functionIn r ≡ 4 → (acted outputs arm l r .carried ≡ [] → ⊥) → operateStatus arm l (sequenceIn r) (r .time) (objectsIn r) ≡ 0
   unfolding acted controlEffect
   operate-acts f h =
-      by (formed (objectsIn r)) (eqb (operateStatus arm l (sequenceIn r) (r .time) (objectsIn r)) 0) refl
+      by-form (formed (objectsIn r)) (eqb (operateStatus arm l (sequenceIn r) (r .time) (objectsIn r)) 0) refl
       (λ k. h (rw (ne-eqb (functionIn r) 3 (λ x. differ (functionIn r) f x), eq-eqb (functionIn r) 4 f) k)) where
         differ : (n : ℕ) → n ≡ 4 → n ≡ 3 → ⊥
         differ n x y = omega arith
 
-        by : (x : Form) (b : Bool) → eqb (operateStatus arm l (sequenceIn r) (r .time) (objectsIn r)) 0 ≡ b
+        by-form : (x : Form) (b : Bool) → eqb (operateStatus arm l (sequenceIn r) (r .time) (objectsIn r)) 0 ≡ b
             → (byForm x outputs arm l Operate (sequenceIn r) (r .time) (objectsIn r) .carried ≡ [] → ⊥)
             → operateStatus arm l (sequenceIn r) (r .time) (objectsIn r) ≡ 0
-        by x true e k = eqb-true _ 0 e
-        by (Wrong y) false e k = absurd (k refl)
-        by (Objects w n) false e k = absurd (k (chosen-none (crobs w n (drop (3 + w) (objectsIn r))) _ (eqb-false _ 0 e)))
+        by-form x true e k = eqb-true _ 0 e
+        by-form (Wrong y) false e k = absurd (k refl)
+        by-form (Objects w n) false e k = absurd (k (chosen-none (crobs w n (drop (3 + w) (objectsIn r))) _ (eqb-false _ 0 e)))
 
 -- ---- histories
 

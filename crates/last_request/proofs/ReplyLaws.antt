@@ -32,14 +32,14 @@ length-by f outputs s cs = go (isOperate f) where
 module _ (outputs arm : ℕ) (l : LatchView) (f : ControlFunction) (sequence time : ℕ) (o : List ℕ) where
   pub echo-most : length (controlEffect outputs arm l f sequence time o .echo) ≤ echoMax
   unfolding controlEffect
-  echo-most = by (formed o) refl where
+  echo-most = by-form (formed o) refl where
     two : (b : Bool) (e : List ℕ) → length e ≤ echoMax → length (cond b [] e) ≤ echoMax
     two true e h = omega arith
     two false e h = h
 
-    by : (x : Form) → formed o ≡ x → length (byForm x outputs arm l f sequence time o .echo) ≤ echoMax
-    by (Wrong y) e = omega arith
-    by (Objects w n) e =
+    by-form : (x : Form) → formed o ≡ x → length (byForm x outputs arm l f sequence time o .echo) ≤ echoMax
+    by-form (Wrong y) e = omega arith
+    by-form (Objects w n) e =
         let fit = formed-fits o w n e in
         let ss : List ℕ = statusesBy f outputs (operateStatus arm l sequence time o) (crobs w n (drop (3 + w) o)) in
         let k = length-by f outputs (operateStatus arm l sequence time o) (crobs w n (drop (3 + w) o)) ∙ crobs-length w n (drop (3 + w) o) in
@@ -48,10 +48,10 @@ module _ (outputs arm : ℕ) (l : LatchView) (f : ControlFunction) (sequence tim
 
   pub unanswered-echo : isUnanswered f ≡ true → controlEffect outputs arm l f sequence time o .echo ≡ []
   unfolding controlEffect
-  unanswered-echo u = by (formed o) where
-    by : (x : Form) → byForm x outputs arm l f sequence time o .echo ≡ []
-    by (Wrong y) = refl
-    by (Objects w n) = rw u
+  unanswered-echo u = by-form (formed o) where
+    by-form : (x : Form) → byForm x outputs arm l f sequence time o .echo ≡ []
+    by-form (Wrong y) = refl
+    by-form (Objects w n) = rw u
 
 -- the answer is the first bytes
 pub answer-taken : (d d₂ a : List ℕ) (m : ℕ) → d₂ ≡ splice d 0 a → m ≡ length a → m ≤ length d → take m d₂ ≡ a

@@ -10,7 +10,7 @@ use native.Mathlib.Omega.{arith}
 use lib.ListN.{length, take, drop, getD, set, length-set, drop-of-length-le}
 use lib.Seq.{slice, slice-empty, drop-cons, take-all}
 use Rattle.laws.specs.Lists.{all}
-use Rattle.laws.proofs.Loops.{front}
+use Rattle.laws.proofs.Loops.{slice-front}
 use Rattle.laws.proofs.Filling.{clamped}
 use Rattle.laws.proofs.Filling.{stored}
 
@@ -26,7 +26,7 @@ module _ {A : Type 0} (p : A → Bool) (l : List A) (n : ℕ) where
 
   module _ (i : ℕ) (s : Passing p l n i) where
     head : (d : A) → i < n → all (map p (slice i n l)) ≡ all (map p (getD l i d ∷ slice (i + 1) n l))
-    head d below = ap (λ (r : List A). all (map p r)) (front (λ r. r) (λ r. r) n i i l d below (s .fits))
+    head d below = ap (λ (r : List A). all (map p r)) (slice-front (λ r. r) (λ r. r) n i i l d below (s .fits))
 
     pub passing-more : (d : A) → i < n → p (getD l i d) ≡ true → Passing p l n (i + 1)
     passing-more d below h =

@@ -5,7 +5,7 @@ use mathlib.Core.List.{List}
 use Prim.Native.Nat.{ℕ, _≤_, _<_, min}
 use native.Mathlib.Omega.{arith}
 use lib.ListN.{length, take, getD, length-take, List·getD-eq-default}
-use Rattle.laws.proofs.Loops.{in-use}
+use Rattle.laws.proofs.Loops.{getD-in-use}
 
 module _ {A : Type 0} where
   module _ (l : List A) (size c : ℕ) (long : length l ≡ size) where
@@ -14,7 +14,7 @@ module _ {A : Type 0} where
 
     -- a read of the array, total: in use, and not
     pub read-in : (i : ℕ) (d : A) → i < min c size → getD l i d ≡ getD (take c l) i d
-    read-in i d h = in-use l c i d d (omega arith) (omega arith)
+    read-in i d h = getD-in-use l c i d d (omega arith) (omega arith)
 
     pub read-out : (i : ℕ) (d : A) → min c size ≤ i → d ≡ getD (take c l) i d
     read-out i d h = sym (List·getD-eq-default (take c l) d (omega (arith, counted)))

@@ -9,7 +9,7 @@ use native.Mathlib.Omega.{arith}
 use lib.ListN.{length, take, getD}
 use lib.Seq.{slice, slice-empty}
 use Rattle.laws.specs.Lists.{some}
-use Rattle.laws.proofs.Loops.{front}
+use Rattle.laws.proofs.Loops.{slice-front}
 
 -- i of the n slots are passed over
 pub record Searching {A : Type 0} (p : A → Bool) (l : List A) (n i : ℕ) : Type 0 where
@@ -23,7 +23,7 @@ module _ {A : Type 0} (p : A → Bool) (l : List A) (n : ℕ) where
 
   module _ (i : ℕ) (s : Searching p l n i) where
     head : (d : A) → i < n → some p (slice i n l) ≡ some p (getD l i d ∷ slice (i + 1) n l)
-    head d below = ap (some p) (front (λ r. r) (λ r. r) n i i l d below (s .fits))
+    head d below = ap (some p) (slice-front (λ r. r) (λ r. r) n i i l d below (s .fits))
 
     pub searching-more : (d : A) → i < n → p (getD l i d) ≡ false → Searching p l n (i + 1)
     searching-more d below h =

@@ -105,10 +105,10 @@ module _ (s : SetupWords) (classes : List ℕ) (xs : List AnalogSetupWords) wher
     -- where no more is to be stored, the answer is given
     pub is-over : (bs : List ℕ) → Fresh s classes (length xs) bs → moreOf g (length xs) ≡ false
         → RestartHolds s classes xs (answeredOf s (length classes) g .refusal) (answeredOf s (length classes) g .head) bs ps
-    is-over bs fresh e = by (eqb (g .refusal) 0) refl
+    is-over bs fresh e = by-refusal (eqb (g .refusal) 0) refl
       where
-        by : (b : Bool) → eqb (g .refusal) 0 ≡ b → RestartHolds s classes xs (answeredOf s (length classes) g .refusal) (answeredOf s (length classes) g .head) bs ps
-        by true z =
+        by-refusal : (b : Bool) → eqb (g .refusal) 0 ≡ b → RestartHolds s classes xs (answeredOf s (length classes) g .refusal) (answeredOf s (length classes) g .head) bs ps
+        by-refusal true z =
             let far : length xs ≤ k = rw (← (st .here z)) (ltb-false _ _ (rw z at e)) in
             let done = storing-end good point xs (analogsIn ps) k (st .stored z) far in
             let right : setupOk (setupOf s classes xs) ≡ true = setup-and s classes xs ∙ rw (st .front z, done .0) in
@@ -122,7 +122,7 @@ module _ (s : SetupWords) (classes : List ℕ) (xs : List AnalogSetupWords) wher
                   fresh-counted (s .«arm_time») (s .«confirm_time») (s .outputs) (length classes) (length xs)
                   (few-classes s classes (length xs) (st .front z)) (few-analogs s classes (length xs) (st .front z));
             })
-        by false z =
+        by-refusal false z =
             rw z
             (record {
               answer = rw (st .over z);

@@ -9,7 +9,7 @@ use lib.Dec.{ltb}
 use lib.ListN.{length, take, getD, length-append, length-take, drop-of-length-le}
 use lib.Seq.{slice}
 use Rattle.laws.specs.Limits.{fragmentMax}
-use Rattle.laws.proofs.Loops.{front}
+use Rattle.laws.proofs.Loops.{slice-front}
 use Rattle.octets.specs.Bytes.{splice}
 use Rattle.octets.proofs.Splice.{splice-append, splice-nil, length-splice}
 use Rattle.points.specs.PointsView.{PointsView}
@@ -65,7 +65,7 @@ module _ (i : PointsView) where
         ap (staticBytes i) (drop-of-length-le (take n hs) l) ∙ static-nil
 
     next : j < n → n ≤ length hs → staticBytes i (slice j n hs) ≡ headerBytes i (getD hs j noHeader) ++ staticBytes i (slice (j + 1) n hs)
-    next below fits = ap (staticBytes i) (front (λ l. l) (λ l. l) n j j hs noHeader below fits) ∙ static-cons (getD hs j noHeader) (slice (j + 1) n hs)
+    next below fits = ap (staticBytes i) (slice-front (λ l. l) (λ l. l) n j j hs noHeader below fits) ∙ static-cons (getD hs j noHeader) (slice (j + 1) n hs)
 
     next-length : j < n → n ≤ length hs
         → length (staticBytes i (slice j n hs)) ≡ length (headerBytes i (getD hs j noHeader)) + length (staticBytes i (slice (j + 1) n hs))

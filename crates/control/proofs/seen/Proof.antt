@@ -7,7 +7,7 @@ use borrow.Author.Needs.{needs}
 use Rattle.laws.specs.Lists.{member}
 use Rattle.control.specs.Objects.{earlierOf}
 use Rattle.control.proofs.StatusLaws.{seen-here, seen-before, seen-nowhere}
-use Rattle.laws.proofs.Loops.{long}
+use Rattle.laws.proofs.Loops.{length-mapped}
 use Rattle.control.proofs.seen.Statement.{statement}
 use Rattle.control.proofs.seen.Tie as tie
 
@@ -27,7 +27,7 @@ mul-c : tie.Need-mul-c Inv-loop μ-loop
 mul-c c = search needs
 
 element-copy-out-c : tie.Need-element-copy-out-c Inv-loop μ-loop
-element-copy-out-c c = search (long, needs)
+element-copy-out-c c = search (length-mapped, needs)
 
 returns : tie.Need-returns Inv-loop μ-loop
 returns c =

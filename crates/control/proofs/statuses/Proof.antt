@@ -9,7 +9,7 @@ use borrow.Author.Needs.{needs}
 use lib.ListN.{length, getD, take, drop, length-set}
 use Rattle.control.specs.Objects.{noCrob, earlierOf, listOf}
 use Rattle.control.specs.Status.{statusOf, statuses}
-use Rattle.laws.proofs.Loops.{long}
+use Rattle.laws.proofs.Loops.{length-mapped}
 use Rattle.laws.proofs.Filling.{stored, finished, part-none, clamped}
 use Rattle.control.proofs.StatusLaws.{statuses-step, statuses-nil, earlier-start}
 use Rattle.control.proofs.statuses.Statement.{statement}
@@ -34,7 +34,7 @@ mul-c : tie.Need-mul-c Inv-loop μ-loop
 mul-c c = omega arith
 
 element-copy-out-c : tie.Need-element-copy-out-c Inv-loop μ-loop
-element-copy-out-c c = search (long, needs)
+element-copy-out-c c = search (length-mapped, needs)
 
 seen-requires : tie.Need-seen-requires Inv-loop μ-loop
 seen-requires c κs = omega arith
@@ -57,7 +57,7 @@ loop-again c =
     let n = l .before .filled .result in
     let few = l .before .filled .ensures in
     let a = l .before .before .args in
-    let h : length (a .t1 .items) ≡ 8 = search (long, needs) in
+    let h : length (a .t1 .items) ≡ 8 = search (length-mapped, needs) in
     let v = c .status .ensures ∙ ap (λ (t : Bool). statusOf (a .outputs) t (getD (a .t1 .items) (l .loop .i) noCrob)) (c .before .seen .ensures) in (
       stored (l .loop .ss) (l .loop .i) (c .status .result) _ _ (omega arith)
           (statuses-step (a .outputs) (a .t1 .items) n (l .loop .i) (omega arith) (omega arith)
@@ -74,7 +74,7 @@ returns c =
     let n = l .before .filled .result in
     let few = l .before .filled .ensures in
     let a = l .before .before .args in
-    let h : length (a .t1 .items) ≡ 8 = search (long, needs) in
+    let h : length (a .t1 .items) ≡ 8 = search (length-mapped, needs) in
     let e : n ≡ l .loop .i = omega arith in (
       sym (clamped (l .loop .ss) 8 (a .t1 .count) n (l .loop .inv .1) few)
           ∙ ap (λ (k : ℕ). take k (l .loop .ss)) e

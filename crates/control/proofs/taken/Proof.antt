@@ -8,7 +8,7 @@ use borrow.Author.Needs.{needs}
 use lib.ListN.{length, take, drop, length-set, length-take, length-drop}
 use Rattle.control.specs.Objects.{span, crobAt, crobs, listOf}
 use Rattle.control.specs.declared.Crob.{Crob}
-use Rattle.laws.proofs.Loops.{long}
+use Rattle.laws.proofs.Loops.{length-mapped}
 use Rattle.laws.proofs.Filling.{stored, finished, to-end}
 use Rattle.control.proofs.ObjectLaws.{span-step, crobs-step, crobs-none, holding}
 use Rattle.control.proofs.taken.Statement.{statement}
@@ -29,7 +29,7 @@ loop-holds c =
     let a = c .before .before .args in
     let e : a .n - 0 ≡ a .n = omega arith in
     let f = ap (λ (k : ℕ). span (a .w) k) e in
-    (ap (λ (k : ℕ). crobs (a .w) k (a .b .now)) e, search (long, needs), omega arith, omega (arith, f))
+    (ap (λ (k : ℕ). crobs (a .w) k (a .b .now)) e, search (length-mapped, needs), omega arith, omega (arith, f))
 
 sub-take-crob : tie.Need-sub-take-crob Inv-loop μ-loop
 sub-take-crob c = omega arith

@@ -9,7 +9,7 @@ use lib.ListN.{length, getD, take, drop, length-set}
 use Rattle.control.specs.Objects.{noCrob, listOf}
 use Rattle.control.specs.declared.Crob.{Crob}
 use Rattle.control.specs.Status.{chosen}
-use Rattle.laws.proofs.Loops.{long}
+use Rattle.laws.proofs.Loops.{length-mapped}
 use Rattle.laws.proofs.Filling.{stored, finished, clamped}
 use Rattle.control.proofs.ObjectLaws.{holding}
 use Rattle.control.proofs.StatusLaws.{chosen-yes, chosen-no, chosen-end}
@@ -31,13 +31,13 @@ none-requires : tie.Need-none-requires Inv-loop μ-loop
 none-requires c κs = search needs
 
 loop-holds : tie.Need-loop-holds Inv-loop μ-loop
-loop-holds c = (refl, search (long, needs), omega arith, omega arith)
+loop-holds c = (refl, search (length-mapped, needs), omega arith, omega arith)
 
 mul-c : tie.Need-mul-c Inv-loop μ-loop
 mul-c c = omega arith
 
 element-copy-out-c : tie.Need-element-copy-out-c Inv-loop μ-loop
-element-copy-out-c c = search (long, needs)
+element-copy-out-c c = search (length-mapped, needs)
 
 array-read-s : tie.Need-array-read-s Inv-loop μ-loop
 array-read-s c = search needs
@@ -63,7 +63,7 @@ loop-again c =
     let n = l .before .before .filled .result in
     let few = l .before .before .filled .ensures in
     let a = l .before .before .before .args in
-    let h : length (a .t1 .items) ≡ 8 = search (long, needs) in
+    let h : length (a .t1 .items) ≡ 8 = search (length-mapped, needs) in
     let k : length (a .t2) ≡ 8 = search needs in (
       stored (l .loop .next .items) (l .loop .j) (getD (a .t1 .items) (l .loop .i) noCrob) _ _ (omega arith)
           (chosen-yes (a .t1 .items) (a .t2) n (l .loop .i) (omega arith) (omega arith) (omega arith) (c .if1 .taken))
@@ -82,7 +82,7 @@ loop-again-2 c =
     let n = l .before .before .filled .result in
     let few = l .before .before .filled .ensures in
     let a = l .before .before .before .args in
-    let h : length (a .t1 .items) ≡ 8 = search (long, needs) in
+    let h : length (a .t1 .items) ≡ 8 = search (length-mapped, needs) in
     let k : length (a .t2) ≡ 8 = search needs in (
       ap (λ (x : List Crob). take (l .loop .j) (l .loop .next .items) ++ x)
           (chosen-no (a .t1 .items) (a .t2) n (l .loop .i) (omega arith) (omega arith) (omega arith) (c .if1 .left))
@@ -99,7 +99,7 @@ returns c =
     let n = l .before .before .filled .result in
     let few = l .before .before .filled .ensures in
     let a = l .before .before .before .args in
-    let h : length (a .t1 .items) ≡ 8 = search (long, needs) in
+    let h : length (a .t1 .items) ≡ 8 = search (length-mapped, needs) in
     let k : length (a .t2) ≡ 8 = search needs in
     holding _ _ (l .loop .inv .1) (omega arith)
     (finished (take (l .loop .j) (l .loop .next .items)) _ _

@@ -6,7 +6,7 @@ use Prim.Native.Nat.{ℕ, _-_, _≤_}
 use native.Mathlib.Omega.{arith}
 use lib.Dec.{eqb}
 use lib.ListN.{length}
-use Rattle.laws.proofs.Loops.{long}
+use Rattle.laws.proofs.Loops.{length-mapped}
 use Rattle.events.proofs.SeenLaws.{Noting, noting-start, noting-more, noted}
 use Rattle.read_headers.specs.Parse.{headersMax, asksFor}
 use Rattle.read_headers.specs.declared.Header.{Header}
@@ -30,7 +30,7 @@ least-requires c κs = search needs
 loop-holds : tie.Need-loop-holds Inv-loop μ-loop
 loop-holds c =
     let a = c .before .args in
-    let h : length (a .t1 .headers) ≡ headersMax = search (long, needs) in
+    let h : length (a .t1 .headers) ≡ headersMax = search (length-mapped, needs) in
     let fits : c .least .result ≤ length (a .t1 .headers) = omega (arith, h, c .least .ensures) in
     (noting-start _ _ _ fits, noting-start _ _ _ fits, noting-start _ _ _ fits)
 
@@ -68,7 +68,7 @@ returns : tie.Need-returns Inv-loop μ-loop
 unfolding asksFor
 returns c =
     let a = c .before .before .before .args in
-    let h : length (a .t1 .headers) ≡ headersMax = search (long, needs) in
+    let h : length (a .t1 .headers) ≡ headersMax = search (length-mapped, needs) in
     let all = in-plan (a .t1) _ (c .before .before .least .ensures) h in
     let at = c .before .loop .inv in
     let over = c .loop-test .left in

@@ -7,7 +7,7 @@ use borrow.Author.Tests.{not-true, not-false}
 use lib.ListN.{length, take, length-take}
 use Rattle.laws.specs.Lists.{same}
 use Rattle.select_latch.specs.Select.{LatchView, operateStatus}
-use Rattle.laws.proofs.Loops.{long}
+use Rattle.laws.proofs.Loops.{length-mapped}
 use Rattle.laws.proofs.Filling.{clamped}
 use Rattle.control.specs.Objects.{echoMax}
 use Rattle.select_latch.proofs.Laws.{latch-empty, latch-armed, operate-empty, operate-other, operate-sequence, operate-late, operate-good}
@@ -16,7 +16,7 @@ use Rattle.select_latch.proofs.operate_status.Tie as tie
 
 -- the array that was copied out has its length
 held : (c : tie.After-least) → length (c .before .before .before .before .before .args .latch .objects) ≡ 109
-held c = search (long, needs)
+held c = search (length-mapped, needs)
 
 returns : tie.Need-returns
 returns c =
@@ -31,13 +31,13 @@ least-requires c κs = search needs
 array-share-prefix-objects : tie.Need-array-share-prefix-objects
 array-share-prefix-objects c =
     let a = c .before .before .before .before .before .args in
-    let h : length (a .latch .objects) ≡ echoMax = search (long, needs) in
+    let h : length (a .latch .objects) ≡ echoMax = search (length-mapped, needs) in
     omega arith
 
 slice-aggregate-equal : tie.Need-slice-aggregate-equal
 slice-aggregate-equal c =
     let a = c .before .before .before .before .before .before .args in
-    let h : length (a .latch .objects) ≡ echoMax = search (long, needs) in
+    let h : length (a .latch .objects) ≡ echoMax = search (length-mapped, needs) in
     simp length-take (omega arith)
 
 equal-requires : tie.Need-equal-requires

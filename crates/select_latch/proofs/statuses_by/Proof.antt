@@ -4,7 +4,7 @@ use mathlib.Core.Path.{_≡_, refl, sym, ap, _∙_}
 use borrow.Author.Needs.{needs}
 use Prim.Native.Nat.{ℕ}
 use lib.ListN.{length, replicate}
-use Rattle.laws.proofs.Loops.{long}
+use Rattle.laws.proofs.Loops.{length-mapped}
 use Rattle.laws.proofs.Filling.{take-replicate}
 use Rattle.control.proofs.ObjectLaws.{length-listOf}
 use Rattle.select_latch.proofs.statuses_by.Statement.{statement}
@@ -19,7 +19,7 @@ statuses-requires c κs = search needs
 returns : tie.Need-returns
 returns c =
     let a = c .before .before .args in
-    let h : length (a .cs .items) ≡ 8 = search (long, needs) in
+    let h : length (a .cs .items) ≡ 8 = search (length-mapped, needs) in
     rw (sym (c .before .is-operate .ensures) ∙ c .if1 .taken)
     (take-replicate (a .cs .count) 8 (a .s) (c .before .before .pre) ∙ ap (λ (k : ℕ). replicate k (a .s)) (sym (length-listOf (a .cs) h (c .before .before .pre))), refl)
 

@@ -6,7 +6,7 @@ use Prim.Native.Nat.{_+_, _-_, _≤_}
 use native.Mathlib.Omega.{arith}
 use mathlib.Core.List.{List}
 use lib.ListN.{length, take}
-use Rattle.laws.proofs.Loops.{long}
+use Rattle.laws.proofs.Loops.{length-mapped}
 use Rattle.octets.specs.Bytes.{splice}
 use Rattle.read_headers.specs.Parse.{headersMax}
 use Rattle.read_headers.specs.declared.Header.{Header}
@@ -25,7 +25,7 @@ abbrev μ-loop : tie.MeasureT-loop
 
 -- the plan's array of headers
 slots : (c : tie.Start Inv-loop μ-loop) → length (c .args .t3 .headers) ≡ headersMax
-slots c = search (long, needs)
+slots c = search (length-mapped, needs)
 
 least-requires : tie.Need-least-requires Inv-loop μ-loop
 least-requires c κs = search needs

@@ -6,7 +6,7 @@ use Prim.Native.Nat.{ℕ, _-_}
 use mathlib.Core.List.{List, []}
 use native.Mathlib.Omega.{arith}
 use lib.ListN.{length}
-use Rattle.laws.proofs.Loops.{long}
+use Rattle.laws.proofs.Loops.{length-mapped}
 use Rattle.read_headers.specs.Parse.{headersMax}
 use Rattle.read_headers.specs.declared.Header.{Header}
 use Rattle.read_headers.proofs.AskLaws.{in-plan}
@@ -24,7 +24,7 @@ abbrev μ-loop : tie.MeasureT-loop
 
 -- the plan's array of headers
 slots : (c : tie.Start Inv-loop μ-loop) → length (c .args .t1 .headers) ≡ headersMax
-slots c = search (long, needs)
+slots c = search (length-mapped, needs)
 
 least-requires : tie.Need-least-requires Inv-loop μ-loop
 least-requires c κs = search needs
