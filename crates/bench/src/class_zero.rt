@@ -50,9 +50,7 @@ fn analog_of(i: usize) -> AnalogPoint {
     };
     match t {
         AnalogTaken::Taken(q, _) => q,
-        AnalogTaken::OtherKind => a,
-        AnalogTaken::NotFinite => a,
-        AnalogTaken::HostFlags => a,
+        AnalogTaken::Refused(_) => a,
     }
 }
 
@@ -61,7 +59,7 @@ fn binary_of(state: bool, flags: u8) -> BinaryPoint {
     let t = points::read_binary(b, state, flags);
     match t {
         BinaryTaken::Taken(q, _) => q,
-        BinaryTaken::HostFlags => b,
+        BinaryTaken::Refused(_) => b,
     }
 }
 

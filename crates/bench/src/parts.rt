@@ -45,9 +45,7 @@ pub fn reading(count: u64) -> u64 {
                 let v = q.value;
                 sum = fold(sum, plus(value_of(v), bit(raised)));
             }
-            AnalogTaken::OtherKind => {}
-            AnalogTaken::NotFinite => {}
-            AnalogTaken::HostFlags => {}
+            AnalogTaken::Refused(_) => {}
         }
         left -= 1;
     }

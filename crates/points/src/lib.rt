@@ -21,6 +21,7 @@ ghost use Rattle.points.specs.Reading.{
   readFloat32,
   readWhole,
   readFloat,
+  readingRefusalNumber,
   binaryTakenOf,
   analogTakenOf,
 };
@@ -135,18 +136,37 @@ pub fn installed(count: usize) -> usize
     octets::least(count, POINTS_MAX)
 }
 
-// What a binary reading comes to: the point's new record and whether an event is raised, or refusal 4.
-pub enum BinaryTaken {
-    Taken(BinaryPoint, bool),
+// Why a point does not take a reading.
+pub enum ReadingRefusal {
+    // 2: no such point of that kind.
+    OtherKind,
+    // 3: float reading not finite.
+    NotFinite,
+    // 4: host flags above 31.
     HostFlags,
 }
 
-// What an analog reading comes to: the point's new record and whether an event is raised, or refusals 2, 3, 4.
+// What a binary reading comes to: the point's new record and whether an event is raised, or a refusal.
+pub enum BinaryTaken {
+    Taken(BinaryPoint, bool),
+    Refused(ReadingRefusal),
+}
+
+// What an analog reading comes to: the point's new record and whether an event is raised, or a refusal.
 pub enum AnalogTaken {
     Taken(AnalogPoint, bool),
-    OtherKind,
-    NotFinite,
-    HostFlags,
+    Refused(ReadingRefusal),
+}
+
+// Document 01's number of a refusal.
+pub fn refusal_number(why: ReadingRefusal) -> u8
+    ensures { λ r. ⌜ r ≡ readingRefusalNumber why ⌝ }
+{
+    match why {
+        ReadingRefusal::OtherKind => 2,
+        ReadingRefusal::NotFinite => 3,
+        ReadingRefusal::HostFlags => 4,
+    }
 }
 
 // The kind of an analog point as a setup gives it.
@@ -381,7 +401,7 @@ pub fn read_binary(p: BinaryPoint, state: bool, flags: u8) -> BinaryTaken
     ensures { λ r. ⌜ binaryTakenOf r ≡ readBinary p state flags ⌝ }
 {
     if HOST_FLAGS_MAX < flags {
-        return BinaryTaken::HostFlags;
+        return BinaryTaken::Refused(ReadingRefusal::HostFlags);
     }
     let report = is_reported(p.seen, flags, p.reported_flags, state != p.state);
     BinaryTaken::Taken(
@@ -471,7 +491,7 @@ fn read_int32(p: AnalogPoint, t: WholeGateState, z: i32, flags: u8) -> AnalogTak
     ensures { λ r. ⌜ analogTakenOf r ≡ readInt32 p t z flags ⌝ }
 {
     if HOST_FLAGS_MAX < flags {
-        return AnalogTaken::HostFlags;
+        return AnalogTaken::Refused(ReadingRefusal::HostFlags);
     }
     let g = t.gate;
     let gated = gate_whole(g, z, t.reported_value, t.previous, t.sum);
@@ -485,7 +505,7 @@ fn read_int16(p: AnalogPoint, t: WholeGateState, z: i32, flags: u8) -> AnalogTak
     ensures { λ r. ⌜ analogTakenOf r ≡ readInt16 p t z flags ⌝ }
 {
     if HOST_FLAGS_MAX < flags {
-        return AnalogTaken::HostFlags;
+        return AnalogTaken::Refused(ReadingRefusal::HostFlags);
     }
     let g = t.gate;
     let gated = gate_whole(g, z, t.reported_value, t.previous, t.sum);
@@ -508,7 +528,7 @@ fn read_float32(p: AnalogPoint, t: FloatGateState, x: f32, flags: u8) -> AnalogT
 {
     if is_finite(x) {
         if HOST_FLAGS_MAX < flags {
-            return AnalogTaken::HostFlags;
+            return AnalogTaken::Refused(ReadingRefusal::HostFlags);
         }
         let s = t.scale;
         let g = t.gate;
@@ -525,7 +545,7 @@ fn read_float32(p: AnalogPoint, t: FloatGateState, x: f32, flags: u8) -> AnalogT
             AnalogState::Float32(next),
         );
     }
-    AnalogTaken::NotFinite
+    AnalogTaken::Refused(ReadingRefusal::NotFinite)
 }
 
 // One whole reading against one analog point.
@@ -536,7 +556,7 @@ pub fn read_whole(p: AnalogPoint, z: i32, flags: u8) -> AnalogTaken
     match m {
         AnalogState::Int32(t) => read_int32(p, t, z, flags),
         AnalogState::Int16(t) => read_int16(p, t, z, flags),
-        AnalogState::Float32(_) => AnalogTaken::OtherKind,
+        AnalogState::Float32(_) => AnalogTaken::Refused(ReadingRefusal::OtherKind),
     }
 }
 
@@ -546,8 +566,8 @@ pub fn read_float(p: AnalogPoint, x: f32, flags: u8) -> AnalogTaken
 {
     let m = p.gate_state;
     match m {
-        AnalogState::Int32(_) => AnalogTaken::OtherKind,
-        AnalogState::Int16(_) => AnalogTaken::OtherKind,
+        AnalogState::Int32(_) => AnalogTaken::Refused(ReadingRefusal::OtherKind),
+        AnalogState::Int16(_) => AnalogTaken::Refused(ReadingRefusal::OtherKind),
         AnalogState::Float32(t) => read_float32(p, t, x, flags),
     }
 }

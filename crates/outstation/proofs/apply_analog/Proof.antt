@@ -1,8 +1,6 @@
 -- `outstation::apply_analog` meets its contract. Assumes nothing.
 use Rattle.outstation.proofs.HeadLaws.{analog-taken, analog-refused}
-use Rattle.points.specs.Reading.{analogTakenOf}
 use native.Mathlib.Omega.{arith}
-use mathlib.Core.Path.{refl, ap}
 use Rattle.outstation.specs.ReadingParts.{withChanges}
 use borrow.Author.Needs.{needs}
 use Rattle.outstation.proofs.apply_analog.Statement.{statement}
@@ -20,23 +18,14 @@ store-analog-requires c κs = search needs
 taken-requires : tie.Need-taken-requires
 taken-requires c κs = search needs
 
-enum-told : tie.Need-enum-told
-enum-told c = search needs
+enum-known-t-2 : tie.Need-enum-known-t-2
+enum-known-t-2 c = search needs
 
-enum-told-2 : tie.Need-enum-told-2
-enum-told-2 c = search needs
-
-enum-told-3 : tie.Need-enum-told-3
-enum-told-3 c = search needs
+refusal-number-requires : tie.Need-refusal-number-requires
+refusal-number-requires c κs = search needs
 
 refused-requires : tie.Need-refused-requires
 refused-requires c κs = search needs
-
-refused-requires-2 : tie.Need-refused-requires-2
-refused-requires-2 c κs = search needs
-
-refused-requires-3 : tie.Need-refused-requires-3
-refused-requires-3 c κs = search needs
 
 returns : tie.Need-returns
 returns c =
@@ -50,24 +39,11 @@ returns c =
 
 returns-2 : tie.Need-returns-2
 returns-2 c =
-    let i = c .before .before .before .args in
+    let t = c .before .before .before in
+    let i = t .before .before .args in
     λ h b.
-    rw (c .refused .ensures)
-    (analog-refused (withChanges h (i .n) (i .m)) (record { binaries = b; analogs = i .analogs .now; held = i .held .now }) (i .r) (i .t) 2 refl (ap analogTakenOf (c .before .enum-told .given .1)))
-
-returns-3 : tie.Need-returns-3
-returns-3 c =
-    let i = c .before .before .before .args in
-    λ h b.
-    rw (c .refused2 .ensures)
-    (analog-refused (withChanges h (i .n) (i .m)) (record { binaries = b; analogs = i .analogs .now; held = i .held .now }) (i .r) (i .t) 3 refl (ap analogTakenOf (c .before .enum-told2 .given .1)))
-
-returns-4 : tie.Need-returns-4
-returns-4 c =
-    let i = c .before .before .before .args in
-    λ h b.
-    rw (c .refused3 .ensures)
-    (analog-refused (withChanges h (i .n) (i .m)) (record { binaries = b; analogs = i .analogs .now; held = i .held .now }) (i .r) (i .t) 4 refl (ap analogTakenOf (c .before .enum-told3 .given .1)))
+    rw (c .refused .ensures, c .before .refusal-number .ensures)
+    (analog-refused (withChanges h (i .n) (i .m)) (record { binaries = b; analogs = i .analogs .now; held = i .held .now }) (i .r) (i .t) _ (t .t2 .given .1))
 
 pub apply-analog-spec : {M : Type 1} → statement M
 apply-analog-spec =
@@ -77,13 +53,8 @@ apply-analog-spec =
     cast-i
     store-analog-requires
     taken-requires
-    enum-told
+    enum-known-t-2
+    refusal-number-requires
     refused-requires
-    enum-told-2
-    refused-requires-2
-    enum-told-3
-    refused-requires-3
     returns
-    returns-2
-    returns-3
-    returns-4)
+    returns-2)

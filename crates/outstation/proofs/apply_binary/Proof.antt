@@ -30,8 +30,11 @@ store-binary-requires c κs = search needs
 taken-requires : tie.Need-taken-requires
 taken-requires c κs = search needs
 
-enum-told : tie.Need-enum-told
-enum-told c = search needs
+enum-known-t-2 : tie.Need-enum-known-t-2
+enum-known-t-2 c = search needs
+
+refusal-number-requires : tie.Need-refusal-number-requires
+refusal-number-requires c κs = search needs
 
 refused-requires : tie.Need-refused-requires
 refused-requires c κs = search needs
@@ -54,15 +57,16 @@ returns c =
 
 returns-2 : tie.Need-returns-2
 returns-2 c =
-    let read = c .before .before .before in
+    let t = c .before .before .before in
+    let read = t .before .before in
     let f = read .before .before .before .before .before in
     let i = f .before .args in
     λ h a.
-    rw (c .refused .ensures)
+    rw (c .refused .ensures, c .before .refusal-number .ensures)
     (binary-refused (withChanges h (i .n) (i .m)) (record { binaries = i .binaries .now; analogs = a; held = i .held .now }) (i .r) (i .state)
     (omega (arith, read .before .before .before .if1 .taken, f .installed .ensures)) (read .read-binary .result)
     (read .read-binary .ensures ∙ ap (λ (x : BinaryPoint). readBinary x (i .state) (i .r .flags)) (read .before .load-binary .ensures))
-    (c .before .enum-told .given .1))
+    _ (t .t2 .given .1))
 
 returns-3 : tie.Need-returns-3
 returns-3 c =
@@ -84,7 +88,8 @@ apply-binary-spec =
     enum-known-t
     store-binary-requires
     taken-requires
-    enum-told
+    enum-known-t-2
+    refusal-number-requires
     refused-requires
     refused-requires-2
     returns

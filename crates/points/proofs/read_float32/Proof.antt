@@ -50,7 +50,7 @@ returns-2 c =
     (c .analog-after .ensures)
 
 returns-3 : tie.Need-returns-3
-returns-3 c = search needs
+returns-3 c = rw (sym (c .before .is-finite .ensures) ∙ c .if1 .left)
 
 pub read-float32-spec : {M : Type 1} → statement M
 read-float32-spec =

@@ -41,12 +41,6 @@ fold-requires c κs = tt
 enum-told : tie.Need-enum-told Inv-loop μ-loop
 enum-told c = search needs
 
-enum-told-2 : tie.Need-enum-told-2 Inv-loop μ-loop
-enum-told-2 c = search needs
-
-enum-told-3 : tie.Need-enum-told-3 Inv-loop μ-loop
-enum-told-3 c = search needs
-
 sub-left : tie.Need-sub-left Inv-loop μ-loop
 sub-left c = omega arith
 
@@ -75,8 +69,6 @@ reading-spec =
     plus-requires
     fold-requires
     enum-told
-    enum-told-2
-    enum-told-3
     sub-left
     loop-less
     loop-again
