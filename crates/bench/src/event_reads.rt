@@ -11,6 +11,7 @@ use control::ANSWER_MAX;
 use control::ECHO_MAX;
 use event_store::EVENT_WORDS;
 use fragments::FragmentAnswer;
+use fragments::FragmentRefusal;
 use outstation::Head;
 use point_store::ANALOG_WORDS;
 use point_store::BINARY_WORDS;
@@ -24,10 +25,17 @@ fn fold_answer(sum: u64, a: FragmentAnswer, out: &[u8]) -> u64 {
         }
         FragmentAnswer::Confirmed => fold(sum, 1),
         FragmentAnswer::Silent => fold(sum, 2),
-        FragmentAnswer::Time => fold(sum, 3),
-        FragmentAnswer::Malformed => fold(sum, 4),
-        FragmentAnswer::NotConfirmed => fold(sum, 5),
-        FragmentAnswer::OutputTooSmall => fold(sum, 6),
+        FragmentAnswer::Refused(why) => fold(sum, fold_number(why)),
+    }
+}
+
+// What a refusal adds to the checksum, as in the program of ordinary Rust.
+fn fold_number(why: FragmentRefusal) -> u64 {
+    match why {
+        FragmentRefusal::Time => 3,
+        FragmentRefusal::Malformed => 4,
+        FragmentRefusal::NotConfirmed => 5,
+        FragmentRefusal::OutputTooSmall => 6,
     }
 }
 

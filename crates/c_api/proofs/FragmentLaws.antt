@@ -19,10 +19,7 @@ answer-is : (a : FragmentAnswer) (d : List ℕ) (operated : List Crob) (x : Answ
 answer-is (Fs.Answer n) d operated x e z = ap (λ (k : ℕ). record { length = k; kind = 0; refusal = 0 }) (z ∙ ap sizeIn (sym e)) ∙ ap fragmentResult e
 answer-is Fs.Silent d operated x e z = ap fragmentResult e
 answer-is Fs.Confirmed d operated x e z = ap fragmentResult e
-answer-is Fs.Time d operated x e z = ap fragmentResult e
-answer-is Fs.Malformed d operated x e z = ap fragmentResult e
-answer-is Fs.NotConfirmed d operated x e z = ap fragmentResult e
-answer-is Fs.OutputTooSmall d operated x e z = ap fragmentResult e
+answer-is (Fs.Refused why) d operated x e z = ap fragmentResult e
 
 pub host-given : (o : Outstation) (t : FragmentResult) (m₁ : Lent) (before after : List ℕ) (x : Result) (a : FragmentWords) → FragmentMeets o (answeredBy t m₁) before after x
     → a ≡ answerWords (t .answer) → HostMeets o (record { head = t .head; operated = t .operated; answer = a }) m₁ before after x

@@ -10,6 +10,7 @@ use Rattle.outstation.specs.Lent.{Lent, Outstation, outstationView, CountsWithi
 use Rattle.outstation.specs.Step.{Answer, took, answers, silent, accepts, refuses, handed, outputAfter, Result, fragment, step}
 use Rattle.fragments.specs.declared.FragmentAnswer.{FragmentAnswer}
 use Rattle.fragments.specs.declared.FragmentAnswer.the-variants as Fs
+use Rattle.fragments.specs.FragmentMeets.{fragmentRefusalNumber}
 use Rattle.c_api.specs.declared.FragmentWords.{FragmentWords}
 use Rattle.c_api.specs.declared.AnswerWords.{AnswerWords}
 
@@ -18,10 +19,7 @@ abbrev pub answerWords : FragmentAnswer → FragmentWords
 answerWords (Fs.Answer n) = record { length = n; kind = 0; refusal = 0 }
 answerWords Fs.Silent = record { length = 0; kind = 1; refusal = 0 }
 answerWords Fs.Confirmed = record { length = 0; kind = 2; refusal = 0 }
-answerWords Fs.Time = record { length = 0; kind = 3; refusal = 1 }
-answerWords Fs.Malformed = record { length = 0; kind = 3; refusal = 31 }
-answerWords Fs.NotConfirmed = record { length = 0; kind = 3; refusal = 32 }
-answerWords Fs.OutputTooSmall = record { length = 0; kind = 3; refusal = 33 }
+answerWords (Fs.Refused why) = record { length = 0; kind = 3; refusal = fragmentRefusalNumber why }
 
 -- what a call gives for a step's answer, every field in every case: kind 0, answered with the first `length` lent bytes; 1, not
 -- answered; 2, a CONFIRM accepted; 3, refused. (A reading's answer is none of a fragment's.)

@@ -142,10 +142,7 @@ fn outcome_of(a: FragmentAnswer) -> Outcome {
         FragmentAnswer::Answer(n) => answers::gave(n),
         FragmentAnswer::Silent => answers::gave(0),
         FragmentAnswer::Confirmed => answers::gave(0),
-        FragmentAnswer::Time => answers::refused(1),
-        FragmentAnswer::Malformed => answers::refused(31),
-        FragmentAnswer::NotConfirmed => answers::refused(32),
-        FragmentAnswer::OutputTooSmall => answers::refused(33),
+        FragmentAnswer::Refused(why) => answers::refused(fragments::refusal_number(why)),
     }
 }
 

@@ -23,7 +23,6 @@ use Rattle.read_headers.specs.Parse.{Parsed, headers, fault}
 use Rattle.read_headers.specs.Plans.{planned}
 use Rattle.static_objects.specs.Static.{askedOf}
 use Rattle.read.specs.Response.{bufferAfter, responseObjects, RepliedAs}
-use Rattle.control.specs.declared.Crob.{Crob}
 use Rattle.control.specs.declared.Crobs.{Crobs}
 use Rattle.control.specs.Objects.{answerMax, listOf, Holding}
 use Rattle.select_latch.specs.declared.ControlFunction.the-variants.{Select, Operate, DirectOperate, DirectOperateNoResponse}
@@ -33,9 +32,10 @@ use Rattle.last_request.specs.Repeat.{kept, lastIn, keptAnswer}
 use Rattle.outstation.specs.declared.Wait.{Wait}
 use Rattle.outstation.specs.declared.Wait.the-variants.{Idle, Awaiting}
 use Rattle.outstation.specs.OutstationView.{OutstationView}
-use Rattle.outstation.specs.Step.{Result, refuses, refusal, indicationsOf, confirmedStep, confirmStep, controlRequestEffect, writeEffect, plainEffect, effectBy}
+use Rattle.outstation.specs.Step.{Result, refusal, indicationsOf, confirmedStep, confirmStep, controlRequestEffect, writeEffect, plainEffect, effectBy}
 use Rattle.effects.specs.declared.RequestEffect.{RequestEffect}
 use Rattle.effects.specs.declared.Confirmation.{Confirmation}
+use Rattle.fragments.specs.declared.FragmentRefusal.{FragmentRefusal}
 use Rattle.fragments.specs.declared.FragmentAnswer.{FragmentAnswer}
 use Rattle.fragments.specs.declared.FragmentAnswer.the-variants as Fs
 use Rattle.effects.specs.declared.RequestContext.{RequestContext}
@@ -51,7 +51,7 @@ use Rattle.last_request.specs.declared.LastLengths.{LastLengths}
 use Rattle.outstation.specs.declared.Head.{Head}
 use Rattle.outstation.specs.Lent.{Lent, HeadCountsWithin, installedOf, bufferStatus, waitOf, viewOf}
 use Rattle.fragments.specs.declared.FragmentResult.{FragmentResult}
-use Rattle.fragments.specs.FragmentMeets.{answerBy, sizeBy, leftWith, readEffectBy, FragmentMeets, answeredBy, PartMeets, withHeld, ConfirmedHolds, ConfirmHolds, conBy, ReadHolds, lastLengths, withLast, RepeatHolds, LeftIn, ReadLeft, OtherHolds, contextIn}
+use Rattle.fragments.specs.FragmentMeets.{fragmentRefusalNumber, answerBy, sizeBy, leftWith, readEffectBy, FragmentMeets, answeredBy, PartMeets, withHeld, ConfirmedHolds, ConfirmHolds, conBy, ReadHolds, lastLengths, withLast, RepeatHolds, LeftIn, ReadLeft, OtherHolds, contextIn}
 
 -- ---- what a part gives is what the call gives
 
@@ -69,15 +69,15 @@ given-in h m m₁ r b a x g =
 
 -- ---- a refusal
 
-pub refused-in : (r : FragmentResult) (h : Head) (a : FragmentAnswer) (n : ℕ) → r .head ≡ h → r .answer ≡ a → Holding (r .operated) []
-    → ((d : List ℕ) (x : List Crob) → answerBy a d x ≡ refuses n) → sizeBy a ≡ 0 → (m : Lent) (d : List ℕ) → PartMeets h r m d d (refusal n (viewOf h m))
-refused-in r h a n s e hands k z m d =
+pub refused-in : (r : FragmentResult) (h : Head) (why : FragmentRefusal) → r .head ≡ h → r .answer ≡ Fs.Refused why → Holding (r .operated) [] → (m : Lent) (d : List ℕ)
+    → PartMeets h r m d d (refusal (fragmentRefusalNumber why) (viewOf h m))
+refused-in r h why s e hands m d =
     record {
       result =
           record {
             state = ap (λ (x : Head). viewOf x m) s;
-            answer = ap (λ (b : FragmentAnswer). answerBy b d (listOf (r .operated))) e ∙ k d (listOf (r .operated));
-            size = ap sizeBy e ∙ z;
+            answer = ap (λ (b : FragmentAnswer). answerBy b d (listOf (r .operated))) e;
+            size = ap sizeBy e;
             objects = hands;
             lent = refl;
           };

@@ -29,19 +29,25 @@ use Rattle.outstation.specs.Lent.{Lent, Outstation, outstationView, HeadCountsW
 use Rattle.outstation.specs.Step.{Answer, took, answers, silent, accepts, refuses, handed, outputAfter, Result, fragment, step, readEffect, plainEffect, readStep, repeatStep, requestStep, effectBy, confirmStep, confirmedStep}
 use Rattle.outstation.specs.Step as S
 use Rattle.effects.specs.declared.RequestContext.{RequestContext}
+use Rattle.fragments.specs.declared.FragmentRefusal.{FragmentRefusal}
+use Rattle.fragments.specs.declared.FragmentRefusal.the-variants as R
 use Rattle.fragments.specs.declared.FragmentAnswer.{FragmentAnswer}
 use Rattle.fragments.specs.declared.FragmentAnswer.the-variants as Fs
 use Rattle.fragments.specs.declared.FragmentResult.{FragmentResult}
 
--- the numbers of the refusal table, and the values of each case; d the lent bytes after the call
+-- the number of each refusal
+abbrev pub fragmentRefusalNumber : FragmentRefusal → ℕ
+fragmentRefusalNumber R.Time = 1
+fragmentRefusalNumber R.Malformed = 31
+fragmentRefusalNumber R.NotConfirmed = 32
+fragmentRefusalNumber R.OutputTooSmall = 33
+
+-- what each answer means; d the lent bytes after the call
 abbrev pub answerBy : FragmentAnswer → List ℕ → List Crob → Answer
 answerBy (Fs.Answer n) d operated = answers (take n d) operated
 answerBy Fs.Silent d operated = silent operated
 answerBy Fs.Confirmed d operated = accepts
-answerBy Fs.Time d operated = refuses 1
-answerBy Fs.Malformed d operated = refuses 31
-answerBy Fs.NotConfirmed d operated = refuses 32
-answerBy Fs.OutputTooSmall d operated = refuses 33
+answerBy (Fs.Refused why) d operated = refuses (fragmentRefusalNumber why)
 
 -- what a call gives: the outstation that it leaves, the answer, the objects handed to the host
 pub record Answered : Type 0 where
@@ -57,10 +63,7 @@ abbrev pub sizeBy : FragmentAnswer → ℕ
 sizeBy (Fs.Answer n) = n
 sizeBy Fs.Silent = 0
 sizeBy Fs.Confirmed = 0
-sizeBy Fs.Time = 0
-sizeBy Fs.Malformed = 0
-sizeBy Fs.NotConfirmed = 0
-sizeBy Fs.OutputTooSmall = 0
+sizeBy (Fs.Refused why) = 0
 
 abbrev pub sizeIn : Answer → ℕ
 sizeIn (took taken n) = 0

@@ -15,6 +15,7 @@ ghost use Rattle.outstation.specs.Step.{indicationsOf};
 ghost use Rattle.event_store.specs.EventWords.{bufferViewIn};
 ghost use Rattle.words.specs.Numbers.{holds};
 ghost use Rattle.fragments.specs.FragmentMeets.{
+  fragmentRefusalNumber,
   lastLengths,
   contextIn,
   conBy,
@@ -49,6 +50,18 @@ use point_store::BINARY_WORDS;
 use point_store::Installed;
 use select_latch::Latch;
 
+// Why a fragment is refused.
+pub enum FragmentRefusal {
+    // 1: time at or above 2^48, or before the last accepted call's.
+    Time,
+    // 31: under 2 or over 2,048 bytes; FIR, FIN or CON wrong; UNS outside CONFIRM; function 128 or more; CONFIRM not 2 bytes.
+    Malformed,
+    // 32: CONFIRM not accepted.
+    NotConfirmed,
+    // 33: under 2,048 lent bytes.
+    OutputTooSmall,
+}
+
 // What a fragment comes to.
 pub enum FragmentAnswer {
     // The answer is the first so many lent bytes.
@@ -57,14 +70,7 @@ pub enum FragmentAnswer {
     Silent,
     // A CONFIRM was accepted.
     Confirmed,
-    // 1: time at or above 2^48, or before the last accepted call's.
-    Time,
-    // 31: no fragment that the outstation takes.
-    Malformed,
-    // 32: CONFIRM not accepted.
-    NotConfirmed,
-    // 33: under 2,048 lent bytes.
-    OutputTooSmall,
+    Refused(FragmentRefusal),
 }
 
 // The head after the call, the answer, and the objects handed to the host to be carried out, in the order asked.
@@ -80,10 +86,23 @@ pub struct ResponseFlags {
     pub con: bool,
 }
 
-// A refused fragment leaves everything as it was.
-fn refuse(h: Head, a: FragmentAnswer) -> FragmentResult
-    ensures { λ r. ⌜ (r .head ≡ h) × (r .answer ≡ a) × Holding (r .operated) [] ⌝ }
+// Document 01's number of a refusal.
+pub fn refusal_number(why: FragmentRefusal) -> u8
+    ensures { λ r. ⌜ r ≡ fragmentRefusalNumber why ⌝ }
 {
+    match why {
+        FragmentRefusal::Time => 1,
+        FragmentRefusal::Malformed => 31,
+        FragmentRefusal::NotConfirmed => 32,
+        FragmentRefusal::OutputTooSmall => 33,
+    }
+}
+
+// A refused fragment leaves everything as it was.
+fn refuse(h: Head, why: FragmentRefusal) -> FragmentResult
+    ensures { λ r. ⌜ (r .head ≡ h) × (r .answer ≡ FragmentAnswer.Refused why) × Holding (r .operated) [] ⌝ }
+{
+    let a = FragmentAnswer::Refused(why);
     let none = control::none();
     FragmentResult {
         head: h,
@@ -135,7 +154,7 @@ fn take_confirm(
     let c = effects::confirm(h.confirm_time, outstation::wait_of(h), q, uns, time);
     match c {
         Confirmation::Refused => {
-            return refuse(h, FragmentAnswer::NotConfirmed);
+            return refuse(h, FragmentRefusal::NotConfirmed);
         }
         Confirmation::Accepted {
             showed_overflow,
@@ -473,14 +492,14 @@ pub fn fragment(
         (now (out .entry)) (now (out .exit)) ⌝ }
 {
     if outstation::bad_time(h.clock, time) {
-        return refuse(h, FragmentAnswer::Time);
+        return refuse(h, FragmentRefusal::Time);
     }
     if out.len() < FRAGMENT_MAX {
-        return refuse(h, FragmentAnswer::OutputTooSmall);
+        return refuse(h, FragmentRefusal::OutputTooSmall);
     }
     let kind = application::classify(f);
     match kind {
-        Fragment::Malformed => refuse(h, FragmentAnswer::Malformed),
+        Fragment::Malformed => refuse(h, FragmentRefusal::Malformed),
         Fragment::Confirm {
             sequence,
             unsolicited,

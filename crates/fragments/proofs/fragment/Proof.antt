@@ -1,6 +1,6 @@
 -- `fragments::fragment` meets its contract.
 -- Assumes nothing.
-use mathlib.Core.Path.{_≡_, refl, sym, _∙_}
+use mathlib.Core.Path.{_≡_, sym, _∙_}
 use mathlib.Core.Bool.{false}
 use borrow.Author.Tests.{lt-ltb, le-ltb}
 use lib.Dec.{ltb}
@@ -8,7 +8,7 @@ use lib.ListN.{length}
 use Rattle.laws.specs.Limits.{fragmentMax}
 use Rattle.outstation.specs.Readings.{badTime}
 use Rattle.outstation.specs.OutstationView.{OutstationView}
-use Rattle.fragments.specs.declared.FragmentAnswer.the-variants as Fs
+use Rattle.fragments.specs.declared.FragmentRefusal.the-variants as R
 use Rattle.fragments.proofs.AskLaws.{request-sized, fragment-late, fragment-small, fragment-malformed, fragment-confirm, fragment-request}
 use Rattle.outstation.specs.Lent.{Lent, Outstation, viewOf}
 use Rattle.fragments.specs.FragmentMeets.{FragmentMeets, answeredBy}
@@ -53,7 +53,7 @@ returns c =
     fragment-late (was s) (a .time) (a .f .now) (length (a .out .now)) (FragmentMeets (unit s) (answeredBy (c .refuse .result) (mem s)) (a .out .now) (a .out .now))
     (sym (c .before .before .bad-time .ensures) ∙ c .before .if1 .taken)
     (given-in (a .h) (mem s) (mem s) (c .refuse .result) (a .out .now) (a .out .now) _
-    (refused-in (c .refuse .result) (a .h) Fs.Time 1 (c .refuse .ensures .0) (c .refuse .ensures .1) (c .refuse .ensures .2) (λ d x. refl) refl (mem s) (a .out .now)))
+    (refused-in (c .refuse .result) (a .h) R.Time (c .refuse .ensures .0) (c .refuse .ensures .1) (c .refuse .ensures .2) (mem s) (a .out .now)))
 
 refuse-requires-2 : tie.Need-refuse-requires-2
 refuse-requires-2 c κs = search needs
@@ -65,7 +65,7 @@ returns-2 c =
     fragment-small (was s) (a .time) (a .f .now) (length (a .out .now)) (FragmentMeets (unit s) (answeredBy (c .refuse2 .result) (mem s)) (a .out .now) (a .out .now))
     (sym (c .before .before .before .bad-time .ensures) ∙ c .before .before .if1 .left) (lt-ltb _ _ (c .before .if2 .taken))
     (given-in (a .h) (mem s) (mem s) (c .refuse2 .result) (a .out .now) (a .out .now) _
-    (refused-in (c .refuse2 .result) (a .h) Fs.OutputTooSmall 33 (c .refuse2 .ensures .0) (c .refuse2 .ensures .1) (c .refuse2 .ensures .2) (λ d x. refl) refl (mem s) (a .out .now)))
+    (refused-in (c .refuse2 .result) (a .h) R.OutputTooSmall (c .refuse2 .ensures .0) (c .refuse2 .ensures .1) (c .refuse2 .ensures .2) (mem s) (a .out .now)))
 
 classify-requires : tie.Need-classify-requires
 classify-requires c κs = search needs
@@ -100,7 +100,7 @@ returns-3 c =
     fragment-malformed (was s) (a .time) (a .f .now) (length (a .out .now)) (FragmentMeets (unit s) (answeredBy (c .refuse3 .result) (mem s)) (a .out .now) (a .out .now))
     (in-time cl) (roomy cl) (cl .classify .result) (cl .classify .ensures) (c .before .enum-told .given .1)
     (given-in (a .h) (mem s) (mem s) (c .refuse3 .result) (a .out .now) (a .out .now) _
-    (refused-in (c .refuse3 .result) (a .h) Fs.Malformed 31 (c .refuse3 .ensures .0) (c .refuse3 .ensures .1) (c .refuse3 .ensures .2) (λ d x. refl) refl (mem s) (a .out .now)))
+    (refused-in (c .refuse3 .result) (a .h) R.Malformed (c .refuse3 .ensures .0) (c .refuse3 .ensures .1) (c .refuse3 .ensures .2) (mem s) (a .out .now)))
 
 returns-4 : tie.Need-returns-4
 returns-4 c =

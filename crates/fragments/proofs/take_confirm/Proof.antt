@@ -1,7 +1,6 @@
 -- `fragments::take_confirm` meets its contract.
 -- Assumes nothing.
-use mathlib.Core.Path.{refl}
-use Rattle.fragments.specs.declared.FragmentAnswer.the-variants as Fs
+use Rattle.fragments.specs.declared.FragmentRefusal.the-variants as R
 use Rattle.effects.specs.declared.Confirmation.the-variants as Cs
 use Rattle.fragments.specs.FragmentMeets.{withHeld}
 use Rattle.fragments.proofs.PartLaws.{refused-in, confirm-in}
@@ -27,7 +26,7 @@ returns c =
     let a = r .before .before .args in
     confirm-in (a .h) (a .held .now) (a .q .0) (a .uns) (a .time) _ (r .confirm .result) Cs.Refused (r .before .wait-of .ensures) (r .confirm .ensures)
     (c .before .enum-told .given .1) (c .refuse .result) (a .held .now)
-    (λ m out. refused-in (c .refuse .result) (a .h) Fs.NotConfirmed 32 (c .refuse .ensures .0) (c .refuse .ensures .1) (c .refuse .ensures .2) (λ d x. refl) refl (withHeld (a .held .now) m) out)
+    (λ m out. refused-in (c .refuse .result) (a .h) R.NotConfirmed (c .refuse .ensures .0) (c .refuse .ensures .1) (c .refuse .ensures .2) (withHeld (a .held .now) m) out)
 
 enum-known-c : tie.Need-enum-known-c
 enum-known-c c = search needs
