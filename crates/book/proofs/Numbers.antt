@@ -14,7 +14,7 @@ use Rattle.events.specs.declared.Event.{Event}
 use Rattle.outstation.specs.Setup.{Setup}
 use Rattle.outstation.specs.Step.{Call}
 use Rattle.book.specs.Book as B
-use Rattle.book.specs.Book.{Book, Row, rowHeld, Wait, idle, awaiting, picks, release}
+use Rattle.book.specs.Book.{Book, Row, rowHeld, BookWait, idle, awaiting, picks, release}
 use Rattle.book.specs.Book.{hold!, drop!, built!, confirmed!, HistoryEntry}
 use Rattle.book.specs.Demand3.{rowsOf, without, heldAfter}
 use Rattle.laws.proofs.Choices.{by, both, cond-eq}
@@ -81,11 +81,11 @@ sound-hold i later earlier s = sound-back later (hold! i ∷ earlier) s .0
 
 -- ---- kept by every call
 
-abbrev Awaited : Wait → List HistoryEntry → Type 0
+abbrev Awaited : BookWait → List HistoryEntry → Type 0
 Awaited idle h = Unit {0}
 Awaited (awaiting q t ws n k) h = rowsOf k h ≡ ws
 
-pub record Numbered (w : Wait) (rows : List Row) (h : List HistoryEntry) : Type 0 where
+pub record Numbered (w : BookWait) (rows : List Row) (h : List HistoryEntry) : Type 0 where
   holds : heldAfter h ≡ numbersFrom 0 rows
   most : count rowHeld rows ≤ eventsMax
   pub sound : Sound h
@@ -93,10 +93,10 @@ pub record Numbered (w : Wait) (rows : List Row) (h : List HistoryEntry) : Type 
 
 module _ (rows : List Row) (h : List HistoryEntry) where
   -- how many the history has
-  counted : (w : Wait) → Numbered w rows h → length (heldAfter h) ≡ count rowHeld rows
+  counted : (w : BookWait) → Numbered w rows h → length (heldAfter h) ≡ count rowHeld rows
   counted w k = ap length (k .holds) ∙ length-numbers 0 rows
 
-  numbered-held : (w : Wait) (e : Event) → ltb (count rowHeld rows) eventsMax ≡ true → Numbered w rows h
+  numbered-held : (w : BookWait) (e : Event) → ltb (count rowHeld rows) eventsMax ≡ true → Numbered w rows h
       → Numbered w (rows ++ (heldRow e ∷ [])) (hold! (length rows) ∷ h)
   numbered-held w e f k =
       let c = counted w k in
@@ -114,7 +114,7 @@ module _ (rows : List Row) (h : List HistoryEntry) where
         awaited = elim w as (λ v. Awaited v h → Awaited v (hold! (length rows) ∷ h)) [ idle ↦ λ a. tt | awaiting q t ws n j ↦ λ a. a ] (k .awaited);
       }
 
-  numbered-drop : (w : Wait) (e : Event) → ltb (count rowHeld rows) eventsMax ≡ false → Numbered w rows h
+  numbered-drop : (w : BookWait) (e : Event) → ltb (count rowHeld rows) eventsMax ≡ false → Numbered w rows h
       → Numbered w (rows ++ (droppedRow e ∷ [])) (drop! (length rows) ∷ h)
   numbered-drop w e f k =
       let c = counted w k in
@@ -131,13 +131,13 @@ module _ (rows : List Row) (h : List HistoryEntry) where
         awaited = elim w as (λ v. Awaited v h → Awaited v (drop! (length rows) ∷ h)) [ idle ↦ λ a. tt | awaiting q t ws n j ↦ λ a. a ] (k .awaited);
       }
 
-  numbered-idle : (w : Wait) → Numbered w rows h → Numbered idle rows h
+  numbered-idle : (w : BookWait) → Numbered w rows h → Numbered idle rows h
   numbered-idle w k = record { holds = k .holds; most = k .most; sound = k .sound; awaited = tt }
 
-  numbered-built : (w : Wait) (number : ℕ) (ws : List ℕ) → Numbered w rows h → Numbered idle rows (built! number ws ∷ h)
+  numbered-built : (w : BookWait) (number : ℕ) (ws : List ℕ) → Numbered w rows h → Numbered idle rows (built! number ws ∷ h)
   numbered-built w number ws k = record { holds = k .holds; most = k .most; sound = k .sound; awaited = tt }
 
-  numbered-awaiting : (w : Wait) (q t number : ℕ) (ws : List ℕ) (n : ℕ) → Numbered w rows h → Numbered (awaiting q t ws n number) rows (built! number ws ∷ h)
+  numbered-awaiting : (w : BookWait) (q t number : ℕ) (ws : List ℕ) (n : ℕ) → Numbered w rows h → Numbered (awaiting q t ws n number) rows (built! number ws ∷ h)
   numbered-awaiting w q t number ws n k =
       record { holds = k .holds; most = k .most; sound = k .sound; awaited = rw (eq-eqb number number refl) }
 
@@ -152,7 +152,7 @@ module _ (rows : List Row) (h : List HistoryEntry) where
       }
 
 -- K with the warning and the number of responses, which this does not depend on
-abbrev NumberedOf : Wait → List Row → Bool → ℕ → List HistoryEntry → Type 0
+abbrev NumberedOf : BookWait → List Row → Bool → ℕ → List HistoryEntry → Type 0
 NumberedOf w rows warning built h = Numbered w rows h
 
 numbered-steps : Steps NumberedOf

@@ -15,7 +15,7 @@ use Rattle.events.specs.declared.Event.{Event}
 use Rattle.outstation.specs.Setup.{Setup}
 use Rattle.outstation.specs.Step.{Call}
 use Rattle.book.specs.Book as B
-use Rattle.book.specs.Book.{Book, Row, HistoryEntry, hold!, drop!, built!, confirmed!, dropSince, picks, release, idle, awaiting, Wait}
+use Rattle.book.specs.Book.{Book, Row, HistoryEntry, hold!, drop!, built!, confirmed!, dropSince, picks, release, idle, awaiting, BookWait}
 use Rattle.book.specs.Demand3.{Has, Pending}
 use Rattle.laws.proofs.Choices.{by}
 use Rattle.book.proofs.Walk.{Steps, enter-on}
@@ -44,11 +44,11 @@ record Awaits (rows : List Row) (n k built : ℕ) (h : List HistoryEntry) : Type
   before : dropSince n rows ≡ true → Before k h
   quiet : dropSince n rows ≡ false → Quiet k h
 
-abbrev Awaited : Wait → List Row → ℕ → List HistoryEntry → Type 0
+abbrev Awaited : BookWait → List Row → ℕ → List HistoryEntry → Type 0
 Awaited idle rows built h = Unit {0}
 Awaited (awaiting q t ws n k) rows built h = Awaits rows n k built h
 
-pub record Kept (w : Wait) (rows : List Row) (warning : Bool) (built : ℕ) (h : List HistoryEntry) : Type 0 where
+pub record Kept (w : BookWait) (rows : List Row) (warning : Bool) (built : ℕ) (h : List HistoryEntry) : Type 0 where
   pub warned : warning ≡ true → Pending h
   pub clear : warning ≡ false → Pending h → ⊥
   pub numbers : (k : ℕ) → Has (confirmed! k) h → k < built
@@ -147,7 +147,7 @@ confirmed-built : (k j : ℕ) (ws : List ℕ) → confirmed! k ≡ built! j ws �
 confirmed-built k j ws e = let z : _≡_ {A = ℕ} 0 1 = cc in omega arith
 
 module _ (rows : List Row) (warning : Bool) (built : ℕ) (h : List HistoryEntry) where
-  awaited-held : (w : Wait) (e : Event) (i : ℕ) → Awaited w rows built h → Awaited w (rows ++ (heldRow e ∷ [])) built (hold! i ∷ h)
+  awaited-held : (w : BookWait) (e : Event) (i : ℕ) → Awaited w rows built h → Awaited w (rows ++ (heldRow e ∷ [])) built (hold! i ∷ h)
   awaited-held idle e i a = tt
   awaited-held (awaiting q t ws n k) e i a =
       record {
@@ -157,7 +157,7 @@ module _ (rows : List Row) (warning : Bool) (built : ℕ) (h : List HistoryEntry
         quiet = rw (since-held n rows e (a .from)) (λ d. quiet-hold k i h (a .quiet d));
       }
 
-  awaited-drop : (w : Wait) (e : Event) (r : ℕ) → Awaited w rows built h → Awaited w (rows ++ (droppedRow e ∷ [])) built (drop! r ∷ h)
+  awaited-drop : (w : BookWait) (e : Event) (r : ℕ) → Awaited w rows built h → Awaited w (rows ++ (droppedRow e ∷ [])) built (drop! r ∷ h)
   awaited-drop idle e r a = tt
   awaited-drop (awaiting q t ws n k) e r a =
       record {
@@ -167,7 +167,7 @@ module _ (rows : List Row) (warning : Bool) (built : ℕ) (h : List HistoryEntry
         quiet = λ f. absurd (let g : true ≡ false = sym (since-dropped n rows e (a .from)) ∙ f in let z : _≡_ {A = ℕ} 0 1 = cc in omega arith);
       }
 
-  kept-held : (w : Wait) (e : Event) (i : ℕ) → Kept w rows warning built h → Kept w (rows ++ (heldRow e ∷ [])) warning built (hold! i ∷ h)
+  kept-held : (w : BookWait) (e : Event) (i : ℕ) → Kept w rows warning built h → Kept w (rows ++ (heldRow e ∷ [])) warning built (hold! i ∷ h)
   kept-held w e i k =
       record {
         warned = λ t. let p = k .warned t in
@@ -181,7 +181,7 @@ module _ (rows : List Row) (warning : Bool) (built : ℕ) (h : List HistoryEntry
         awaited = awaited-held w e i (k .awaited);
       }
 
-  kept-drop : (w : Wait) (e : Event) (r : ℕ) → Kept w rows warning built h → Kept w (rows ++ (droppedRow e ∷ [])) true built (drop! r ∷ h)
+  kept-drop : (w : BookWait) (e : Event) (r : ℕ) → Kept w rows warning built h → Kept w (rows ++ (droppedRow e ∷ [])) true built (drop! r ∷ h)
   kept-drop w e r k =
       record {
         warned = λ _. pending-drop r h;
@@ -190,11 +190,11 @@ module _ (rows : List Row) (warning : Bool) (built : ℕ) (h : List HistoryEntry
         awaited = awaited-drop w e r (k .awaited);
       }
 
-  kept-idle : (w : Wait) → Kept w rows warning built h → Kept idle rows warning built h
+  kept-idle : (w : BookWait) → Kept w rows warning built h → Kept idle rows warning built h
   kept-idle w k = record { warned = k .warned; clear = k .clear; numbers = k .numbers; awaited = tt }
 
   -- a newly built response, which awaits no confirmation
-  kept-built : (w : Wait) (ws : List ℕ) → Kept w rows warning built h → Kept idle rows warning (suc built) (built! built ws ∷ h)
+  kept-built : (w : BookWait) (ws : List ℕ) → Kept w rows warning built h → Kept idle rows warning (suc built) (built! built ws ∷ h)
   kept-built w ws k =
       record {
         warned = λ t. let p = k .warned t in

@@ -18,7 +18,7 @@ use Rattle.events.specs.Placing.{isAsked, fits, spaceAfter}
 use Rattle.outstation.specs.Setup.{Setup}
 use Rattle.outstation.specs.Step.{Call}
 use Rattle.book.specs.Book as B
-use Rattle.book.specs.Book.{Book, Row, Mark, held, released, dropped, isHeld, rowHeld, Wait, idle, awaiting, picks, release}
+use Rattle.book.specs.Book.{Book, Row, Mark, held, released, dropped, isHeld, rowHeld, BookWait, idle, awaiting, picks, release}
 use Rattle.book.specs.Book.{hold!, drop!, built!, confirmed!, HistoryEntry}
 use Rattle.book.specs.Demand3.{Has, noRow, markAt, DroppedAt, HeldAt, ReleasedBy, Placed}
 use Rattle.laws.proofs.Choices.{by}
@@ -80,11 +80,11 @@ record Awaits (rows : List Row) (ws : List ℕ) (k : ℕ) (h : List HistoryEntry
   below : (i : ℕ) → member i ws ≡ true → i < length rows
   holds : (i : ℕ) → member i ws ≡ true → markAt rows i ≡ held
 
-abbrev Awaited : Wait → List Row → List HistoryEntry → Type 0
+abbrev Awaited : BookWait → List Row → List HistoryEntry → Type 0
 Awaited idle rows h = Unit {0}
 Awaited (awaiting q t ws n k) rows h = Awaits rows ws k h
 
-pub record Placing (w : Wait) (rows : List Row) (built : ℕ) (h : List HistoryEntry) : Type 0 where
+pub record Placing (w : BookWait) (rows : List Row) (built : ℕ) (h : List HistoryEntry) : Type 0 where
   dropAt : (i : ℕ) → i < length rows → markAt rows i ≡ dropped → Has (drop! i) h
   dropOf : (i : ℕ) → Has (drop! i) h → (i < length rows) × (markAt rows i ≡ dropped)
   releaseAt : (i : ℕ) → i < length rows → markAt rows i ≡ released → ReleasedBy h i
@@ -149,7 +149,7 @@ len rows r = length-append rows (r ∷ [])
 
 module _ (rows : List Row) (built : ℕ) (h : List HistoryEntry) where
   -- one more row, and a newest entry that built no response
-  awaited-snoc : (w : Wait) (r : Row) (x : HistoryEntry) → ((k : ℕ) (ws : List ℕ) → built! k ws ≡ x → ⊥) → Awaited w rows h
+  awaited-snoc : (w : BookWait) (r : Row) (x : HistoryEntry) → ((k : ℕ) (ws : List ℕ) → built! k ws ≡ x → ⊥) → Awaited w rows h
       → Awaited w (rows ++ (r ∷ [])) (x ∷ h)
   awaited-snoc idle r x nb a = tt
   awaited-snoc (awaiting q t ws n k) r x nb a =
@@ -176,7 +176,7 @@ module _ (rows : List Row) (built : ℕ) (h : List HistoryEntry) where
           | inr a ↦ absurd (n (sym (mark-last rows r i a) ∙ e))
         ]
 
-  placing-held : (w : Wait) (e : Event) → Placing w rows built h → Placing w (rows ++ (heldRow e ∷ [])) built (hold! (length rows) ∷ h)
+  placing-held : (w : BookWait) (e : Event) → Placing w rows built h → Placing w (rows ++ (heldRow e ∷ [])) built (hold! (length rows) ∷ h)
   placing-held w e p =
       let x = hold! (length rows) in
       let r = heldRow e in
@@ -204,7 +204,7 @@ module _ (rows : List Row) (built : ℕ) (h : List HistoryEntry) where
         awaited = awaited-snoc w r x nb (p .awaited);
       }
 
-  placing-drop : (w : Wait) (e : Event) → Placing w rows built h → Placing w (rows ++ (droppedRow e ∷ [])) built (drop! (length rows) ∷ h)
+  placing-drop : (w : BookWait) (e : Event) → Placing w rows built h → Placing w (rows ++ (droppedRow e ∷ [])) built (drop! (length rows) ∷ h)
   placing-drop w e p =
       let x = drop! (length rows) in
       let r = droppedRow e in
@@ -232,7 +232,7 @@ module _ (rows : List Row) (built : ℕ) (h : List HistoryEntry) where
         awaited = awaited-snoc w r x nb (p .awaited);
       }
 
-  placing-idle : (w : Wait) → Placing w rows built h → Placing idle rows built h
+  placing-idle : (w : BookWait) → Placing w rows built h → Placing idle rows built h
   placing-idle w p =
       record {
         dropAt = p .dropAt;
@@ -247,7 +247,7 @@ module _ (rows : List Row) (built : ℕ) (h : List HistoryEntry) where
       }
 
   -- a newly built response
-  placing-built : (w : Wait) (ws : List ℕ) → Placing w rows built h → Placing idle rows (suc built) (built! built ws ∷ h)
+  placing-built : (w : BookWait) (ws : List ℕ) → Placing w rows built h → Placing idle rows (suc built) (built! built ws ∷ h)
   placing-built w ws p =
       let x = built! built ws in
       let nc : (k : ℕ) → confirmed! k ≡ x → ⊥ = λ k q. (let y : _≡_ {A = ℕ} 0 1 = cc in omega arith) in
@@ -269,7 +269,7 @@ module _ (rows : List Row) (built : ℕ) (h : List HistoryEntry) where
       }
 
   -- one that awaits its confirmation
-  placing-awaiting : (w : Wait) (q t : ℕ) (ws : List ℕ) (n : ℕ) → ((i : ℕ) → member i ws ≡ true → i < length rows)
+  placing-awaiting : (w : BookWait) (q t : ℕ) (ws : List ℕ) (n : ℕ) → ((i : ℕ) → member i ws ≡ true → i < length rows)
       → ((i : ℕ) → member i ws ≡ true → markAt rows i ≡ held)
       → Placing w rows built h → Placing (awaiting q t ws n built) rows (suc built) (built! built ws ∷ h)
   placing-awaiting w q t ws n below holds p =
@@ -376,7 +376,7 @@ module _ (rows : List Row) (built : ℕ) (h : List HistoryEntry) (q t : ℕ) (ws
       }
 
 -- K with the warning, which the places do not depend on
-abbrev PlacingOf : Wait → List Row → Bool → ℕ → List HistoryEntry → Type 0
+abbrev PlacingOf : BookWait → List Row → Bool → ℕ → List HistoryEntry → Type 0
 PlacingOf w rows warning built h = Placing w rows built h
 
 placing-steps : Steps PlacingOf
@@ -431,7 +431,7 @@ else-held held d r = refl
 else-held released d r = absurd (r refl)
 else-held dropped d r = absurd (d refl)
 
-module _ (w : Wait) (rows : List Row) (built : ℕ) (h : List HistoryEntry) (p : Placing w rows built h) (s : Sound h) (i : ℕ) (l : i < length rows) where
+module _ (w : BookWait) (rows : List Row) (built : ℕ) (h : List HistoryEntry) (p : Placing w rows built h) (s : Sound h) (i : ℕ) (l : i < length rows) where
   dropped-at : markAt rows i ≡ dropped → DroppedAt h i
   dropped-at m =
       let f = found (drop! i) h (p .dropAt i l m) in

@@ -55,15 +55,15 @@ pub record Extra : Type 0 where
   pub latch : LatchView
   pub shown : Bool
 
-abbrev pub waitRows : B.Wait → List ℕ
+abbrev pub waitRows : B.BookWait → List ℕ
 waitRows B.idle = []
 waitRows (B.awaiting q t ws n k) = ws
 
-abbrev pub waitFrom : B.Wait → ℕ
+abbrev pub waitFrom : B.BookWait → ℕ
 waitFrom B.idle = 0
 waitFrom (B.awaiting q t ws n k) = n
 
-abbrev pub waitView : Bool → List Row → B.Wait → D.Wait
+abbrev pub waitView : Bool → List Row → B.BookWait → D.Wait
 waitView shown rows B.idle = Idle
 waitView shown rows (B.awaiting q t ws n k) = Awaiting (record { 0 = q }) t shown (dropSince n rows)
 
@@ -92,7 +92,7 @@ view b x =
     }
 
 -- the wait's numbers are rows of the book; a response that did not show IIN2.3 was built when there was no warning
-pub record Inv (w : B.Wait) (rows : List Row) (warning shown : Bool) : Type 0 where
+pub record Inv (w : B.BookWait) (rows : List Row) (warning shown : Bool) : Type 0 where
   pub below : (j : ℕ) → member j (waitRows w) ≡ true → j < length rows
   pub from : waitFrom w ≤ length rows
   pub quiet : shown ≡ false → dropSince (waitFrom w) rows ≡ false → warning ≡ false
@@ -120,17 +120,17 @@ pub record Match (h : List HistoryEntry) (last : Answer) (r : Result) (e : Entry
 
 -- ---- an event raised
 
-wait-held : (shown : Bool) (rows : List Row) (w : B.Wait) (e : Event) → waitFrom w ≤ length rows
+wait-held : (shown : Bool) (rows : List Row) (w : B.BookWait) (e : Event) → waitFrom w ≤ length rows
     → waitView shown (rows ++ (heldRow e ∷ [])) w ≡ waitView shown rows w
 wait-held shown rows B.idle e h = refl
 wait-held shown rows (B.awaiting q t ws n k) e h = rw since-held
 
-wait-dropped : (shown : Bool) (rows : List Row) (w : B.Wait) (e : Event) → waitFrom w ≤ length rows
+wait-dropped : (shown : Bool) (rows : List Row) (w : B.BookWait) (e : Event) → waitFrom w ≤ length rows
     → waitView shown (rows ++ (droppedRow e ∷ [])) w ≡ S.noted (waitView shown rows w)
 wait-dropped shown rows B.idle e h = refl
 wait-dropped shown rows (B.awaiting q t ws n k) e h = rw since-dropped
 
-module _ (w : B.Wait) (rows : List Row) (warning shown : Bool) (i : Inv w rows warning shown) (e : Event) where
+module _ (w : B.BookWait) (rows : List Row) (warning shown : Bool) (i : Inv w rows warning shown) (e : Event) where
   fresh-row : member (length rows) (waitRows w) ≡ false
   fresh-row = by (member (length rows) (waitRows w)) (λ h. let z : ⊥ = omega (arith, i .below (length rows) h) in absurd z) (λ h. h)
 
@@ -216,11 +216,11 @@ idle-inv : (rows : List Row) (warning : Bool) → Inv B.idle rows warning true
 idle-inv rows warning = record { below = λ j h. let z : _≡_ {A = ℕ} 0 1 = cc in omega arith; from = omega arith; quiet = λ h d. cc }
 
 -- the book that a new request leaves
-abbrev afterRequest : Book → ℕ → List ℕ → B.Wait → ℕ → Book
+abbrev afterRequest : Book → ℕ → List ℕ → B.BookWait → ℕ → Book
 afterRequest b time f wait built = B.atTime time (B.withMaster (B.withWait wait (B.withRequest f built (b .master))) b)
 
 -- the outstation that it leaves, by what it does to the held events and the wait, and its answer a
-after-request-ok : (b : Book) (x : Extra) (time : ℕ) (f answer : List ℕ) (a : Answer) (d : RequestEffect) (wait : B.Wait) (built : ℕ) (shown : Bool)
+after-request-ok : (b : Book) (x : Extra) (time : ℕ) (f answer : List ℕ) (a : Answer) (d : RequestEffect) (wait : B.BookWait) (built : ℕ) (shown : Bool)
     → d .buffer ≡ record { held = collect (waitRows wait) 0 (b .master .rows); overflow = b .master .warning } → d .wait ≡ waitView shown (b .master .rows) wait
     → Inv wait (b .master .rows) (b .master .warning) shown → Stored (kept f answer) a
     → Sim (S.afterRequest (view b x) time f answer d) (afterRequest b time f wait built) a
@@ -278,7 +278,7 @@ module _ (q time : ℕ) (hs : List Header) (b : Book) (x : Extra) where
   abbrev effect : RequestEffect
   effect = S.readEffect (view b x) q time hs
 
-  abbrev newWait : B.Wait
+  abbrev newWait : B.BookWait
   newWait = B.readWait b q time hs
 
   unmarked : map (marked false) (collect (waitRows (b .master .wait)) 0 (b .master .rows)) ≡ collect [] 0 (b .master .rows)
@@ -402,7 +402,7 @@ module _ (h : List HistoryEntry) (last : Answer) where
         agrees = refl;
       }
 
-  confirm-ok : (q : ℕ) (uns : Bool) (time : ℕ) (b : Book) (x : Extra) (w : B.Wait) → b .master .wait ≡ w → Fits b x last
+  confirm-ok : (q : ℕ) (uns : Bool) (time : ℕ) (b : Book) (x : Extra) (w : B.BookWait) → b .master .wait ≡ w → Fits b x last
       → Match h last (S.confirmStep (view b x) (waitView (x .shown) (b .master .rows) w) q uns time) (B.confirmEntry b w q uns time)
   unfolding S.confirmStep B.confirmEntry
   confirm-ok q uns time b x B.idle e i = refused-ok h last 32 b x i

@@ -21,24 +21,24 @@ use Rattle.read.specs.Response.{classesOf, roomBeside}
 use Rattle.outstation.specs.Requests.{Ask, malformed, confirms, reads, misreads, asks, ask, isConfirmed}
 use Rattle.outstation.specs.Step.{Call, reading, table, fragment, onEffect}
 use Rattle.book.specs.Book as B
-use Rattle.book.specs.Book.{Book, Row, Entry, BookAnswer, Wait, idle, awaiting, rowHeld, dropSince, picks, picked, release}
+use Rattle.book.specs.Book.{Book, Row, Entry, BookAnswer, BookWait, idle, awaiting, rowHeld, dropSince, picks, picked, release}
 use Rattle.book.specs.Book.{hold!, drop!, built!, confirmed!, HistoryEntry}
 use Rattle.laws.proofs.Choices.{by, split}
 use Rattle.book.proofs.Rows.{heldRow, droppedRow}
 
 -- what an invariant K of wait, rows, warning, number of responses built and history has to bear
-pub record Steps (K : Wait → List Row → Bool → ℕ → List HistoryEntry → Type 0) : Type 0 where
-  pub held : (w : Wait) (rows : List Row) (warning : Bool) (built : ℕ) (h : List HistoryEntry) (e : Event)
+pub record Steps (K : BookWait → List Row → Bool → ℕ → List HistoryEntry → Type 0) : Type 0 where
+  pub held : (w : BookWait) (rows : List Row) (warning : Bool) (built : ℕ) (h : List HistoryEntry) (e : Event)
       → ltb (count rowHeld rows) eventsMax ≡ true → K w rows warning built h
       → K w (rows ++ (heldRow e ∷ [])) warning built (hold! (length rows) ∷ h)
-  pub dropped : (w : Wait) (rows : List Row) (warning : Bool) (built : ℕ) (h : List HistoryEntry) (e : Event)
+  pub dropped : (w : BookWait) (rows : List Row) (warning : Bool) (built : ℕ) (h : List HistoryEntry) (e : Event)
       → ltb (count rowHeld rows) eventsMax ≡ false → K w rows warning built h
       → K w (rows ++ (droppedRow e ∷ [])) true built (drop! (length rows) ∷ h)
-  pub ended : (w : Wait) (rows : List Row) (warning : Bool) (built : ℕ) (h : List HistoryEntry) → K w rows warning built h
+  pub ended : (w : BookWait) (rows : List Row) (warning : Bool) (built : ℕ) (h : List HistoryEntry) → K w rows warning built h
       → K idle rows warning built h
-  pub built : (w : Wait) (rows : List Row) (warning : Bool) (built : ℕ) (h : List HistoryEntry) (ws : List ℕ) → K w rows warning built h
+  pub built : (w : BookWait) (rows : List Row) (warning : Bool) (built : ℕ) (h : List HistoryEntry) (ws : List ℕ) → K w rows warning built h
       → K idle rows warning (suc built) (built! built ws ∷ h)
-  pub awaited : (w : Wait) (rows : List Row) (warning : Bool) (built : ℕ) (h : List HistoryEntry) (q t : ℕ) (m : Classes) (k : Space)
+  pub awaited : (w : BookWait) (rows : List Row) (warning : Bool) (built : ℕ) (h : List HistoryEntry) (q t : ℕ) (m : Classes) (k : Space)
       → K w rows warning built h
       → K (awaiting q t (picks m k 0 rows) (length rows) built) rows warning (suc built) (built! built (picks m k 0 rows) ∷ h)
   pub isConfirmed : (rows : List Row) (warning : Bool) (built : ℕ) (h : List HistoryEntry) (q t : ℕ) (ws : List ℕ) (n k : ℕ)
@@ -51,14 +51,14 @@ effect-of {ℓ} : {A : Type 0} (P : A → Type ℓ) (v : Outcome ReadingEffect) 
 effect-of P (accepted h) p q = p h
 effect-of P (refused n) p q = q n
 
-module _ (K : Wait → List Row → Bool → ℕ → List HistoryEntry → Type 0) where
+module _ (K : BookWait → List Row → Bool → ℕ → List HistoryEntry → Type 0) where
   abbrev pub On : Book → List HistoryEntry → Type 0
   On b h = K (b .master .wait) (b .master .rows) (b .master .warning) (b .master .built) h
 
   abbrev pub OnEntry : List HistoryEntry → Entry → Type 0
   OnEntry h e = On (e .book) (e .entries ++ h)
 
-module _ (K : Wait → List Row → Bool → ℕ → List HistoryEntry → Type 0) (S : Steps K) where
+module _ (K : BookWait → List Row → Bool → ℕ → List HistoryEntry → Type 0) (S : Steps K) where
   effect-on : (r : Reading) (x : ReadingEffect) (b : Book) (h : List HistoryEntry) → On K b h → On K (B.enterReading b r x) (B.readingEntries (b .master) x ++ h)
   unfolding B.enterReading B.readingEntries B.enterEvent B.full
   effect-on r x b h k =
@@ -94,7 +94,7 @@ module _ (K : Wait → List Row → Bool → ℕ → List HistoryEntry → Type 
       (λ _. S .awaited (b .master .wait) (b .master .rows) (b .master .warning) (b .master .built) h q t (classesOf hs) (emptySpace (roomBeside (b .shared .inputs) hs)) k)
       (λ _. S .built (b .master .wait) (b .master .rows) (b .master .warning) (b .master .built) h (picked b hs) k)
 
-  confirm-on : (q : ℕ) (uns : Bool) (t : ℕ) (b : Book) (h : List HistoryEntry) (w : Wait) → b .master .wait ≡ w → On K b h
+  confirm-on : (q : ℕ) (uns : Bool) (t : ℕ) (b : Book) (h : List HistoryEntry) (w : BookWait) → b .master .wait ≡ w → On K b h
       → OnEntry K h (B.confirmEntry b w q uns t)
   unfolding B.confirmEntry B.confirmedEntry
   confirm-on q uns t b h idle e k = k

@@ -31,7 +31,7 @@ use Rattle.outstation.specs.Requests as Q
 use Rattle.outstation.specs.Step.{Call, table, fragment, Answer, took, answers, silent, accepts, refuses}
 use Rattle.outstation.specs.Contracts.{StepHolds}
 use Rattle.book.specs.Book as B
-use Rattle.book.specs.Book.{Book, Row, Mark, held, released, dropped, rowReleased, rowDropped, Wait, idle, awaiting, picks, release}
+use Rattle.book.specs.Book.{Book, Row, Mark, held, released, dropped, rowReleased, rowDropped, BookWait, idle, awaiting, picks, release}
 use Rattle.book.specs.Book.{dropSince, enter, bookOf}
 use Rattle.book.specs.Demand3.{overflowBit, bookAfter, Ran, none, more}
 use Rattle.book.proofs.Example.{oneBinary}
@@ -91,7 +91,7 @@ released-226 = refl
 
 -- ---- the book after each call
 
-abbrev bookAt : (clock : ℕ) → List Row → Wait → (warning : Bool) (last : List ℕ) (built : ℕ) → Book
+abbrev bookAt : (clock : ℕ) → List Row → BookWait → (warning : Bool) (last : List ℕ) (built : ℕ) → Book
 bookAt clock rows wait warning last built =
     record {
       shared = record { confirmTime = 5000; clock = clock; inputs = points };
@@ -107,7 +107,7 @@ module _ (rows : List Row) where
   abbrev picked : List ℕ
   picked = picks class1 (E.emptySpace 2044) 0 rows
 
-  book-read : (clock time q : ℕ) (f last : List ℕ) (wait : Wait) (built : ℕ) → R.badTime clock time ≡ false → Q.ask points f ≡ Q.reads q (eventsOf 1 ∷ [])
+  book-read : (clock time q : ℕ) (f last : List ℕ) (wait : BookWait) (built : ℕ) → R.badTime clock time ≡ false → Q.ask points f ≡ Q.reads q (eventsOf 1 ∷ [])
       → enter (fragment time f 2048) (bookAt clock rows wait true last built) .book
       ≡ bookAt time rows (awaiting q time picked (length rows) built) true f (suc built)
   unfolding B.enter B.fragmentEntry B.readEntry A.asksFor staticBytes rangeBytes pointObjects encoded runs allBytes

@@ -37,9 +37,9 @@ pub record Row : Type 0 where
 
 -- no wait; or one: the response's sequence and time, the numbers of the rows that it carries, how many rows there were, and its
 -- number among the responses newly built
-pub data Wait : Type 0 where
-  idle : Wait
-  awaiting : (sequence time : ℕ) (rows : List ℕ) (upto number : ℕ) → Wait
+pub data BookWait : Type 0 where
+  idle : BookWait
+  awaiting : (sequence time : ℕ) (rows : List ℕ) (upto number : ℕ) → BookWait
 
 -- what all masters share: the confirm time, the clock and the points
 pub record BookShared : Type 0 where
@@ -50,7 +50,7 @@ pub record BookShared : Type 0 where
 -- what belongs to one master; built: how many responses were newly built for it
 pub record BookMaster : Type 0 where
   pub rows : List Row
-  pub wait : Wait
+  pub wait : BookWait
   pub warning : Bool
   pub last : List ℕ
   pub built : ℕ
@@ -70,7 +70,7 @@ withInputs i s = record { confirmTime = s .confirmTime; clock = s .clock; inputs
 abbrev pub withRows : List Row → BookMaster → BookMaster
 withRows rows m = record { rows = rows; wait = m .wait; warning = m .warning; last = m .last; built = m .built }
 
-abbrev pub withWait : Wait → BookMaster → BookMaster
+abbrev pub withWait : BookWait → BookMaster → BookMaster
 withWait wait m = record { rows = m .rows; wait = wait; warning = m .warning; last = m .last; built = m .built }
 
 abbrev pub withWarning : Bool → BookMaster → BookMaster
@@ -203,7 +203,7 @@ abbrev pub picked : Book → List Header → List ℕ
 picked b hs = picks (classesOf hs) (emptySpace (roomBeside (b .shared .inputs) hs)) 0 (b .master .rows)
 
 -- CON is set where it carries a row or shows the warning
-abbrev pub readWait : Book → ℕ → ℕ → List Header → Wait
+abbrev pub readWait : Book → ℕ → ℕ → List Header → BookWait
 readWait b q time hs =
     cond (not (isNil (picked b hs)) || b .master .warning) (awaiting q time (picked b hs) (length (b .master .rows)) (b .master .built)) idle
 
@@ -259,7 +259,7 @@ confirmedEntry b time ws upto number =
       entries = confirmed! number ∷ [];
     }
 
-unfoldable pub confirmEntry : Book → Wait → ℕ → Bool → ℕ → Entry
+unfoldable pub confirmEntry : Book → BookWait → ℕ → Bool → ℕ → Entry
 confirmEntry b idle q uns time = refusedEntry 32 b
 confirmEntry b (awaiting awaited sent ws upto number) q uns time =
     cond (isConfirmed (b .shared .confirmTime) q uns time awaited sent) (confirmedEntry b time ws upto number) (refusedEntry 32 b)
