@@ -42,13 +42,13 @@ fn added(first: RestartProgress, n: usize, analogs: &mut [u32; ANALOG_WORDS]) ->
     let mut g = first;
     let mut left: usize = POINTS_MAX;
     while 0 < left {
-        if !restart::more(g, n) {
+        if !restart::analogs_left(g, n) {
             return g;
         }
         if POINTS_MAX <= g.at {
             return g;
         }
-        g = restart::added(g, analogs, a);
+        g = restart::add_analog(g, analogs, a);
         left -= 1;
     }
     g
@@ -72,8 +72,8 @@ fn fresh(n: u16, binaries: &mut [u32; BINARY_WORDS], analogs: &mut [u32; ANALOG_
     };
     let classes = [1u8; POINTS_MAX];
     let k = points_of(n);
-    let g = restart::begun(s, &classes[0..k], k, binaries);
-    let r = restart::answered(s, k, added(g, k, analogs));
+    let g = restart::begin_restart(s, &classes[0..k], k, binaries);
+    let r = restart::finish_restart(s, k, added(g, k, analogs));
     r.head
 }
 

@@ -32,7 +32,7 @@ pub fn setup(
     binaries: &mut [u32; BINARY_WORDS],
     analogs: &mut [u32; ANALOG_WORDS],
     setup: &mut [u8],
-    heard: &mut [u8],
+    gathered: &mut [u8],
     out: &mut [u8],
     at: usize,
 ) -> Unit {
@@ -51,7 +51,7 @@ pub fn setup(
             setup_len: 0,
         };
     }
-    answers::fill(heard);
+    answers::fill(gathered);
     let setup_len = kept(setup, w);
     let session = session::told(
         session::begun(u.session, t.setup.own, t.setup.master),
@@ -138,20 +138,20 @@ fn taken(
     analogs: &mut [u32; ANALOG_WORDS],
     held: &mut [u64; EVENT_WORDS],
 ) -> TableTook {
-    let mut t = tables::begun(h);
+    let mut t = tables::begin_table(h);
     let mut left: usize = RECORDS_MAX;
     while 0 < left {
-        if !tables::more(t, n) {
-            return tables::ended(h, t);
+        if !tables::readings_left(t, n) {
+            return tables::finish_table(h, t);
         }
         let i = t.taken;
         if i < RECORDS_MAX {
             let r = readings[i];
-            t = tables::took(t, binaries, analogs, held, r);
+            t = tables::take_next(t, binaries, analogs, held, r);
         }
         left -= 1;
     }
-    tables::ended(h, t)
+    tables::finish_table(h, t)
 }
 
 // table RECORD..

@@ -254,7 +254,7 @@ fn call(
     setup: &mut [u8; LINE_MAX],
     bytes: &mut [u8; BYTES_MAX],
     lent: &mut [u8; ROOM_MAX],
-    heard: &mut [u8; ROOM_MAX],
+    gathered: &mut [u8; ROOM_MAX],
     out: &mut [u8; OUT_MAX],
     at: usize,
 ) -> Unit {
@@ -279,11 +279,11 @@ fn call(
             at,
         ),
         Command::Held => calls::held(u, c, held, out, at),
-        Command::Setup => { calls::setup(u, w, c, binaries, analogs, setup, heard, out, at) }
+        Command::Setup => { calls::setup(u, w, c, binaries, analogs, setup, gathered, out, at) }
         Command::Restart => { calls::restart(u, c, binaries, analogs, setup, out, at) }
         Command::Line(l) => {
             let mut next = u;
-            next.session = lines::line_call(l, u.session, w, c, bytes, lent, heard, out, at);
+            next.session = lines::line_call(l, u.session, w, c, bytes, lent, gathered, out, at);
             next
         }
     }
@@ -301,7 +301,7 @@ fn serve(
     setup: &mut [u8; LINE_MAX],
     bytes: &mut [u8; BYTES_MAX],
     lent: &mut [u8; ROOM_MAX],
-    heard: &mut [u8; ROOM_MAX],
+    gathered: &mut [u8; ROOM_MAX],
     out: &mut [u8; OUT_MAX],
 ) {
     let mut u = unit::fresh();
@@ -335,7 +335,7 @@ fn serve(
             setup,
             bytes,
             lent,
-            heard,
+            gathered,
             out,
             p.at,
         );
@@ -360,7 +360,7 @@ fn main() {
     let mut setup = [0u8; LINE_MAX];
     let mut bytes = [0u8; BYTES_MAX];
     let mut lent = [0u8; ROOM_MAX];
-    let mut heard = [0u8; ROOM_MAX];
+    let mut gathered = [0u8; ROOM_MAX];
     let mut out = [0u8; OUT_MAX];
     serve(
         &mut t,
@@ -373,7 +373,7 @@ fn main() {
         &mut setup,
         &mut bytes,
         &mut lent,
-        &mut heard,
+        &mut gathered,
         &mut out,
     );
 }

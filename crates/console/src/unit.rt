@@ -15,7 +15,7 @@ pub struct Unit {
 // Until there is an outstation, the head of one without points and outputs stands in its place.
 pub fn fresh() -> Unit {
     let session = session::fresh();
-    let r = restart::answered(
+    let r = restart::finish_restart(
         SetupWords {
             arm_time: 0,
             confirm_time: 0,

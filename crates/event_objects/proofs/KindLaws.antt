@@ -13,7 +13,7 @@ use Rattle.laws.proofs.Loops.{slice-front}
 use Rattle.objects.specs.Runs.{lead}
 use Rattle.objects.proofs.RunLaws.{lead-nil, lead-same, lead-other}
 use Rattle.laws.specs.Limits.{eventsMax}
-use Rattle.laws.proofs.AllLoop.{map-take}
+use Rattle.laws.proofs.Filling.{map-take}
 use Rattle.events.specs.Placing.{kindOf}
 use Rattle.events.specs.BufferView.{noHeld}
 use Rattle.events.specs.declared.Held.{Held}

@@ -12,7 +12,7 @@ use Rattle.laws.specs.Limits.{eventsMax, fragmentMax}
 use Rattle.laws.specs.Lists.{some}
 use Rattle.octets.specs.Bytes.{splice}
 use Rattle.application.specs.declared.Fault.{Fault}
-use Rattle.application.specs.declared.Fault.the-variants.{Faultless, FunctionUnknown}
+use Rattle.application.specs.declared.Fault.the-variants.{Faultless}
 use Rattle.application.specs.declared.ApplicationSequence.{ApplicationSequence}
 use Rattle.application.specs.Fragment.{objectsOf}
 use Rattle.application.specs.Response.{responseOf, isFaultless}
@@ -25,14 +25,13 @@ use Rattle.static_objects.specs.Static.{askedOf}
 use Rattle.read.specs.Response.{bufferAfter, responseObjects, RepliedAs}
 use Rattle.control.specs.declared.Crobs.{Crobs}
 use Rattle.control.specs.Objects.{answerMax, listOf, Holding}
-use Rattle.select_latch.specs.declared.ControlFunction.the-variants.{Select, Operate, DirectOperate, DirectOperateNoResponse}
 use Rattle.select_latch.specs.declared.Latch.{Latch}
 use Rattle.select_latch.specs.Select.{noSelect, latchOf}
 use Rattle.last_request.specs.Repeat.{kept, lastIn, keptAnswer}
 use Rattle.outstation.specs.declared.Wait.{Wait}
 use Rattle.outstation.specs.declared.Wait.the-variants.{Idle, Awaiting}
 use Rattle.outstation.specs.OutstationView.{OutstationView}
-use Rattle.outstation.specs.Step.{Result, refusal, indicationsOf, confirmedStep, confirmStep, controlRequestEffect, writeEffect, plainEffect, effectBy}
+use Rattle.outstation.specs.Step.{Result, refusal, indicationsOf, confirmedStep, confirmStep, effectBy}
 use Rattle.effects.specs.declared.RequestEffect.{RequestEffect}
 use Rattle.effects.specs.declared.Confirmation.{Confirmation}
 use Rattle.fragments.specs.declared.FragmentRefusal.{FragmentRefusal}

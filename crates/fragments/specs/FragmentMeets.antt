@@ -2,10 +2,11 @@
 -- Assumes nothing.
 use Prim.Native.Nat.{ℕ, _≤_}
 use mathlib.Core.Path.{_≡_}
-use mathlib.Core.Bool.{Bool, false, cond, _&&_, _||_}
-use mathlib.Core.List.{List}
+use mathlib.Core.Bool.{Bool, _&&_, _||_}
+use mathlib.Core.List.{List, [], _∷_}
 use lib.Dec.{eqb}
 use lib.ListN.{length, take}
+use Rattle.laws.specs.First.{first, _⇒_}
 use Rattle.laws.specs.Limits.{fragmentMax}
 use Rattle.points.specs.PointsView.{PointsView}
 use Rattle.events.specs.BufferView.{BufferView}
@@ -121,9 +122,11 @@ readEffectBy w q time (fault f) = plainEffect w f (w .master .session .restarted
 -- a request by its function: a READ, a repeat, or another
 abbrev pub requestBy : OutstationView → ℕ → ℕ → ℕ → List ℕ → Result
 requestBy w q function time f =
-    cond (eqb function 1) (readStep w q time f (readEffectBy w q time (askedOf (w .shared .inputs) (objectsOf f))))
-    (cond (isRepeat (w .master .session .last) f) (repeatStep w function time)
-    (requestStep w q function time f (effectBy w q function time (objectsOf f))))
+    first
+    (eqb function 1 ⇒ readStep w q time f (readEffectBy w q time (askedOf (w .shared .inputs) (objectsOf f)))
+    ∷ isRepeat (w .master .session .last) f ⇒ repeatStep w function time
+    ∷ [])
+    (requestStep w q function time f (effectBy w q function time (objectsOf f)))
 
 -- ---- a CONFIRM, whatever else is lent
 

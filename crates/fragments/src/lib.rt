@@ -9,7 +9,7 @@ ghost use Rattle.laws.specs.Limits.{fragmentMax};
 ghost use Rattle.octets.specs.Bytes.{splice};
 ghost use Rattle.application.specs.Response.{responseOf};
 ghost use Rattle.control.specs.Objects.{Holding, answerMax};
-ghost use Rattle.select_latch.specs.Select.{noSelect, latchOf};
+ghost use Rattle.select_latch.specs.Select.{latchOf};
 ghost use Rattle.last_request.specs.Repeat.{keptAnswer, lastIn};
 ghost use Rattle.outstation.specs.Step.{indicationsOf};
 ghost use Rattle.event_store.specs.EventWords.{bufferViewIn};

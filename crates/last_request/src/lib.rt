@@ -1,12 +1,11 @@
 // The last accepted request and its answer in bytes that the host lends: a repeat is told by them, and answered by them.
 ghost use mathlib.Core.Path.{_≡_};
-ghost use mathlib.Core.List.{List};
-ghost use Prim.Native.Nat.{ℕ, _≤_};
+ghost use Prim.Native.Nat.{_≤_};
 ghost use lib.ListN.{length};
 ghost use Rattle.octets.specs.Bytes.{splice};
 ghost use Rattle.laws.specs.Limits.{fragmentMax};
 ghost use Rattle.control.specs.Objects.{answerMax};
-ghost use Rattle.last_request.specs.Repeat.{nothing, kept, lastIn, isRepeat, keptAnswer};
+ghost use Rattle.last_request.specs.Repeat.{kept, lastIn, isRepeat, keptAnswer};
 use application::FRAGMENT_MAX;
 use control::ANSWER_MAX;
 

@@ -12,11 +12,6 @@ pub refuted : (t : Bool) → (t ≡ true → ⊥) → t ≡ false
 refuted true h = absurd (h refl)
 refuted false h = refl
 
-pub all-two : (a b : Bool) → all (a ∷ b ∷ []) ≡ true → (a ≡ true) × (b ≡ true)
-all-two true true h = (refl, refl)
-all-two true false h = let z : _≡_ {A = ℕ} 0 1 = cc in absurd (omega arith)
-all-two false b h = let z : _≡_ {A = ℕ} 0 1 = cc in absurd (omega arith)
-
 pub all-three : (a b d : Bool) → all (a ∷ b ∷ d ∷ []) ≡ true → (a ≡ true) × (b ≡ true) × (d ≡ true)
 all-three true true true h = (refl, refl, refl)
 all-three true true false h = let z : _≡_ {A = ℕ} 0 1 = cc in absurd (omega arith)

@@ -1,7 +1,7 @@
 -- Laws of loops that fill an array from the front, and that read a list from the front; of counts and of repeated elements.
 -- Assumes nothing.
 use mathlib.Core.Path.{_≡_, refl, sym, ap, _∙_}
-use mathlib.Core.List.{List, [], _∷_, _++_, append-nil}
+use mathlib.Core.List.{List, [], _∷_, _++_, map, append-nil}
 use Prim.Native.Nat.{ℕ, zero, suc, _+_, _-_, _≤_, _<_, min}
 use native.Mathlib.Numerals.{add-one}
 use native.Mathlib.Omega.{arith}
@@ -43,3 +43,8 @@ module _ {A : Type 0} where
   take-replicate zero m s h = refl
   take-replicate (suc n) zero s h = absurd (omega arith)
   take-replicate (suc n) (suc m) s h = ap (λ (r : List A). s ∷ r) (take-replicate n m s (omega arith))
+
+pub map-take : {A B : Type 0} (f : A → B) (n : ℕ) (l : List A) → take n (map f l) ≡ map f (take n l)
+map-take f zero l = refl
+map-take f (suc n) [] = refl
+map-take {A} {B} f (suc n) (x ∷ xs) = ap (λ (r : List B). f x ∷ r) (map-take f n xs)

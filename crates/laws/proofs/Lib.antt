@@ -1,5 +1,4 @@
 pub mod AllLaws
-pub mod AllLoop
 pub mod Choices
 pub mod Counted
 pub mod Filling

@@ -5,14 +5,10 @@ use mathlib.Core.Bool.{Bool, true, false, cond}
 use Prim.Native.Nat.{ℕ}
 use Rattle.laws.specs.Outcome.{Outcome, accepted, refused}
 
--- what was accepted passed this test: one that refuses where it is true, one that refuses where it is false
+-- what was accepted passed this test, which refuses where it is true
 pub passed-no : {A : Type 0} (t : Bool) (k : ℕ) (o : Outcome A) (a : A) → cond t (refused k) o ≡ accepted a → (t ≡ false) × (o ≡ accepted a)
 passed-no true k o a e = (cc, cc)
 passed-no false k o a e = (refl, e)
-
-pub passed-yes : {A : Type 0} (t : Bool) (k : ℕ) (o : Outcome A) (a : A) → cond t o (refused k) ≡ accepted a → (t ≡ true) × (o ≡ accepted a)
-passed-yes true k o a e = (refl, e)
-passed-yes false k o a e = (cc, cc)
 
 -- both of two tests
 pub both-true : (a b : Bool) → cond a b false ≡ true → (a ≡ true) × (b ≡ true)

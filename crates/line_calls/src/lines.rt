@@ -64,13 +64,13 @@ fn given_call(
     s: LineSession,
     given: &[u8],
     lent: &mut [u8],
-    heard: &mut [u8],
+    gathered: &mut [u8],
     out: &mut [u8],
     at: usize,
 ) -> LineSession {
     match k {
         LentCall::Station => stations::station(s, given, lent, out, at),
-        LentCall::Seg => segments::seg(s, given, lent, heard, out, at),
+        LentCall::Seg => segments::seg(s, given, lent, gathered, out, at),
         LentCall::Send => segments::send(s, given, lent, out, at),
         LentCall::FrameRead => session::moved(s, frames::frame_read(given, lent, out, at)),
     }
@@ -83,7 +83,7 @@ fn lent_call(
     c: text::Cursor,
     bytes: &mut [u8],
     lent: &mut [u8],
-    heard: &mut [u8],
+    gathered: &mut [u8],
     out: &mut [u8],
     at: usize,
 ) -> LineSession {
@@ -96,7 +96,7 @@ fn lent_call(
     }
     let n = a.len;
     let room = octets::least(a.size, lent.len());
-    given_call(k, s, &bytes[0..n], &mut lent[0..room], heard, out, at)
+    given_call(k, s, &bytes[0..n], &mut lent[0..room], gathered, out, at)
 }
 
 // One of these calls.
@@ -107,12 +107,12 @@ pub fn line_call(
     c: text::Cursor,
     bytes: &mut [u8],
     lent: &mut [u8],
-    heard: &mut [u8],
+    gathered: &mut [u8],
     out: &mut [u8],
     at: usize,
 ) -> LineSession {
     match k {
-        LineCall::Lent(l) => lent_call(l, s, w, c, bytes, lent, heard, out, at),
+        LineCall::Lent(l) => lent_call(l, s, w, c, bytes, lent, gathered, out, at),
         LineCall::Record => stations::record(s, w, c, out, at),
         LineCall::FrameWrite => session::moved(s, frames::frame_write(w, c, bytes, lent, out, at)),
         LineCall::Crc => session::moved(s, frames::crc(w, c, bytes, out, at)),

@@ -15,16 +15,16 @@ pub fn seg(
     s: LineSession,
     segment: &[u8],
     before: &mut [u8],
-    heard: &mut [u8],
+    gathered: &mut [u8],
     out: &mut [u8],
     at: usize,
 ) -> LineSession {
-    let room = octets::least(before.len(), heard.len());
+    let room = octets::least(before.len(), gathered.len());
     hear(
         s,
         segment,
         &mut before[0..room],
-        &mut heard[0..room],
+        &mut gathered[0..room],
         out,
         at,
     )

@@ -56,7 +56,7 @@ pub fn record(s: LineSession, w: &[u8], c: text::Cursor, out: &mut [u8], at: usi
     let from = p.from;
     let to = p.to;
     let r = record_of(&w[from..to]);
-    if !text::finished(text::judge(p.next, text::finished(r.next))) {
+    if !text::finished(text::cursor_if(p.next, text::finished(r.next))) {
         return session::told(s, out, at, b"fault");
     }
     let record = r.record;

@@ -5,12 +5,12 @@ use Prim.Native.Nat.{ℕ, _-_, _/_, _%_, _≤_, _<_}
 use native.Mathlib.Omega.{arith}
 use mathlib.Core.List.{List, [], _∷_}
 use mathlib.Core.Logic.{inl, inr}
-use lib.Dec.{ltb, eqb}
-use lib.ListN.{length, getD, take}
+use lib.Dec.{eqb}
+use lib.ListN.{length}
 use mathlib.Core.Bool.{Bool, true, false, cond, not}
 use denote.Enum.Declared.{tagOf}
 use types.Run.{OneOf}
-use Rattle.octets.specs.Bytes.{splice, valueAt}
+use Rattle.octets.specs.Bytes.{splice}
 use Rattle.laws.specs.First.{first, _⇒_}
 use Rattle.laws.specs.Limits.{userMax}
 use Rattle.laws.specs.Outcome.{Outcome, accepted, refused, numberOf}

@@ -88,7 +88,7 @@ fn whole_gate(f: &[u8], c: text::Cursor) -> GateAt {
     let from = p.from;
     let to = p.to;
     let n = text::signed_of(&f[from..to], 9223372036854775808, 9223372036854775807);
-    let next = text::judge(p.next, n.ok);
+    let next = text::cursor_if(p.next, n.ok);
     let limit = limit_of(n.negative, n.size);
     GateAt {
         gate,
@@ -168,7 +168,7 @@ fn analog_of(f: &[u8]) -> AnalogAt {
     }
     let right = kind == 1 || kind == 2;
     let short: u8 = if kind == 1 { 0 } else { 1 };
-    whole_point(f, text::judge(k.next, right), class, short)
+    whole_point(f, text::cursor_if(k.next, right), class, short)
 }
 
 fn binaries(w: &[u8], c: text::Cursor, n: usize, classes: &mut [u8; POINTS_MAX]) -> text::Cursor {
@@ -193,7 +193,7 @@ fn analog_at(w: &[u8], c: text::Cursor) -> AnalogAt {
     let to = p.to;
     let a = analog_of(&w[from..to]);
     let mut at = a;
-    at.next = text::judge(p.next, text::finished(a.next));
+    at.next = text::cursor_if(p.next, text::finished(a.next));
     at
 }
 
@@ -294,23 +294,23 @@ fn restarted(
 ) -> Restarted {
     let s = t.setup;
     let n = t.analogs;
-    let mut g = restart::begun(s, classes, n, binaries);
+    let mut g = restart::begin_restart(s, classes, n, binaries);
     let mut next = t.first;
     let mut left: usize = POINTS_MAX;
     while 0 < left {
-        if !restart::more(g, n) {
-            return restart::answered(s, classes.len(), g);
+        if !restart::analogs_left(g, n) {
+            return restart::finish_restart(s, classes.len(), g);
         }
         if POINTS_MAX <= g.at {
-            return restart::answered(s, classes.len(), g);
+            return restart::finish_restart(s, classes.len(), g);
         }
         let a = analog_at(w, next);
         next = a.next;
         let x = a.analog;
-        g = restart::added(g, analogs, x);
+        g = restart::add_analog(g, analogs, x);
         left -= 1;
     }
-    restart::answered(s, classes.len(), g)
+    restart::finish_restart(s, classes.len(), g)
 }
 
 // The same, of the classes those that the setup has.
@@ -327,7 +327,7 @@ fn restarted_with(
 
 // No outstation: a line that is not right, or a limit or a count that is more than its type holds.
 fn not_set_up(right: bool, setup: SetupWords) -> SetUp {
-    let restarted = restart::answered(setup, 0, RestartProgress { at: 0, refusal: 5 });
+    let restarted = restart::finish_restart(setup, 0, RestartProgress { at: 0, refusal: 5 });
     SetUp {
         right,
         setup,

@@ -20,7 +20,7 @@ use Rattle.point_store.proofs.PointLaws.{analogs-length}
 use Rattle.restart.specs.declared.SetupWords.{SetupWords}
 use Rattle.restart.specs.declared.AnalogSetupWords.{AnalogSetupWords}
 use Rattle.restart.specs.declared.RestartProgress.{RestartProgress}
-use Rattle.restart.specs.Restart.{analogSetupOf, setupOf, frontOk, begunOf, moreOf, goneOn, addedOf, answeredOf, RestartHolds}
+use Rattle.restart.specs.Restart.{analogSetupOf, setupOf, frontOk, beginRestart, analogsLeft, progressAfter, addAnalog, finishRestart, RestartHolds}
 use Rattle.restart.proofs.StoringLaws.{Storing, storing-start, storing-more, storing-fails, storing-end}
 use Rattle.restart.proofs.SetupLaws.{setup-and, few-classes, few-analogs, fresh-view, bare-view, fresh-counted}
 
@@ -43,7 +43,7 @@ pub record Stands (s : SetupWords) (classes : List ℕ) (xs : List AnalogSetupWo
   pub over : eqb (g .refusal) 0 ≡ false → setupOk (setupOf s classes xs) ≡ false
 
 module _ (s : SetupWords) (classes : List ℕ) (xs : List AnalogSetupWords) where
-  begins-at : (ps : List ℕ) (b : Bool) → frontOk s classes (length xs) ≡ b → Stands s classes xs (begunOf b) ps 0
+  begins-at : (ps : List ℕ) (b : Bool) → frontOk s classes (length xs) ≡ b → Stands s classes xs (beginRestart b) ps 0
   begins-at ps true e =
       record { here = λ _. refl; front = λ _. e; stored = λ _. storing-start good point xs (analogsIn ps); over = λ h. absurd (false≢true (sym h)) }
   begins-at ps false e =
@@ -54,11 +54,11 @@ module _ (s : SetupWords) (classes : List ℕ) (xs : List AnalogSetupWords) wher
         over = λ _. setup-and s classes xs ∙ ap (λ (b : Bool). b && all (map good xs)) e;
       }
 
-  pub begins : (ps : List ℕ) → Stands s classes xs (begunOf (frontOk s classes (length xs))) ps 0
+  pub begins : (ps : List ℕ) → Stands s classes xs (beginRestart (frontOk s classes (length xs))) ps 0
   begins ps = begins-at ps (frontOk s classes (length xs)) refl
 
   module _ (g : RestartProgress) (ps : List ℕ) (k : ℕ) (st : Stands s classes xs g ps k) where
-    module _ (e : moreOf g (length xs) ≡ true) where
+    module _ (e : analogsLeft g (length xs) ≡ true) where
       tests : (eqb (g .refusal) 0 ≡ true) × (ltb (g .at) (length xs) ≡ true)
       tests = both-true (eqb (g .refusal) 0) (ltb (g .at) (length xs)) e
 
@@ -76,7 +76,7 @@ module _ (s : SetupWords) (classes : List ℕ) (xs : List AnalogSetupWords) wher
         abbrev w : AnalogSetupWords
         w = getD xs k d
 
-        goes-on-at : (b : Bool) → good w ≡ b → (good w ≡ true → analogsIn ps₁ ≡ set (analogsIn ps) (g .at) (point w)) → Stands s classes xs (goneOn b g) ps₁ (suc k)
+        goes-on-at : (b : Bool) → good w ≡ b → (good w ≡ true → analogsIn ps₁ ≡ set (analogsIn ps) (g .at) (point w)) → Stands s classes xs (progressAfter b g) ps₁ (suc k)
         goes-on-at true h put =
             record {
               here = λ _. add-one (g .at) ∙ ap suc at-place;
@@ -99,15 +99,15 @@ module _ (s : SetupWords) (classes : List ℕ) (xs : List AnalogSetupWords) wher
                   ∙ storing-fails good point xs (analogsIn ps) k (st .stored (tests .0)) within d h;
             }
 
-        pub goes-on : (good w ≡ true → analogsIn ps₁ ≡ set (analogsIn ps) (g .at) (point w)) → Stands s classes xs (addedOf g w) ps₁ (suc k)
+        pub goes-on : (good w ≡ true → analogsIn ps₁ ≡ set (analogsIn ps) (g .at) (point w)) → Stands s classes xs (addAnalog g w) ps₁ (suc k)
         goes-on = goes-on-at (good w) refl
 
     -- where no more is to be stored, the answer is given
-    pub is-over : (bs : List ℕ) → Fresh s classes (length xs) bs → moreOf g (length xs) ≡ false
-        → RestartHolds s classes xs (answeredOf s (length classes) g .refusal) (answeredOf s (length classes) g .head) bs ps
+    pub is-over : (bs : List ℕ) → Fresh s classes (length xs) bs → analogsLeft g (length xs) ≡ false
+        → RestartHolds s classes xs (finishRestart s (length classes) g .refusal) (finishRestart s (length classes) g .head) bs ps
     is-over bs fresh e = by-refusal (eqb (g .refusal) 0) refl
       where
-        by-refusal : (b : Bool) → eqb (g .refusal) 0 ≡ b → RestartHolds s classes xs (answeredOf s (length classes) g .refusal) (answeredOf s (length classes) g .head) bs ps
+        by-refusal : (b : Bool) → eqb (g .refusal) 0 ≡ b → RestartHolds s classes xs (finishRestart s (length classes) g .refusal) (finishRestart s (length classes) g .head) bs ps
         by-refusal true z =
             let far : length xs ≤ k = rw (← (st .here z)) (ltb-false _ _ (rw z at e)) in
             let done = storing-end good point xs (analogsIn ps) k (st .stored z) far in

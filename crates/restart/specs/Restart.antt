@@ -58,19 +58,19 @@ setupOf s classes setups = setupWith s (length classes) classes (length setups) 
 abbrev pub frontOk : SetupWords → List ℕ → ℕ → Bool
 frontOk s classes m = setupOk (setupWith s (length classes) classes m [])
 
-abbrev pub begunOf : Bool → RestartProgress
-begunOf ok = record { at = 0; refusal = cond ok 0 5 }
+abbrev pub beginRestart : Bool → RestartProgress
+beginRestart ok = record { at = 0; refusal = cond ok 0 5 }
 
 -- nothing was refused and an analog is left
-abbrev pub moreOf : RestartProgress → ℕ → Bool
-moreOf g n = cond (eqb (g .refusal) 0) (ltb (g .at) n) false
+abbrev pub analogsLeft : RestartProgress → ℕ → Bool
+analogsLeft g n = cond (eqb (g .refusal) 0) (ltb (g .at) n) false
 
-abbrev pub goneOn : Bool → RestartProgress → RestartProgress
-goneOn true g = record { at = g .at + 1; refusal = 0 }
-goneOn false g = record { at = g .at; refusal = 5 }
+abbrev pub progressAfter : Bool → RestartProgress → RestartProgress
+progressAfter true g = record { at = g .at + 1; refusal = 0 }
+progressAfter false g = record { at = g .at; refusal = 5 }
 
-abbrev pub addedOf : RestartProgress → AnalogSetupWords → RestartProgress
-addedOf g w = goneOn (analogOk (analogSetupOf w)) g
+abbrev pub addAnalog : RestartProgress → AnalogSetupWords → RestartProgress
+addAnalog g w = progressAfter (analogOk (analogSetupOf w)) g
 
 -- ---- what it gives
 
@@ -101,8 +101,8 @@ freshHead arm confirm outputs binaries analogs =
       «latch_sequence» = 0;
     }
 
-abbrev pub answeredOf : SetupWords → ℕ → RestartProgress → Restarted
-answeredOf s n g =
+abbrev pub finishRestart : SetupWords → ℕ → RestartProgress → Restarted
+finishRestart s n g =
     cond (eqb (g .refusal) 0) (record { head = freshHead (s .«arm_time») (s .«confirm_time») (s .outputs) n (g .at); refusal = 0 })
     (record { head = freshHead 0 0 0 0 0; refusal = 5 })
 

@@ -2,7 +2,7 @@
 // the head then says that nothing is held, awaited, kept or selected. Whoever has the setup walks its analogs: the exported call a lent slice,
 // a program in Rattle an array of its own.
 ghost use mathlib.Core.Path.{_≡_};
-ghost use mathlib.Core.Bool.{true, cond};
+ghost use mathlib.Core.Bool.{true};
 ghost use mathlib.Core.List.{[], map};
 ghost use Prim.Native.Nat.{_<_, _≤_};
 ghost use lib.ListN.{length, take, set};
@@ -11,7 +11,7 @@ ghost use Rattle.laws.specs.Limits.{pointsMax};
 ghost use Rattle.points.specs.Setup.{classOk, analogOk, freshBinary, freshAnalog};
 ghost use Rattle.outstation.specs.Setup.{setupOk};
 ghost use Rattle.point_store.specs.PointWords.{binariesIn, analogsIn};
-ghost use Rattle.restart.specs.Restart.{analogSetupOf, setupWith, frontOk, begunOf, moreOf, addedOf, answeredOf};
+ghost use Rattle.restart.specs.Restart.{analogSetupOf, setupWith, frontOk, beginRestart, analogsLeft, addAnalog, finishRestart};
 use outstation::Head;
 use point_store::ANALOG_WORDS;
 use point_store::BINARY_WORDS;
@@ -147,13 +147,13 @@ fn fresh_binaries(binaries: &mut [u32; BINARY_WORDS], classes: &[u8]) -> bool
 }
 
 // All but the analogs.
-pub fn begun(
+pub fn begin_restart(
     s: SetupWords,
     classes: &[u8],
     analogs: usize,
     binaries: &mut [u32; BINARY_WORDS],
 ) -> RestartProgress
-    ensures { λ r. ⌜ (r ≡ begunOf (frontOk s (now (classes .entry)) analogs)) × (frontOk s (now (classes .entry)) analogs ≡ true → take (length (now (classes .entry))) (binariesIn (now (binaries .exit))) ≡ map freshBinary (now (classes .entry))) ⌝ }
+    ensures { λ r. ⌜ (r ≡ beginRestart (frontOk s (now (classes .entry)) analogs)) × (frontOk s (now (classes .entry)) analogs ≡ true → take (length (now (classes .entry))) (binariesIn (now (binaries .exit))) ≡ map freshBinary (now (classes .entry))) ⌝ }
 {
     if limits_ok(s, classes.len(), analogs) {
         if fresh_binaries(binaries, classes) {
@@ -164,21 +164,21 @@ pub fn begun(
 }
 
 // Nothing was refused and an analog is left.
-pub fn more(g: RestartProgress, n: usize) -> bool
-    ensures { λ b. ⌜ b ≡ moreOf g n ⌝ }
+pub fn analogs_left(g: RestartProgress, n: usize) -> bool
+    ensures { λ b. ⌜ b ≡ analogsLeft g n ⌝ }
 {
     let left = g.at < n;
     if g.refusal == 0 { left } else { false }
 }
 
 // One more analog.
-pub fn added(
+pub fn add_analog(
     g: RestartProgress,
     analogs: &mut [u32; ANALOG_WORDS],
     w: AnalogSetupWords,
 ) -> RestartProgress
     requires { ⌜ g .at < pointsMax ⌝ }
-    ensures { λ r. ⌜ (r ≡ addedOf g w) × (analogOk (analogSetupOf w) ≡ true → analogsIn (now (analogs .exit)) ≡ set (analogsIn (now (analogs .entry))) (g .at) (freshAnalog (analogSetupOf w))) ⌝ }
+    ensures { λ r. ⌜ (r ≡ addAnalog g w) × (analogOk (analogSetupOf w) ≡ true → analogsIn (now (analogs .exit)) ≡ set (analogsIn (now (analogs .entry))) (g .at) (freshAnalog (analogSetupOf w))) ⌝ }
 {
     let a = analog_setup_of(w);
     if points::analog_ok(a) {
@@ -197,8 +197,8 @@ pub fn added(
 }
 
 // The head of a restarted outstation; of a refused setup the one with no points and no outputs.
-pub fn answered(s: SetupWords, binaries: usize, g: RestartProgress) -> Restarted
-    ensures { λ r. ⌜ r ≡ answeredOf s binaries g ⌝ }
+pub fn finish_restart(s: SetupWords, binaries: usize, g: RestartProgress) -> Restarted
+    ensures { λ r. ⌜ r ≡ finishRestart s binaries g ⌝ }
 {
     let mut h = Head {
         arm_time: 0,

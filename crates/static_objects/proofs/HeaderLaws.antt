@@ -18,7 +18,7 @@ use Rattle.application.specs.declared.Fault.the-variants.{Faultless, FunctionUn
 use Rattle.application.specs.Response.{isFaultless}
 use Rattle.read_headers.specs.declared.Header.{Header}
 use Rattle.read_headers.specs.declared.Plan.{Plan}
-use Rattle.read_headers.specs.Parse.{Parsed, headers, fault, parse}
+use Rattle.read_headers.specs.Parse.{headers, fault, parse}
 use Rattle.read_headers.specs.Plans.{planned, plannedOf}
 use Rattle.read_headers.proofs.AskLaws.{noHeader}
 use Rattle.static_objects.specs.Static.{rangeBytes, headerBytes, staticBytes, sized, fittedOf}

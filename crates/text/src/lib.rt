@@ -7,7 +7,7 @@ ghost use lib.Ieee.{binary32, ofBits};
 ghost use Rattle.octets.specs.Bytes.{splice};
 ghost use Rattle.text.specs.Words.{
   wholeOf,
-  judged,
+  wholeWithin,
   signedOf,
   fitted,
   hexRead,
@@ -45,7 +45,7 @@ pub fn start() -> Cursor {
 }
 
 // The cursor, with a word that was right or not.
-pub fn judge(c: Cursor, ok: bool) -> Cursor {
+pub fn cursor_if(c: Cursor, ok: bool) -> Cursor {
     if ok {
         c
     } else {
@@ -85,7 +85,7 @@ pub fn word(s: &[u8], c: Cursor, mark: u8) -> Place
         return Place {
             from: 0,
             to: 0,
-            next: judge(c, false),
+            next: cursor_if(c, false),
         };
     }
     let to = until(s, from, mark);
@@ -128,7 +128,7 @@ fn wide(x: u8) -> u64
 
 // The number of digits, within the limit.
 fn digits_of(w: &[u8], limit: u64) -> Whole
-    ensures { λ r. ⌜ (r ≡ judged limit 0 (now (w .entry))) × (r .value ≤ limit) ⌝ }
+    ensures { λ r. ⌜ (r ≡ wholeWithin limit 0 (now (w .entry))) × (r .value ≤ limit) ⌝ }
 {
     let mut a: u64 = 0;
     let mut i = 0;
@@ -374,7 +374,7 @@ pub fn take_number(s: &[u8], c: Cursor, mark: u8, limit: u64) -> Number
     let n = decimal_of(&s[from..to], limit);
     Number {
         value: n.value,
-        next: judge(w.next, n.ok),
+        next: cursor_if(w.next, n.ok),
     }
 }
 
@@ -408,7 +408,7 @@ pub fn take_reading(s: &[u8], c: Cursor, mark: u8) -> Whole32 {
     let n = signed_of(&s[from..to], 2147483648, 2147483647);
     Whole32 {
         value: signed32(n.negative, n.size),
-        next: judge(w.next, n.ok),
+        next: cursor_if(w.next, n.ok),
     }
 }
 
@@ -434,7 +434,7 @@ pub fn take_run(s: &[u8], c: Cursor, out: &mut [u8]) -> Run
     let h = unhex_into(out, &s[from..to]);
     Run {
         len: h.len,
-        next: judge(w.next, h.ok && 0 < h.len),
+        next: cursor_if(w.next, h.ok && 0 < h.len),
     }
 }
 
@@ -458,7 +458,7 @@ pub fn take_control(s: &[u8], c: Cursor) -> Control {
     let h = unhex_into(&mut b, &s[from..to]);
     Control {
         value: b[0],
-        next: judge(w.next, h.ok && h.len == 1),
+        next: cursor_if(w.next, h.ok && h.len == 1),
     }
 }
 
@@ -493,7 +493,7 @@ pub fn take_real(s: &[u8], c: Cursor, mark: u8) -> Real {
     let h = unhex_into(&mut b, &s[from..to]);
     Real {
         value: float_of(joined(b[0], b[1], b[2], b[3])),
-        next: judge(w.next, h.ok && h.len == 4),
+        next: cursor_if(w.next, h.ok && h.len == 4),
     }
 }
 
@@ -502,7 +502,7 @@ pub fn take_none(s: &[u8], c: Cursor, mark: u8) -> Cursor {
     let w = word(s, c, mark);
     let from = w.from;
     let to = w.to;
-    judge(w.next, none(&s[from..to]))
+    cursor_if(w.next, none(&s[from..to]))
 }
 
 // Puts the bytes at the cursor, two digits each, `-` for none.

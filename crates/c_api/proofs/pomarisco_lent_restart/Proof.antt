@@ -1,6 +1,6 @@
--- `c_api::pomarisco_lent_restart` meets its contract: a walk of its MIR by hand, over the contracts of `begun`, `more`, `added` and `answered`. The
--- binaries go to `begun` for good. The loop's invariant is `I` at a `Spot`: where the walk stands (`RestartFacts`), and that the record is well
--- typed. At each turn the analogs are lent again to `added` and come back (`walk/Relend`). The measure is how many setups are left.
+-- `c_api::pomarisco_lent_restart` meets its contract: a walk of its MIR by hand, over the contracts of `begin_restart`, `analogs_left`, `add_analog` and `finish_restart`. The
+-- binaries go to `begin_restart` for good. The loop's invariant is `I` at a `Spot`: where the walk stands (`RestartFacts`), and that the record is well
+-- typed. At each turn the analogs are lent again to `add_analog` and come back (`walk/Relend`). The measure is how many setups are left.
 -- Assumes nothing.
 use mathlib.Core.Path.{_≡_, refl, sym, _∙_, ap}
 use Prim.Native.Nat.{ℕ, suc, _+_, _*_, _-_, _<_, _^_}
@@ -57,7 +57,7 @@ use Rattle.restart.specs.declared.SetupWords.{SetupWords}
 use Rattle.restart.specs.declared.AnalogSetupWords.{AnalogSetupWords}
 use Rattle.restart.specs.declared.RestartProgress.{RestartProgress}
 use Rattle.restart.specs.declared.Restarted.{Restarted}
-use Rattle.restart.specs.Restart.{analogSetupOf, frontOk, begunOf, moreOf, addedOf, answeredOf, RestartHolds}
+use Rattle.restart.specs.Restart.{analogSetupOf, frontOk, beginRestart, analogsLeft, addAnalog, finishRestart, RestartHolds}
 use Rattle.c_api.proofs.RestartRecords.{valS, valR, valG, valD, valsR, IsS, IsR, IsG, IsD, tellsS, tellsR, tellsG, tellsD, makesS, makesR, makesG, makesD, copyR, typedS, typedR, typedG, typedD}
 use Rattle.restart.proofs.RestartFacts.{Fresh, Stands, begins, at-place, within, in-room, goes-on, is-over}
 use Rattle.restart.proofs.SetupWords as S
@@ -68,22 +68,22 @@ use Rattle.restart.proofs.RestartProgress as G
 use Rattle.restart.proofs.RestartProgress.Laws as G′
 use Rattle.restart.proofs.Restarted as D
 use Rattle.restart.proofs.Restarted.Laws as D′
-use Rattle.restart.proofs.begun as begun
-use Rattle.restart.proofs.begun.Symbol as begun-def
-use Rattle.restart.proofs.begun.Symbol.{name as #begun}
-use Rattle.restart.proofs.begun.Met as begun-thm
-use Rattle.restart.proofs.more as more
-use Rattle.restart.proofs.more.Symbol as more-def
-use Rattle.restart.proofs.more.Symbol.{name as #more}
-use Rattle.restart.proofs.more.Met as more-thm
-use Rattle.restart.proofs.added as added
-use Rattle.restart.proofs.added.Symbol as added-def
-use Rattle.restart.proofs.added.Symbol.{name as #added}
-use Rattle.restart.proofs.added.Met as added-thm
-use Rattle.restart.proofs.answered as answered
-use Rattle.restart.proofs.answered.Symbol as answered-def
-use Rattle.restart.proofs.answered.Symbol.{name as #answered}
-use Rattle.restart.proofs.answered.Met as answered-thm
+use Rattle.restart.proofs.begin_restart as begun
+use Rattle.restart.proofs.begin_restart.Symbol as begun-def
+use Rattle.restart.proofs.begin_restart.Symbol.{name as #begun}
+use Rattle.restart.proofs.begin_restart.Met as begun-thm
+use Rattle.restart.proofs.analogs_left as more
+use Rattle.restart.proofs.analogs_left.Symbol as more-def
+use Rattle.restart.proofs.analogs_left.Symbol.{name as #more}
+use Rattle.restart.proofs.analogs_left.Met as more-thm
+use Rattle.restart.proofs.add_analog as added
+use Rattle.restart.proofs.add_analog.Symbol as added-def
+use Rattle.restart.proofs.add_analog.Symbol.{name as #added}
+use Rattle.restart.proofs.add_analog.Met as added-thm
+use Rattle.restart.proofs.finish_restart as answered
+use Rattle.restart.proofs.finish_restart.Symbol as answered-def
+use Rattle.restart.proofs.finish_restart.Symbol.{name as #answered}
+use Rattle.restart.proofs.finish_restart.Met as answered-thm
 use Rattle.c_api.proofs.pomarisco_lent_restart.Key.{name as #restart}
 use Rattle.c_api.proofs.pomarisco_lent_restart as restart
 use Rattle.c_api.proofs.pomarisco_lent_restart.Statement as stated
@@ -214,9 +214,9 @@ module _ {M : Type 1} (𝓤 : URA M) (H : Heap 𝓤) (A : Atoms 𝓤) (W : Given
       nothing ! $ move ! (1 ∷ 0 ∷ []) $ fjoin ! $ move ! (1 ∷ 0 ∷ []) $ fjoin ! $ nothing ! $ fjoin ! $ nothing ! $ fjoin ! $ nothing ! $ fjoin ! $ frame ! $
       owned ! D.the-row (Is D.the-row) (makesD 𝓤 H A) d _ is $ done !
 
-  -- ---- the call of `begun`, which is lent the classes and the binaries for good
+  -- ---- the call of `begin_restart`, which is lent the classes and the binaries for good
   abbrev g₀ : RestartProgress
-  g₀ = begunOf (frontOk s cs n)
+  g₀ = beginRestart (frontOk s cs n)
 
   abbrev to-begun : Begun 𝓤 H A at-mem run .Ghost
   to-begun = (((κ₀, (κ₂, tt)), (q₀, (q₂, tt)), tt, (s, (x₀, (n, (x₂, tt)))), (valS s ∷ [], (classes ∷ [], (vint w64 n ∷ [], (ptrOf x₂ ∷ [], tt))))), tt)
@@ -234,7 +234,7 @@ module _ {M : Type 1} (𝓤 : URA M) (H : Heap 𝓤) (A : Atoms 𝓤) (W : Given
       nothing ! $ move ! (2 ∷ 0 ∷ []) $ fjoin ! $ owned ! usize (Is usize) (uint-makes 𝓤 H A W w64) n _ (refl, roomy .0) $ fjoin ! $ move ! (1 ∷ 0 ∷ []) $ fjoin ! $
       owned ! S.the-row (Is S.the-row) (makesS 𝓤 H A) s _ s-is $ fjoin ! $ move ! (1 ∷ 0 ∷ []) $ join ! $ frame ! $ done !
 
-  -- ---- one call of `added`, the analogs being lent again for ν under the name δ
+  -- ---- one call of `add_analog`, the analogs being lent again for ν under the name δ
   module _ (g : RestartProgress) (ps : List ℕ) (r : AnalogSetupWords) (ν : ℕ) (δ : GName) where
     abbrev to-added : Added 𝓤 H A at-mem run .Ghost
     to-added = (((ν ∷ [], tt), (fullShare, tt), tt, (g, (record { ptr = x₃ .ptr; name = δ; now = ps }, (r, tt))), (valG g ∷ [], (ptrOf x₃ ∷ [], (valR r ∷ [], tt)))), tt)
@@ -284,7 +284,7 @@ module _ {M : Type 1} (𝓤 : URA M) (H : Heap 𝓤) (A : Atoms 𝓤) (W : Given
       Turn p = anyQ (afterTurn 𝓤 H (Below 𝓤 H A (Fewer s cs xs) I p) (Kit.post 𝓤 H Left))
 
       -- the turn after its test, which is at c
-      tested : (p : Spot s cs xs) (c : Bool) → moreOf (p .g) n ≡ c
+      tested : (p : Spot s cs xs) (c : Bool) → analogsLeft (p .g) n ≡ c
           → Sq W (‵ (fat fullShare G′.mir l₆ 0 (valG (p .g))) ∷ ‵ (fat fullShare tyBool l₉ 0 (vbool c)) ∷ ‵ (fat fullShare (tyInt w64) l₁₀ 0 (vint w64 n)) ∷ Frame (p .ps))
           (runs (𝓣 .C) (𝓣 .Λ) E (tail (tail mir.turn-1)) (Turn p))
       unfolding afterTurn
@@ -303,16 +303,16 @@ module _ {M : Type 1} (𝓤 : URA M) (H : Heap 𝓤) (A : Atoms 𝓤) (W : Given
           -- [a token; the borrow; _6; _9 to _13; _3; the analogs; …]: they are lent again
           move ! (9 ∷ 10 ∷ []) $ relends ! tt As (named 3) (x₃ .ptr .0) (x₃ .ptr .1) (p .ps) (named 0) (λ ν δ.
           nothing ! $ move ! (2 ∷ 0 ∷ []) $ join ! $ join ! $ use1 W (raw (Added 𝓤 H A at-mem run .pre (to-added (p .g) (p .ps) r ν δ))) (asked (p .g) (p .ps) r ν δ (p .is) r-is room) $
-          calls-lent-last ! fm added.ended (added.clauses 𝓤 H A at-mem run) known-added (to-added (p .g) (p .ps) r ν δ) valG tellsG (addedOf (p .g) r)
+          calls-lent-last ! fm added.ended (added.clauses 𝓤 H A at-mem run) known-added (to-added (p .g) (p .ps) r ν δ) valG tellsG (addAnalog (p .g) r)
           (λ ws. analogOk (analogSetupOf r) ≡ true → analogsIn (ws .1 .0) ≡ set (analogsIn (p .ps)) (p .g .at) (freshAnalog (analogSetupOf r))) (λ q ws. id⊢ 𝓤 _)
           (raw (Added 𝓤 H A at-mem run .pre (to-added (p .g) (p .ps) r ν δ))) (id⊢ 𝓤 _)
           (and-then ! (load ! (from ! (stop !)) (look ! 4 refl)) (and-then ! (load ! (from ! (stop !)) (look ! 7 refl)) (and-then ! (load ! (from ! (stop !)) (look ! 9 refl)) (no-more !)))) (λ ws put is.
           -- [the last values; the token; what is kept of the analogs; a token; the borrow; _6; _9 to _13; _3; …]: they come back
           move ! (1 ∷ []) $ use1 W (Token (p .g) (p .ps) r ν δ) (id⊢ 𝓤 _) $ split ! $ move ! (2 ∷ []) $ fsplit ! $ drop ! $ fsplit ! $
           move ! (2 ∷ 4 ∷ 0 ∷ []) $ regains ! tt As (named 3) (x₃ .ptr .0) (x₃ .ptr .1) (p .ps) ν δ (ws .1 .0) $
-          move ! (2 ∷ 3 ∷ []) $ drop ! $ drop ! $ land-last ! (from ! (stop !)) (store ! 4 refl (typedG 𝓤 H A W (addedOf (p .g) r) is)) $
+          move ! (2 ∷ 3 ∷ []) $ drop ! $ drop ! $ land-last ! (from ! (stop !)) (store ! 4 refl (typedG 𝓤 H A W (addAnalog (p .g) r) is)) $
           forget ! 5 refl $ forget ! 6 refl $ forget ! 7 refl $ forget ! 8 refl $ forget ! 9 refl $ move ! (4 ∷ 5 ∷ 6 ∷ 7 ∷ 8 ∷ 9 ∷ 10 ∷ 2 ∷ 3 ∷ []) $
-          again ! (Fewer s cs xs) I p (record { g = addedOf (p .g) r; ps = ws .1 .0; k = suc (p .k); is = is; st = goes-on s cs xs (p .g) (p .ps) (p .k) (p .st) e d (ws .1 .0) put }) (fewer n (p .k) l)))))
+          again ! (Fewer s cs xs) I p (record { g = addAnalog (p .g) r; ps = ws .1 .0; k = suc (p .k); is = is; st = goes-on s cs xs (p .g) (p .ps) (p .k) (p .st) e d (ws .1 .0) put }) (fewer n (p .k) l)))))
         where
           at-k : p .g .at ≡ p .k
           at-k = at-place s cs xs (p .g) (p .ps) (p .k) (p .st) e
@@ -335,21 +335,21 @@ module _ {M : Type 1} (𝓤 : URA M) (H : Heap 𝓤) (A : Atoms 𝓤) (W : Given
       tested p false e =
           leaves-loop ! (load ! (from ! (stop !)) (look ! 1 refl)) $ exec ! (𝓣 .C) (𝓣 .Λ) E mir.t-5 (atRet E Post) $
           assigns ! (of-opd ! (load ! (from ! (fld ! refl (stop !))) (look-in ! 18 (sub ! 1 refl (whole !))))) (from ! (stop !)) (init ! 14 refl (tt, record { fits = c-room .0 })) $
-          calls-value ! fm answered.ended (answered.clauses 𝓤 H A at-mem run) known-answered (to-answered (p .g)) valD tellsD (answeredOf s (length cs) (p .g)) (λ q ws. id⊢ 𝓤 _) (id⊢ 𝓤 _) (id⊢ 𝓤 _)
+          calls-value ! fm answered.ended (answered.clauses 𝓤 H A at-mem run) known-answered (to-answered (p .g)) valD tellsD (finishRestart s (length cs) (p .g)) (λ q ws. id⊢ 𝓤 _) (id⊢ 𝓤 _) (id⊢ 𝓤 _)
           (makesS 𝓤 H A, (uint-makes 𝓤 H A W w64, (makesG 𝓤 H A, tt))) (s-is, ((refl, c-room .0), (p .is, tt)))
           (and-then ! (load ! (from ! (stop !)) (look ! 17 refl)) (and-then ! (load ! (from ! (stop !)) (look ! 14 refl)) (and-then ! (load ! (from ! (stop !)) (look ! 0 refl)) (no-more !)))) (λ is.
-          land ! (from ! (stop !)) (init ! 16 refl (typedD 𝓤 H A W (answeredOf s (length cs) (p .g)) is)) $
+          land ! (from ! (stop !)) (init ! 16 refl (typedD 𝓤 H A W (finishRestart s (length cs) (p .g)) is)) $
           returns ! (look ! 16 refl) $ forget ! 0 refl $ forget ! 1 refl $ forget ! 2 refl $ forget ! 6 refl $ forget ! 14 refl $ forget ! 16 refl $ forget ! 17 refl $ forget ! 18 refl $ forget ! 19 refl $ forget ! 20 refl $
           move ! (16 ∷ 21 ∷ 17 ∷ 22 ∷ 18 ∷ 23 ∷ 6 ∷ 24 ∷ 19 ∷ 25 ∷ 20 ∷ 26 ∷ 0 ∷ 27 ∷ 14 ∷ 28 ∷ 15 ∷ 29 ∷ 1 ∷ 30 ∷ 2 ∷ 31 ∷ 3 ∷ 32 ∷ 4 ∷ 33 ∷ 5 ∷ 34 ∷ []) $
           free1 ! $ free1 ! $ free1 ! $ free1 ! $ free1 ! $ free1 ! $ free1 ! $ free1 ! $ free1 ! $ free1 ! $ free1 ! $ free1 ! $ free1 ! $ free1 ! $ free0 ! $
-          keep ! (0 ∷ 2 ∷ 3 ∷ 4 ∷ 5 ∷ 6 ∷ []) $ by ! (exits (answeredOf s (length cs) (p .g)) bs (p .ps) is (is-over s cs xs (p .g) (p .ps) (p .k) (p .st) bs fresh e)))
+          keep ! (0 ∷ 2 ∷ 3 ∷ 4 ∷ 5 ∷ 6 ∷ []) $ by ! (exits (finishRestart s (length cs) (p .g)) bs (p .ps) is (is-over s cs xs (p .g) (p .ps) (p .k) (p .st) bs fresh e)))
 
       turn : (p : Spot s cs xs) → Sq W (I p) (runs (𝓣 .C) (𝓣 .Λ) E mir.turn-1 (Turn p))
       turn p =
           assigns ! (of-opd ! (load ! (from ! (fld ! refl (stop !))) (look-in ! 6 (sub ! 1 refl (whole !))))) (from ! (stop !)) (init ! 2 refl (tt, record { fits = roomy .0 })) $
-          calls-value ! fm more.ended (more.clauses 𝓤 H A at-mem run) known-more (to-more (p .g)) vbool bool-tells (moreOf (p .g) n) (λ c ws. id⊢ 𝓤 _) (id⊢ 𝓤 _) (id⊢ 𝓤 _) (makesG 𝓤 H A, (uint-makes 𝓤 H A W w64, tt)) (p .is, ((refl, roomy .0), tt))
+          calls-value ! fm more.ended (more.clauses 𝓤 H A at-mem run) known-more (to-more (p .g)) vbool bool-tells (analogsLeft (p .g) n) (λ c ws. id⊢ 𝓤 _) (id⊢ 𝓤 _) (id⊢ 𝓤 _) (makesG 𝓤 H A, (uint-makes 𝓤 H A W w64, tt)) (p .is, ((refl, roomy .0), tt))
           (and-then ! (load ! (from ! (stop !)) (look ! 0 refl)) (and-then ! (load ! (from ! (stop !)) (look ! 2 refl)) (no-more !))) (λ is.
-          land ! (from ! (stop !)) (init ! 1 refl (tt, tt)) $ tested p (moreOf (p .g) n) refl)
+          land ! (from ! (stop !)) (init ! 1 refl (tt, tt)) $ tested p (analogsLeft (p .g) n) refl)
 
       walks : (p : Spot s cs xs) → Sq W (I p) (runs (𝓣 .C) (𝓣 .Λ) E mir.t-4 (atRet E Post))
       walks p = first ! $ blocks ! $ loops ! 𝓣 (Fewer s cs xs) (fewer-wf s cs xs) I turn p
@@ -405,7 +405,7 @@ pomarisco-lent-restart-spec 𝓤 H 𝓜 𝓖 𝓡 =
     entered 𝓤 H (tripleOf 𝓤 H (𝓖 .A) restart.signature (restart.spec 𝓤 H (𝓖 .A) (𝓜 .mem) (𝓡 .run)))
     (tables 𝓤 H 𝓜 𝓡 code.env .C) (tables 𝓤 H 𝓜 𝓡 code.env .Λ) #restart code.function (code.unfolded 𝓤 H 𝓜 𝓡)
     (restart-meets 𝓤 H (𝓖 .A) (givenOf 𝓤 H 𝓜 𝓖) (𝓜 .mem) (𝓡 .run) (tablesOf 𝓤 H 𝓜 (tables 𝓤 H 𝓜 𝓡 code.env))
-    (cited 𝓤 H (Begun 𝓤 H (𝓖 .A) (𝓜 .mem) (𝓡 .run)) 𝓜 𝓡 code.env #begun begun-def.routine code.calls-restart·begun (begun-thm.met 𝓤 H 𝓜 𝓖 𝓡))
-    (cited 𝓤 H (More 𝓤 H (𝓖 .A) (𝓜 .mem) (𝓡 .run)) 𝓜 𝓡 code.env #more more-def.routine code.calls-restart·more (more-thm.met 𝓤 H 𝓜 𝓖 𝓡))
-    (cited 𝓤 H (Added 𝓤 H (𝓖 .A) (𝓜 .mem) (𝓡 .run)) 𝓜 𝓡 code.env #added added-def.routine code.calls-restart·added (added-thm.met 𝓤 H 𝓜 𝓖 𝓡))
-    (cited 𝓤 H (Answered 𝓤 H (𝓖 .A) (𝓜 .mem) (𝓡 .run)) 𝓜 𝓡 code.env #answered answered-def.routine code.calls-restart·answered (answered-thm.met 𝓤 H 𝓜 𝓖 𝓡)))
+    (cited 𝓤 H (Begun 𝓤 H (𝓖 .A) (𝓜 .mem) (𝓡 .run)) 𝓜 𝓡 code.env #begun begun-def.routine code.calls-restart·begin-restart (begun-thm.met 𝓤 H 𝓜 𝓖 𝓡))
+    (cited 𝓤 H (More 𝓤 H (𝓖 .A) (𝓜 .mem) (𝓡 .run)) 𝓜 𝓡 code.env #more more-def.routine code.calls-restart·analogs-left (more-thm.met 𝓤 H 𝓜 𝓖 𝓡))
+    (cited 𝓤 H (Added 𝓤 H (𝓖 .A) (𝓜 .mem) (𝓡 .run)) 𝓜 𝓡 code.env #added added-def.routine code.calls-restart·add-analog (added-thm.met 𝓤 H 𝓜 𝓖 𝓡))
+    (cited 𝓤 H (Answered 𝓤 H (𝓖 .A) (𝓜 .mem) (𝓡 .run)) 𝓜 𝓡 code.env #answered answered-def.routine code.calls-restart·finish-restart (answered-thm.met 𝓤 H 𝓜 𝓖 𝓡)))

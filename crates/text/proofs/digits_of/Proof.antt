@@ -2,15 +2,15 @@
 -- Assumes nothing.
 use Prim.Native.Nat.{_-_, _≤_}
 use lib.ListN.{length, drop}
-use Rattle.text.specs.Words.{judged}
+use Rattle.text.specs.Words.{wholeWithin}
 use mathlib.Core.Path.{_≡_, refl, sym, _∙_}
-use Rattle.text.proofs.DecimalLaws.{judged-low, judged-high, judged-turn, judged-past, judged-end}
+use Rattle.text.proofs.DecimalLaws.{whole-within-low, whole-within-high, whole-within-turn, whole-within-past, whole-within-end}
 use native.Mathlib.Omega.{arith}
 use Rattle.text.proofs.digits_of.Statement.{statement}
 use Rattle.text.proofs.digits_of.Tie as tie
 
 abbrev Inv-loop : tie.InvT-loop
-Inv-loop w limit a₀ i₀ a i = (judged limit a (drop i w) ≡ judged limit 0 w) × (a ≤ limit) × (i ≤ length w)
+Inv-loop w limit a₀ i₀ a i = (wholeWithin limit a (drop i w) ≡ wholeWithin limit 0 w) × (a ≤ limit) × (i ≤ length w)
 
 abbrev μ-loop : tie.MeasureT-loop
 μ-loop w limit a₀ i₀ a i = length w - i
@@ -24,12 +24,12 @@ shared-slice-read-b c = omega arith
 returns : tie.Need-returns Inv-loop μ-loop
 returns c = let l = c .before .before .before .loop in
     let start = c .before .before .before .before .before in
-    (sym (judged-low (start .args .limit) (l .a) (l .i) (start .args .w .now) (omega arith) (c .if1 .taken)) ∙ l .inv .0, omega arith)
+    (sym (whole-within-low (start .args .limit) (l .a) (l .i) (start .args .w .now) (omega arith) (c .if1 .taken)) ∙ l .inv .0, omega arith)
 
 returns-2 : tie.Need-returns-2 Inv-loop μ-loop
 returns-2 c = let l = c .before .before .before .before .loop in
     let start = c .before .before .before .before .before .before in
-    (sym (judged-high (start .args .limit) (l .a) (l .i) (start .args .w .now) (omega arith) (c .if2 .taken)) ∙ l .inv .0, omega arith)
+    (sym (whole-within-high (start .args .limit) (l .a) (l .i) (start .args .w .now) (omega arith) (c .if2 .taken)) ∙ l .inv .0, omega arith)
 
 wide-requires : tie.Need-wide-requires Inv-loop μ-loop
 wide-requires c κs = omega arith
@@ -40,12 +40,12 @@ sub-d c = omega arith
 returns-3 : tie.Need-returns-3 Inv-loop μ-loop
 returns-3 c = let l = c .before .before .before .before .before .before .loop in
     let start = c .before .before .before .before .before .before .before .before in
-    (sym (judged-past (start .args .limit) (l .a) (l .i) (start .args .w .now) (omega arith) (omega arith) (omega arith) (omega arith)) ∙ l .inv .0, omega arith)
+    (sym (whole-within-past (start .args .limit) (l .a) (l .i) (start .args .w .now) (omega arith) (omega arith) (omega arith) (omega arith)) ∙ l .inv .0, omega arith)
 
 returns-4 : tie.Need-returns-4 Inv-loop μ-loop
 returns-4 c = let l = c .before .before .before .before .before .before .before .loop in
     let start = c .before .before .before .before .before .before .before .before .before in
-    (sym (judged-past (start .args .limit) (l .a) (l .i) (start .args .w .now) (omega arith) (omega arith) (omega arith) (omega arith)) ∙ l .inv .0, omega arith)
+    (sym (whole-within-past (start .args .limit) (l .a) (l .i) (start .args .w .now) (omega arith) (omega arith) (omega arith) (omega arith)) ∙ l .inv .0, omega arith)
 
 mul-a : tie.Need-mul-a Inv-loop μ-loop
 mul-a c = omega arith
@@ -62,12 +62,12 @@ loop-less c = omega arith
 loop-again : tie.Need-loop-again Inv-loop μ-loop
 loop-again c = let l = c .before .before .before .before .before .before .before .loop in
     let start = c .before .before .before .before .before .before .before .before .before in
-    (judged-turn (start .args .limit) (l .a) (l .i) (start .args .w .now) (omega arith) _ (omega arith) (omega arith) (omega arith) ∙ l .inv .0, omega arith, omega arith)
+    (whole-within-turn (start .args .limit) (l .a) (l .i) (start .args .w .now) (omega arith) _ (omega arith) (omega arith) (omega arith) ∙ l .inv .0, omega arith, omega arith)
 
 returns-5 : tie.Need-returns-5 Inv-loop μ-loop
 returns-5 c = let l = c .before .loop in
     let start = c .before .before .before in
-    (sym (judged-end (start .args .limit) (l .a) (l .i) (start .args .w .now) (omega arith) (omega arith)) ∙ l .inv .0, omega arith)
+    (sym (whole-within-end (start .args .limit) (l .a) (l .i) (start .args .w .now) (omega arith) (omega arith)) ∙ l .inv .0, omega arith)
 
 pub digits-of-spec : {M : Type 1} → statement M
 digits-of-spec =

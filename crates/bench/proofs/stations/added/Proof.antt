@@ -14,8 +14,8 @@ abbrev μ-loop : tie.MeasureT-loop
 loop-holds : tie.Need-loop-holds Inv-loop μ-loop
 loop-holds c = tt
 
-more-requires : tie.Need-more-requires Inv-loop μ-loop
-more-requires c κs = tt
+analogs-left-requires : tie.Need-analogs-left-requires Inv-loop μ-loop
+analogs-left-requires c κs = tt
 
 returns : tie.Need-returns Inv-loop μ-loop
 returns c = tt
@@ -23,8 +23,8 @@ returns c = tt
 returns-2 : tie.Need-returns-2 Inv-loop μ-loop
 returns-2 c = tt
 
-added-requires : tie.Need-added-requires Inv-loop μ-loop
-added-requires c κs = search needs
+add-analog-requires : tie.Need-add-analog-requires Inv-loop μ-loop
+add-analog-requires c κs = search needs
 
 sub-left : tie.Need-sub-left Inv-loop μ-loop
 sub-left c = omega arith
@@ -45,10 +45,10 @@ added-spec =
     Inv-loop
     μ-loop
     loop-holds
-    more-requires
+    analogs-left-requires
     returns
     returns-2
-    added-requires
+    add-analog-requires
     sub-left
     loop-less
     loop-again

@@ -11,17 +11,17 @@ Inv-loop h n binaries₀ analogs₀ held₀ readings t₀ left₀ binaries analo
 abbrev μ-loop : tie.MeasureT-loop
 μ-loop h n binaries₀ analogs₀ held₀ readings t₀ left₀ binaries analogs held t left = left
 
-begun-requires : tie.Need-begun-requires Inv-loop μ-loop
-begun-requires c κs = tt
+begin-table-requires : tie.Need-begin-table-requires Inv-loop μ-loop
+begin-table-requires c κs = tt
 
 loop-holds : tie.Need-loop-holds Inv-loop μ-loop
 loop-holds c = tt
 
-more-requires : tie.Need-more-requires Inv-loop μ-loop
-more-requires c κs = tt
+readings-left-requires : tie.Need-readings-left-requires Inv-loop μ-loop
+readings-left-requires c κs = tt
 
-ended-requires : tie.Need-ended-requires Inv-loop μ-loop
-ended-requires c κs = tt
+finish-table-requires : tie.Need-finish-table-requires Inv-loop μ-loop
+finish-table-requires c κs = tt
 
 returns : tie.Need-returns Inv-loop μ-loop
 returns c = tt
@@ -32,8 +32,8 @@ mul-r c = omega arith
 array-copy-out-r : tie.Need-array-copy-out-r Inv-loop μ-loop
 array-copy-out-r c = search needs
 
-took-requires : tie.Need-took-requires Inv-loop μ-loop
-took-requires c κs = search needs
+take-next-requires : tie.Need-take-next-requires Inv-loop μ-loop
+take-next-requires c κs = search needs
 
 sub-left : tie.Need-sub-left Inv-loop μ-loop
 sub-left c = omega arith
@@ -44,8 +44,8 @@ loop-less c = omega arith
 loop-again : tie.Need-loop-again Inv-loop μ-loop
 loop-again c = tt
 
-ended-requires-2 : tie.Need-ended-requires-2 Inv-loop μ-loop
-ended-requires-2 c κs = tt
+finish-table-requires-2 : tie.Need-finish-table-requires-2 Inv-loop μ-loop
+finish-table-requires-2 c κs = tt
 
 returns-2 : tie.Need-returns-2 Inv-loop μ-loop
 returns-2 c = tt
@@ -56,16 +56,16 @@ taken-spec =
     (tie.spec
     Inv-loop
     μ-loop
-    begun-requires
+    begin-table-requires
     loop-holds
-    more-requires
-    ended-requires
+    readings-left-requires
+    finish-table-requires
     returns
     mul-r
     array-copy-out-r
-    took-requires
+    take-next-requires
     sub-left
     loop-less
     loop-again
-    ended-requires-2
+    finish-table-requires-2
     returns-2)

@@ -11,23 +11,23 @@ Inv-loop w classes binaries analogs₀ s n g₀ next₀ left₀ analogs g next l
 abbrev μ-loop : tie.MeasureT-loop
 μ-loop w classes binaries analogs₀ s n g₀ next₀ left₀ analogs g next left = left
 
-begun-requires : tie.Need-begun-requires Inv-loop μ-loop
-begun-requires c κs = tt
+begin-restart-requires : tie.Need-begin-restart-requires Inv-loop μ-loop
+begin-restart-requires c κs = tt
 
 loop-holds : tie.Need-loop-holds Inv-loop μ-loop
 loop-holds c = tt
 
-more-requires : tie.Need-more-requires Inv-loop μ-loop
-more-requires c κs = tt
+analogs-left-requires : tie.Need-analogs-left-requires Inv-loop μ-loop
+analogs-left-requires c κs = tt
 
-answered-requires : tie.Need-answered-requires Inv-loop μ-loop
-answered-requires c κs = tt
+finish-restart-requires : tie.Need-finish-restart-requires Inv-loop μ-loop
+finish-restart-requires c κs = tt
 
 returns : tie.Need-returns Inv-loop μ-loop
 returns c = tt
 
-answered-requires-2 : tie.Need-answered-requires-2 Inv-loop μ-loop
-answered-requires-2 c κs = tt
+finish-restart-requires-2 : tie.Need-finish-restart-requires-2 Inv-loop μ-loop
+finish-restart-requires-2 c κs = tt
 
 returns-2 : tie.Need-returns-2 Inv-loop μ-loop
 returns-2 c = tt
@@ -35,8 +35,8 @@ returns-2 c = tt
 analog-at-requires : tie.Need-analog-at-requires Inv-loop μ-loop
 analog-at-requires c κs = tt
 
-added-requires : tie.Need-added-requires Inv-loop μ-loop
-added-requires c κs = search needs
+add-analog-requires : tie.Need-add-analog-requires Inv-loop μ-loop
+add-analog-requires c κs = search needs
 
 sub-left : tie.Need-sub-left Inv-loop μ-loop
 sub-left c = omega arith
@@ -47,8 +47,8 @@ loop-less c = omega arith
 loop-again : tie.Need-loop-again Inv-loop μ-loop
 loop-again c = tt
 
-answered-requires-3 : tie.Need-answered-requires-3 Inv-loop μ-loop
-answered-requires-3 c κs = tt
+finish-restart-requires-3 : tie.Need-finish-restart-requires-3 Inv-loop μ-loop
+finish-restart-requires-3 c κs = tt
 
 returns-3 : tie.Need-returns-3 Inv-loop μ-loop
 returns-3 c = tt
@@ -59,17 +59,17 @@ restarted-spec =
     (tie.spec
     Inv-loop
     μ-loop
-    begun-requires
+    begin-restart-requires
     loop-holds
-    more-requires
-    answered-requires
+    analogs-left-requires
+    finish-restart-requires
     returns
-    answered-requires-2
+    finish-restart-requires-2
     returns-2
     analog-at-requires
-    added-requires
+    add-analog-requires
     sub-left
     loop-less
     loop-again
-    answered-requires-3
+    finish-restart-requires-3
     returns-3)

@@ -1,4 +1,4 @@
--- `restart::added` meets its contract: the test says whether the analog is stored.
+-- `restart::add_analog` meets its contract: the test says whether the analog is stored.
 -- Assumes nothing.
 use mathlib.Core.Path.{_≡_, sym, ap, _∙_}
 use mathlib.Core.Bool.{Bool, true, false, false≢true}
@@ -7,9 +7,9 @@ use borrow.Author.Needs.{needs}
 use Rattle.points.specs.declared.AnalogPoint.{AnalogPoint}
 use Rattle.points.specs.Setup.{analogOk, freshAnalog}
 use Rattle.point_store.specs.PointWords.{analogsIn}
-use Rattle.restart.specs.Restart.{analogSetupOf, goneOn}
-use Rattle.restart.proofs.added.Statement.{statement}
-use Rattle.restart.proofs.added.Tie as tie
+use Rattle.restart.specs.Restart.{analogSetupOf, progressAfter}
+use Rattle.restart.proofs.add_analog.Statement.{statement}
+use Rattle.restart.proofs.add_analog.Tie as tie
 
 analog-setup-of-requires : tie.Need-analog-setup-of-requires
 analog-setup-of-requires c κs = search needs
@@ -32,7 +32,7 @@ returns c =
     let setup = tested .before in
     let a = setup .before .args in
     let e : analogOk (analogSetupOf (a .w)) ≡ true = sym (ap analogOk (setup .analog-setup-of .ensures)) ∙ sym (tested .analog-ok .ensures) ∙ c .before .before .before .if1 .taken in (
-      sym (ap (λ (b : Bool). goneOn b (a .g)) e),
+      sym (ap (λ (b : Bool). progressAfter b (a .g)) e),
       (λ _. c .store-analog .ensures
           ∙ ap (λ (p : AnalogPoint). set (analogsIn (a .analogs .now)) (a .g .at) p) (c .before .fresh-analog .ensures ∙ ap freshAnalog (setup .analog-setup-of .ensures))),
     )
@@ -43,10 +43,10 @@ returns-2 c =
     let setup = tested .before in
     let a = setup .before .args in
     let e : analogOk (analogSetupOf (a .w)) ≡ false = sym (ap analogOk (setup .analog-setup-of .ensures)) ∙ sym (tested .analog-ok .ensures) ∙ c .if1 .left in
-    (sym (ap (λ (b : Bool). goneOn b (a .g)) e), (λ t. absurd (false≢true (sym e ∙ t))))
+    (sym (ap (λ (b : Bool). progressAfter b (a .g)) e), (λ t. absurd (false≢true (sym e ∙ t))))
 
-pub added-spec : {M : Type 1} → statement M
-added-spec =
+pub add-analog-spec : {M : Type 1} → statement M
+add-analog-spec =
     tie.close
     (tie.spec
     analog-setup-of-requires

@@ -1,12 +1,12 @@
--- `restart::begun` meets its contract: the limits are kept and the classes are good, or one is not.
+-- `restart::begin_restart` meets its contract: the limits are kept and the classes are good, or one is not.
 -- Assumes nothing.
 use mathlib.Core.Path.{_≡_, sym, ap, _∙_}
 use mathlib.Core.Bool.{true, false, false≢true}
 use borrow.Author.Needs.{needs}
-use Rattle.restart.specs.Restart.{frontOk, begunOf}
+use Rattle.restart.specs.Restart.{frontOk, beginRestart}
 use Rattle.restart.proofs.SetupLaws.{front-is, few-binaries}
-use Rattle.restart.proofs.begun.Statement.{statement}
-use Rattle.restart.proofs.begun.Tie as tie
+use Rattle.restart.proofs.begin_restart.Statement.{statement}
+use Rattle.restart.proofs.begin_restart.Tie as tie
 
 limits-ok-requires : tie.Need-limits-ok-requires
 limits-ok-requires c κs = search needs
@@ -23,7 +23,7 @@ returns c =
     let a = kept .before .before .args in
     let e : frontOk (a .s) (a .classes .now) (a .analogs) ≡ true =
     front-is (a .s) (a .classes .now) (a .analogs) ∙ rw (← kept .limits-ok .ensures, stored .before .before .if1 .taken) (sym (stored .fresh-binaries .ensures .0) ∙ c .if2 .taken) in
-    (sym (ap begunOf e), (λ _. stored .fresh-binaries .ensures .1 (c .if2 .taken)))
+    (sym (ap beginRestart e), (λ _. stored .fresh-binaries .ensures .1 (c .if2 .taken)))
 
 returns-2 : tie.Need-returns-2
 returns-2 c =
@@ -32,7 +32,7 @@ returns-2 c =
     let a = kept .before .before .args in
     let e : frontOk (a .s) (a .classes .now) (a .analogs) ≡ false =
     front-is (a .s) (a .classes .now) (a .analogs) ∙ rw (← kept .limits-ok .ensures, stored .before .before .if1 .taken) (sym (stored .fresh-binaries .ensures .0) ∙ c .if2 .left) in
-    (sym (ap begunOf e), (λ t. absurd (false≢true (sym e ∙ t))))
+    (sym (ap beginRestart e), (λ t. absurd (false≢true (sym e ∙ t))))
 
 returns-3 : tie.Need-returns-3
 returns-3 c =
@@ -40,9 +40,9 @@ returns-3 c =
     let a = kept .before .before .args in
     let e : frontOk (a .s) (a .classes .now) (a .analogs) ≡ false =
     front-is (a .s) (a .classes .now) (a .analogs) ∙ rw (← kept .limits-ok .ensures, c .if1 .left) in
-    (sym (ap begunOf e), (λ t. absurd (false≢true (sym e ∙ t))))
+    (sym (ap beginRestart e), (λ t. absurd (false≢true (sym e ∙ t))))
 
-pub begun-spec : {M : Type 1} → statement M
-begun-spec =
+pub begin-restart-spec : {M : Type 1} → statement M
+begin-restart-spec =
     tie.close
     (tie.spec limits-ok-requires fresh-binaries-requires returns returns-2 returns-3)
