@@ -4,7 +4,7 @@ use mathlib.Core.Path.{_≡_, refl}
 use mathlib.Core.List.{List, [], _∷_}
 use Prim.Native.Nat.{ℕ}
 use Rattle.octets.specs.Bytes.{le, value}
-use Rattle.crc.specs.Check.{step, steps, byteIn, remainder, checkOf}
+use Rattle.crc.specs.Check.{shiftOf, shifts, byteIn, remainder, checkOf}
 use Rattle.laws.specs.Limits.{userMax}
 use Rattle.laws.specs.Outcome.{accepted}
 use Rattle.frame.specs.Frame.{parts, frameSize, withCrc, blocks, linkHeader, encode, withoutCrc, crcOk, blocksOk, users, decodeBody, decode}
@@ -16,9 +16,9 @@ reset-link : List ℕ
 reset-link = 0x05 ∷ 0x64 ∷ 0x05 ∷ 0xC0 ∷ 0x01 ∷ 0x00 ∷ 0x00 ∷ 0x04 ∷ 0xE9 ∷ 0x21 ∷ []
 
 written : encode (parts 0xC0 1 1024 []) ≡ reset-link
-unfolding reset-link encode withCrc linkHeader blocks le checkOf remainder byteIn steps step
+unfolding reset-link encode withCrc linkHeader blocks le checkOf remainder byteIn shifts shiftOf
 written = refl
 
 read : decode userMax reset-link ≡ accepted (parts 0xC0 1 1024 [])
-unfolding reset-link decode decodeBody withoutCrc crcOk blocksOk users value checkOf remainder byteIn steps step
+unfolding reset-link decode decodeBody withoutCrc crcOk blocksOk users value checkOf remainder byteIn shifts shiftOf
 read = refl

@@ -23,7 +23,7 @@ use Rattle.select_latch.specs.declared.ControlFunction.the-variants.{Select, Op
 use Rattle.select_latch.specs.Select.{LatchView, noSelect, selected, operateStatus, controlEffect, byForm}
 use Rattle.select_latch.proofs.Laws.{operate-good}
 use Rattle.last_request.specs.Repeat.{kept}
-use Rattle.last_request.specs.Requests.{Request, sequenceIn, functionIn, objectsIn, InOrder, controls, acted, after, repeated, outcome, newRequests}
+use Rattle.last_request.specs.Requests.{Request, sequenceIn, functionIn, objectsIn, InOrder, controls, acted, rememberedAfter, repeated, outcome, newRequests}
 use Rattle.last_request.specs.Operates.{
   Selects,
   Allowed,
@@ -180,26 +180,26 @@ module _ (outputs arm : ℕ) where
     pub before : newRequests outputs arm h ≡ select ∷ earlier
     pub arms : Arms outputs arm select q t o
 
-  armed-by : (h : List Request) (q t : ℕ) (o : List ℕ) → after outputs arm h .latch ≡ selected q t o → ArmedBy h q t o
-  unfolding after newRequests
+  armed-by : (h : List Request) (q t : ℕ) (o : List ℕ) → rememberedAfter outputs arm h .latch ≡ selected q t o → ArmedBy h q t o
+  unfolding rememberedAfter newRequests
   armed-by [] q t o e = let z : _≡_ {A = ℕ} 0 1 = cc in absurd (omega arith)
   armed-by (r ∷ h) q t o e = go (repeated outputs arm h r) refl (armed-by h q t o) e where
-    go : (b : Bool) → repeated outputs arm h r ≡ b → (after outputs arm h .latch ≡ selected q t o → ArmedBy h q t o)
-        → cond b (after outputs arm h) (record { last = kept (r .bytes) (r .answer); latch = acted outputs arm (after outputs arm h .latch) r .latch }) .latch
+    go : (b : Bool) → repeated outputs arm h r ≡ b → (rememberedAfter outputs arm h .latch ≡ selected q t o → ArmedBy h q t o)
+        → cond b (rememberedAfter outputs arm h) (record { last = kept (r .bytes) (r .answer); latch = acted outputs arm (rememberedAfter outputs arm h .latch) r .latch }) .latch
         ≡ selected q t o
         → ArmedBy (r ∷ h) q t o
     go true x ih k =
         let i = ih k in
         record { select = i .select; earlier = i .earlier; before = rw x (i .before); arms = i .arms }
-    go false x ih k = record { select = r; earlier = newRequests outputs arm h; before = rw x refl; arms = acted-arms outputs arm (after outputs arm h .latch) r q t o k }
+    go false x ih k = record { select = r; earlier = newRequests outputs arm h; before = rw x refl; arms = acted-arms outputs arm (rememberedAfter outputs arm h .latch) r q t o k }
 
   -- objects are carried out on OPERATE only when it is allowed
   pub operates-only-selected : OperatesOnlySelected outputs arm
   operates-only-selected h r i f n = go (repeated outputs arm h r) refl n where
-    go : (b : Bool) → repeated outputs arm h r ≡ b → (cond b [] (acted outputs arm (after outputs arm h .latch) r .carried) ≡ [] → ⊥) → Allowed outputs arm h r
+    go : (b : Bool) → repeated outputs arm h r ≡ b → (cond b [] (acted outputs arm (rememberedAfter outputs arm h .latch) r .carried) ≡ [] → ⊥) → Allowed outputs arm h r
     go true x k = absurd (k refl)
     go false x k =
-        let a = operate-zero arm (after outputs arm h .latch) (sequenceIn r) (r .time) (objectsIn r) (operate-acts outputs arm (after outputs arm h .latch) r f k) in
+        let a = operate-zero arm (rememberedAfter outputs arm h .latch) (sequenceIn r) (r .time) (objectsIn r) (operate-acts outputs arm (rememberedAfter outputs arm h .latch) r f k) in
         let s = armed-by h (a .selectSequence) (a .selectTime) (objectsIn r) (a .latched) in
         let timely : r .time - a .selectTime ≤ arm = a .timely in
         record {
@@ -214,16 +214,16 @@ module _ (outputs arm : ℕ) where
         }
 
   pub repeats-do-nothing : RepeatsDoNothing outputs arm
-  unfolding after
+  unfolding rememberedAfter
   repeats-do-nothing h r e = (rw e, rw e, rw e)
 
   -- taking the repeats out of a history changes neither what is left behind nor what was handed over: nothing is carried out twice
-  news-after : (h : List Request) → after outputs arm (newRequests outputs arm h) ≡ after outputs arm h
-  unfolding after newRequests
+  news-after : (h : List Request) → rememberedAfter outputs arm (newRequests outputs arm h) ≡ rememberedAfter outputs arm h
+  unfolding rememberedAfter newRequests
   news-after [] = refl
   news-after (r ∷ h) = go (repeated outputs arm h r) refl (news-after h) where
-    go : (b : Bool) → repeated outputs arm h r ≡ b → after outputs arm (newRequests outputs arm h) ≡ after outputs arm h
-        → after outputs arm (cond b (newRequests outputs arm h) (r ∷ newRequests outputs arm h)) ≡ after outputs arm (r ∷ h)
+    go : (b : Bool) → repeated outputs arm h r ≡ b → rememberedAfter outputs arm (newRequests outputs arm h) ≡ rememberedAfter outputs arm h
+        → rememberedAfter outputs arm (cond b (newRequests outputs arm h) (r ∷ newRequests outputs arm h)) ≡ rememberedAfter outputs arm (r ∷ h)
     go true x ih = rw x ih
     go false x ih = rw (ih, x) refl
 
@@ -232,7 +232,7 @@ module _ (outputs arm : ℕ) where
   news-outcome [] = refl
   news-outcome (r ∷ h) = go (repeated outputs arm h r) refl (news-outcome h) (news-after h) where
     go : (b : Bool) → repeated outputs arm h r ≡ b → outcome outputs arm (newRequests outputs arm h) ≡ outcome outputs arm h
-        → after outputs arm (newRequests outputs arm h) ≡ after outputs arm h
+        → rememberedAfter outputs arm (newRequests outputs arm h) ≡ rememberedAfter outputs arm h
         → outcome outputs arm (cond b (newRequests outputs arm h) (r ∷ newRequests outputs arm h)) ≡ outcome outputs arm (r ∷ h)
     go true x ih k = rw x (ih ∙ sym (append-nil (outcome outputs arm h)))
     go false x ih k = rw (ih, k) refl
@@ -245,16 +245,16 @@ module _ (outputs arm : ℕ) where
   selects-arms l r s = rw (eq-eqb (functionIn r) 3 (s .function), s .form, s .zeros)
 
   armed-after : (h : List Request) (s : Request) (e : List Request) → newRequests outputs arm h ≡ s ∷ e → Selects outputs s
-      → after outputs arm h .latch ≡ selected (sequenceIn s) (s .time) (objectsIn s)
-  unfolding after newRequests
+      → rememberedAfter outputs arm h .latch ≡ selected (sequenceIn s) (s .time) (objectsIn s)
+  unfolding rememberedAfter newRequests
   armed-after [] s e n y = let z : _≡_ {A = ℕ} 0 1 = cc in absurd (omega arith)
   armed-after (r ∷ h) s e n y = go (repeated outputs arm h r) refl (armed-after h s e) n where
     go : (b : Bool) → repeated outputs arm h r ≡ b
-        → (newRequests outputs arm h ≡ s ∷ e → Selects outputs s → after outputs arm h .latch ≡ selected (sequenceIn s) (s .time) (objectsIn s))
+        → (newRequests outputs arm h ≡ s ∷ e → Selects outputs s → rememberedAfter outputs arm h .latch ≡ selected (sequenceIn s) (s .time) (objectsIn s))
         → cond b (newRequests outputs arm h) (r ∷ newRequests outputs arm h) ≡ s ∷ e
-        → after outputs arm (r ∷ h) .latch ≡ selected (sequenceIn s) (s .time) (objectsIn s)
+        → rememberedAfter outputs arm (r ∷ h) .latch ≡ selected (sequenceIn s) (s .time) (objectsIn s)
     go true x ih k = rw x (ih k y)
-    go false x ih k = rw (x, head-is r s (newRequests outputs arm h) e k) (selects-arms (after outputs arm h .latch) r (subst (Selects outputs) (head-is r s (newRequests outputs arm h) e k) y))
+    go false x ih k = rw (x, head-is r s (newRequests outputs arm h) e k) (selects-arms (rememberedAfter outputs arm h .latch) r (subst (Selects outputs) (head-is r s (newRequests outputs arm h) e k) y))
 
   operate-runs : (l : LatchView) (r : Request) (w n : ℕ) → functionIn r ≡ 4 → formed (objectsIn r) ≡ Objects w n
       → operateStatus arm l (sequenceIn r) (r .time) (objectsIn r) ≡ 0 → acted outputs arm l r .carried ≡ crobs w n (drop (3 + w) (objectsIn r))
@@ -274,7 +274,7 @@ module _ (outputs arm : ℕ) where
       let z =
       ap (λ (k : LatchView). operateStatus arm k (sequenceIn r) (r .time) (objectsIn r)) l
       ∙ operate-good arm (sequenceIn s) (s .time) (objectsIn s) (sequenceIn r) (r .time) (objectsIn r) o (a .sequence) (a .timely) in
-      rw x (operate-runs (after outputs arm h .latch) r (a .selects .width) (a .selects .count) f form z)
+      rw x (operate-runs (rememberedAfter outputs arm h .latch) r (a .selects .width) (a .selects .count) f form z)
 
 -- ---- what the other functions hand over
 
@@ -294,9 +294,9 @@ module _ (outputs arm : ℕ) (l : LatchView) (r : Request) where
 module _ (outputs arm : ℕ) where
   pub others-hand-nothing : OthersHandNothing outputs arm
   others-hand-nothing h r a b d = go (repeated outputs arm h r) where
-    go : (t : Bool) → cond t [] (acted outputs arm (after outputs arm h .latch) r .carried) ≡ []
+    go : (t : Bool) → cond t [] (acted outputs arm (rememberedAfter outputs arm h .latch) r .carried) ≡ []
     go true = refl
-    go false = others-act outputs arm (after outputs arm h .latch) r a b d
+    go false = others-act outputs arm (rememberedAfter outputs arm h .latch) r a b d
 
 pub nothing-twice : (outputs arm : ℕ) → NothingTwice outputs arm
 nothing-twice outputs arm h = (news-after outputs arm h, news-outcome outputs arm h)

@@ -10,7 +10,7 @@ use Rattle.control.specs.declared.Form.the-variants.{Objects}
 use Rattle.control.specs.Objects.{formed, crobs}
 use Rattle.control.specs.Status.{statuses, allZero}
 use Rattle.last_request.specs.Repeat.{keptAnswer}
-use Rattle.last_request.specs.Requests.{Request, sequenceIn, functionIn, objectsIn, InOrder, after, repeated, handsOver, answered, outcome, newRequests}
+use Rattle.last_request.specs.Requests.{Request, sequenceIn, functionIn, objectsIn, InOrder, rememberedAfter, repeated, handsOver, answered, outcome, newRequests}
 
 -- the request is a SELECT with all statuses 0
 pub record Selects (outputs : ℕ) (s : Request) : Type 0 where
@@ -47,12 +47,12 @@ OperatesWhole outputs arm =
 abbrev pub RepeatsDoNothing : ℕ → ℕ → Type 0
 RepeatsDoNothing outputs arm =
     (h : List Request) (r : Request) → repeated outputs arm h r ≡ true
-    → (handsOver outputs arm h r ≡ []) × (answered outputs arm h r ≡ keptAnswer (after outputs arm h .last)) × (after outputs arm (r ∷ h) ≡ after outputs arm h)
+    → (handsOver outputs arm h r ≡ []) × (answered outputs arm h r ≡ keptAnswer (rememberedAfter outputs arm h .last)) × (rememberedAfter outputs arm (r ∷ h) ≡ rememberedAfter outputs arm h)
 
 -- without its repeats a list leaves and hands over the same: nothing is carried out twice
 abbrev pub NothingTwice : ℕ → ℕ → Type 0
 NothingTwice outputs arm =
-    (h : List Request) → (after outputs arm (newRequests outputs arm h) ≡ after outputs arm h) × (outcome outputs arm (newRequests outputs arm h) ≡ outcome outputs arm h)
+    (h : List Request) → (rememberedAfter outputs arm (newRequests outputs arm h) ≡ rememberedAfter outputs arm h) × (outcome outputs arm (newRequests outputs arm h) ≡ outcome outputs arm h)
 
 -- a request of any other function than 4 to 6 hands over nothing
 abbrev pub OthersHandNothing : ℕ → ℕ → Type 0

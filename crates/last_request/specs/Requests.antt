@@ -53,8 +53,8 @@ module _ (outputs arm : ℕ) where
       }
 
   -- functions 3 to 6 are controls; every other request hands over nothing and empties the latch
-  abbrev pub byFunction : ℕ → LatchView → Request → Acted
-  byFunction n l r =
+  abbrev pub actedBy : ℕ → LatchView → Request → Acted
+  actedBy n l r =
       first
       (eqb n 3 ⇒ controls Select l r
       ∷ eqb n 4 ⇒ controls Operate l r
@@ -64,26 +64,26 @@ module _ (outputs arm : ℕ) where
       (record { carried = []; latch = noSelect })
 
   unfoldable pub acted : LatchView → Request → Acted
-  acted l r = byFunction (functionIn r) l r
+  acted l r = actedBy (functionIn r) l r
 
   -- a repeat changes nothing; every other request is kept with its answer
-  unfoldable pub after : List Request → Remembered
-  after [] = record { last = nothing; latch = noSelect }
-  after (r ∷ h) =
-      cond (isRepeat (after h .last) (r .bytes)) (after h)
-      (record { last = kept (r .bytes) (r .answer); latch = acted (after h .latch) r .latch })
+  unfoldable pub rememberedAfter : List Request → Remembered
+  rememberedAfter [] = record { last = nothing; latch = noSelect }
+  rememberedAfter (r ∷ h) =
+      cond (isRepeat (rememberedAfter h .last) (r .bytes)) (rememberedAfter h)
+      (record { last = kept (r .bytes) (r .answer); latch = acted (rememberedAfter h .latch) r .latch })
 
   -- the request, after this history, is a repeat
   abbrev pub repeated : List Request → Request → Bool
-  repeated h r = isRepeat (after h .last) (r .bytes)
+  repeated h r = isRepeat (rememberedAfter h .last) (r .bytes)
 
   -- what it hands to the host: of a repeat nothing
   abbrev pub handsOver : List Request → Request → List Crob
-  handsOver h r = cond (repeated h r) [] (acted (after h .latch) r .carried)
+  handsOver h r = cond (repeated h r) [] (acted (rememberedAfter h .latch) r .carried)
 
   -- what it is answered: of a repeat the same answer again
   abbrev pub answered : List Request → Request → List ℕ
-  answered h r = cond (repeated h r) (keptAnswer (after h .last)) (r .answer)
+  answered h r = cond (repeated h r) (keptAnswer (rememberedAfter h .last)) (r .answer)
 
   -- all that a history has handed to the host, in the order asked
   unfoldable pub outcome : List Request → List Crob

@@ -20,7 +20,7 @@ use Rattle.read_headers.specs.Parse.{Parsed, headers, fault}
 use Rattle.static_objects.specs.Static.{askedOf}
 use Rattle.last_request.specs.Repeat.{LastRequestView, nothing, kept, isRepeat}
 use Rattle.last_request.specs.Requests as Q
-use Rattle.last_request.specs.Requests.{Request, Acted, sequenceIn, functionIn, objectsIn, InOrder, byFunction, acted, after, repeated}
+use Rattle.last_request.specs.Requests.{Request, Acted, sequenceIn, functionIn, objectsIn, InOrder, actedBy, acted, rememberedAfter, repeated}
 use Rattle.last_request.proofs.Controls.{controls-safe}
 use Rattle.outstation.specs.declared.Reading.{Reading}
 use Rattle.outstation.specs.declared.Wait.{Wait}
@@ -41,7 +41,7 @@ abbrev actedOf : RequestEffect → Acted
 actedOf d = record { carried = d .operated; latch = d .latch }
 
 effect-acts : (w : OutstationView) (r : Request) (n : ℕ)
-    → actedOf (S.effectBy w (sequenceIn r) n (r .time) (objectsIn r)) ≡ byFunction (w .shared .outputs) (w .shared .armTime) n (w .master .session .latch) r
+    → actedOf (S.effectBy w (sequenceIn r) n (r .time) (objectsIn r)) ≡ actedBy (w .shared .outputs) (w .shared .armTime) n (w .master .session .latch) r
 effect-acts w r n =
     by (eqb n 2)
     (λ t. rw (eqb-true n 2 t))
@@ -68,10 +68,10 @@ kept-again f answer n = rw (ne-eqb (functionOf f) 1 n, same-refl f)
 
 module _ (outputs arm : ℕ) where
   -- the request that is kept has the bytes of the latest
-  latest-again : (p : Request) (h : List Request) → (functionIn p ≡ 1 → ⊥) → isRepeat (after outputs arm (p ∷ h) .last) (p .bytes) ≡ true
-  unfolding after
+  latest-again : (p : Request) (h : List Request) → (functionIn p ≡ 1 → ⊥) → isRepeat (rememberedAfter outputs arm (p ∷ h) .last) (p .bytes) ≡ true
+  unfolding rememberedAfter
   latest-again p h n =
-      by (isRepeat (after outputs arm h .last) (p .bytes)) (λ t. rw t t) (λ t. rw t (kept-again (p .bytes) (p .answer) n))
+      by (isRepeat (rememberedAfter outputs arm h .last) (p .bytes)) (λ t. rw t t) (λ t. rw t (kept-again (p .bytes) (p .answer) n))
 
   hands-of : (h : List Request) (r : Request) (a : Answer) → isReply a ≡ true → InOrder (r ∷ h) → handed a ≡ Q.handsOver outputs arm h r
       → Hands outputs arm h r a (handed a)
@@ -129,8 +129,8 @@ module _ (outputs arm : ℕ) where
                   record {
                     restarted = x .restarted;
                     wait = x .wait;
-                    last = after outputs arm h .last;
-                    latch = after outputs arm h .latch;
+                    last = rememberedAfter outputs arm h .last;
+                    latch = rememberedAfter outputs arm h .latch;
                   };
             };
       }
@@ -215,15 +215,15 @@ module _ (outputs arm : ℕ) where
   -- ---- requests
 
   -- one that is no repeat
-  module _ (h : List Request) (x : Extra) (k : Since (x .clock) h) (time : ℕ) (in-time : x .clock ≤ time) (f : List ℕ) (d : RequestEffect) (new : isRepeat (after outputs arm h .last) f ≡ false) where
-    new-ok : (r : Request) (a : Answer) → r .bytes ≡ f → r .time ≡ time → actedOf d ≡ acted outputs arm (after outputs arm h .latch) r → isReply a ≡ true
+  module _ (h : List Request) (x : Extra) (k : Since (x .clock) h) (time : ℕ) (in-time : x .clock ≤ time) (f : List ℕ) (d : RequestEffect) (new : isRepeat (rememberedAfter outputs arm h .last) f ≡ false) where
+    new-ok : (r : Request) (a : Answer) → r .bytes ≡ f → r .time ≡ time → actedOf d ≡ acted outputs arm (rememberedAfter outputs arm h .latch) r → isReply a ≡ true
         → handed a ≡ d .operated → Does h (r ∷ []) (record { state = S.afterRequest (view h x) time f (r .answer) d; answer = a })
-    unfolding after
+    unfolding rememberedAfter
     new-ok r a b y e p q =
         let l₂ : x .clock ≤ r .time = rw y in-time in
         let t : repeated outputs arm h r ≡ false = rw b new in
-        let l : d .latch ≡ acted outputs arm (after outputs arm h .latch) r .latch = ap (λ (y : Acted). y .latch) e in
-        let c : d .operated ≡ acted outputs arm (after outputs arm h .latch) r .carried = ap (λ (y : Acted). y .carried) e in
+        let l : d .latch ≡ acted outputs arm (rememberedAfter outputs arm h .latch) r .latch = ap (λ (y : Acted). y .latch) e in
+        let c : d .operated ≡ acted outputs arm (rememberedAfter outputs arm h .latch) r .carried = ap (λ (y : Acted). y .carried) e in
         record {
           sim =
               record {
@@ -246,11 +246,11 @@ module _ (outputs arm : ℕ) where
     unfolding S.readStep
     read-ok q n e =
         let r : Request = record { bytes = f; time = time; answer = [] } in
-        new-ok r (S.answers (S.responseBytes q d) []) refl refl (e ∙ sym (read-acts outputs arm (after outputs arm h .latch) r n)) refl
+        new-ok r (S.answers (S.responseBytes q d) []) refl refl (e ∙ sym (read-acts outputs arm (rememberedAfter outputs arm h .latch) r n)) refl
         (sym (ap (λ (y : Acted). y .carried) e))
 
     request-ok : (q function : ℕ)
-        → ((answer : List ℕ) → actedOf d ≡ acted outputs arm (after outputs arm h .latch) (record { bytes = f; time = time; answer = answer }))
+        → ((answer : List ℕ) → actedOf d ≡ acted outputs arm (rememberedAfter outputs arm h .latch) (record { bytes = f; time = time; answer = answer }))
         → Does h (oneRequest f time (cond (eqb function 6) [] (S.responseBytes q d))) (S.requestStep (view h x) q function time f d)
     unfolding S.requestStep
     request-ok q function e =
@@ -262,7 +262,7 @@ module _ (outputs arm : ℕ) where
   -- a repeat moves the clock
   repeat-ok : (h : List Request) (x : Extra) → Since (x .clock) h → (function : ℕ) (r : Request) → x .clock ≤ r .time → repeated outputs arm h r ≡ true
       → Does h (r ∷ []) (S.repeatStep (view h x) function (r .time))
-  unfolding S.repeatStep after
+  unfolding S.repeatStep rememberedAfter
   repeat-ok h x k function r l t =
       record {
         sim = record { extra = effectAt x (r .time) (x .inputs); is = rw t; since = since-request h (x .clock) r l k };
@@ -277,24 +277,24 @@ module _ (outputs arm : ℕ) where
     reads-ok : eqb (functionOf f) 1 ≡ true → (q : ℕ) (p : Parsed)
         → Does h (requestAsked (readAsk q p) (view h x) time f) (S.onAsk (readAsk q p) (view h x) time f)
     reads-ok e q (headers hs) =
-        read-ok h x k time in-time f (S.readEffect (view h x) q time hs) (read-new (after outputs arm h .last) f e) q (eqb-true (functionOf f) 1 e) refl
+        read-ok h x k time in-time f (S.readEffect (view h x) q time hs) (read-new (rememberedAfter outputs arm h .last) f e) q (eqb-true (functionOf f) 1 e) refl
     reads-ok e q (fault n) =
-        read-ok h x k time in-time f (S.plainEffect (view h x) n (x .restarted)) (read-new (after outputs arm h .last) f e) q
+        read-ok h x k time in-time f (S.plainEffect (view h x) n (x .restarted)) (read-new (rememberedAfter outputs arm h .last) f e) q
         (eqb-true (functionOf f) 1 e) refl
 
     abbrev effect : RequestEffect
     effect = S.effectBy (view h x) (sequenceOf (controlOf f)) (functionOf f) time (objectsOf f)
 
-    effect-is : (answer : List ℕ) → actedOf effect ≡ acted outputs arm (after outputs arm h .latch) (record { bytes = f; time = time; answer = answer })
+    effect-is : (answer : List ℕ) → actedOf effect ≡ acted outputs arm (rememberedAfter outputs arm h .latch) (record { bytes = f; time = time; answer = answer })
     unfolding acted
     effect-is answer = effect-acts (view h x) (record { bytes = f; time = time; answer = answer }) (functionOf f)
 
     asks-ok : (q function : ℕ) (d : RequestEffect)
-        → ((answer : List ℕ) → actedOf d ≡ acted outputs arm (after outputs arm h .latch) (record { bytes = f; time = time; answer = answer }))
+        → ((answer : List ℕ) → actedOf d ≡ acted outputs arm (rememberedAfter outputs arm h .latch) (record { bytes = f; time = time; answer = answer }))
         → Does h (oneRequest f time (cond (eqb function 6) [] (S.responseBytes q d)))
-        (cond (isRepeat (after outputs arm h .last) f) (S.repeatStep (view h x) function time) (S.requestStep (view h x) q function time f d))
+        (cond (isRepeat (rememberedAfter outputs arm h .last) f) (S.repeatStep (view h x) function time) (S.requestStep (view h x) q function time f d))
     asks-ok q function d e =
-        split (Does h (oneRequest f time (cond (eqb function 6) [] (S.responseBytes q d)))) (isRepeat (after outputs arm h .last) f)
+        split (Does h (oneRequest f time (cond (eqb function 6) [] (S.responseBytes q d)))) (isRepeat (rememberedAfter outputs arm h .last) f)
         (λ t. repeat-ok h x k function (record { bytes = f; time = time; answer = cond (eqb function 6) [] (S.responseBytes q d) }) in-time t)
         (λ t. request-ok h x k time in-time f d t q function e)
 
@@ -321,7 +321,7 @@ module _ (outputs arm : ℕ) where
   step-ok c w h m = rw (m .is) (step-view h (m .extra) (m .since) c)
 
 pub start-ok : (u : Setup) → Sim (u .outputs) (u .«arm_time») (restarted u) []
-unfolding restarted after
+unfolding restarted rememberedAfter
 start-ok u =
     record {
       extra =

@@ -25,7 +25,7 @@ use Rattle.outstation.specs.declared.Measured.the-variants as Ms
 use Rattle.outstation.specs.OutstationView.{OutstationView}
 use Rattle.outstation.specs.Readings.{badTime, ReadingEffect, onBinary, onAnalog, applyBy, applyReading}
 use Rattle.outstation.specs.Step.{took, Result, taken, readingStep, tableFrom}
-use Rattle.outstation.specs.Singly.{after, eachTaken, Singly}
+use Rattle.outstation.specs.Singly.{afterReadings, eachTaken, Singly}
 
 -- ---- one reading
 
@@ -139,7 +139,7 @@ module _ (r : Reading) (rs : List Reading) (j : ℕ) (w : OutstationView) where
         singly =
             record {
               within = suc-le-suc (m .within);
-              state = m .state ∙ ap (λ (x : Result). after (x .state) (take (t .count) rs)) (sym s);
+              state = m .state ∙ ap (λ (x : Result). afterReadings (x .state) (take (t .count) rs)) (sym s);
               each = (ap (λ (x : Result). x .answer) s, subst (λ (x : Result). eachTaken (x .state) (take (t .count) rs)) (sym s) (m .each));
               ends = λ z. ap suc (m .ends z);
               whole = λ z. m .whole (omega arith);

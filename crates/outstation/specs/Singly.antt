@@ -9,9 +9,9 @@ use Rattle.outstation.specs.OutstationView.{OutstationView}
 use Rattle.outstation.specs.Step.{took, readingStep}
 
 -- the state after these readings, one by one
-abbrev pub after : OutstationView → List Reading → OutstationView
-after w [] = w
-after w (r ∷ rs) = after (readingStep r w .state) rs
+abbrev pub afterReadings : OutstationView → List Reading → OutstationView
+afterReadings w [] = w
+afterReadings w (r ∷ rs) = afterReadings (readingStep r w .state) rs
 
 -- none of them is refused
 abbrev pub eachTaken : OutstationView → List Reading → Type 0
@@ -21,7 +21,7 @@ eachTaken w (r ∷ rs) = (readingStep r w .answer ≡ took 1 0) × eachTaken (re
 -- of the readings rs from w the first k are taken, each singly, and leave w₁; the next is refused with n, or there is none
 pub record Singly (w : OutstationView) (rs : List Reading) (k n : ℕ) (w₁ : OutstationView) : Type 0 where
   pub within : k ≤ length rs
-  pub state : w₁ ≡ after w (take k rs)
+  pub state : w₁ ≡ afterReadings w (take k rs)
   pub each : eachTaken w (take k rs)
   pub ends : n ≡ 0 → k ≡ length rs
   pub whole : k ≡ length rs → n ≡ 0

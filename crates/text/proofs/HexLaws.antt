@@ -11,11 +11,11 @@ use lib.Seq.{drop-cons, take-suc-set}
 use borrow.Author.Tests.{lt-ltb, le-ltb, eq-eqb, ne-eqb}
 use Rattle.octets.specs.Bytes.{splice}
 use Rattle.octets.proofs.Splice.{splice-nil}
-use Rattle.text.specs.Words.{after, digitOf, hexOf, nibbleOf, allHex, unhex, bytes, noBytes, hexRead}
+use Rattle.text.specs.Words.{cursorAfter, digitOf, hexOf, nibbleOf, allHex, unhex, bytes, noBytes, hexRead}
 use Rattle.text.proofs.Writing.{splice-after}
 
 pub hex-turn : (d : List ℕ) (to i : ℕ) (s : List ℕ) → i < length s
-    → splice (splice d to (digitOf (getD s i 0 / 16) ∷ digitOf (getD s i 0 % 16) ∷ [])) (after (length d) to 2) (hexOf (drop (i + 1) s))
+    → splice (splice d to (digitOf (getD s i 0 / 16) ∷ digitOf (getD s i 0 % 16) ∷ [])) (cursorAfter (length d) to 2) (hexOf (drop (i + 1) s))
     ≡ splice d to (hexOf (drop i s))
 unfolding hexOf
 hex-turn d to i s h =

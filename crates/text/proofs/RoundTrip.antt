@@ -10,7 +10,7 @@ use lib.ListN.{length, getD, length-append, List·getD-append}
 use lib.Dec.{ltb}
 use borrow.Author.Tests.{lt-ltb, le-ltb, ltb-true, ltb-false, eq-eqb, ne-eqb}
 use Rattle.octets.specs.Bytes.{AreBytes}
-use Rattle.text.specs.Words.{padded, wholeWithin, wholeOf, whole, shownBy, decimalOf, nibbleOf, digitOf, allHex, unhex, hexRead, hexOf, bytes}
+use Rattle.text.specs.Words.{padded, wholeWithin, decimalIn, whole, shownBy, decimalOf, nibbleOf, digitOf, allHex, unhex, hexRead, hexOf, bytes}
 use Rattle.text.proofs.DecimalLaws.{said-shown, all-shown}
 
 -- ---- decimal
@@ -57,8 +57,8 @@ not-padded (suc k) v h = go (ltb v 10) refl
         let s : 0 < length (shownBy k (v / 10)) = some-digit k (v / 10) in
         rw (le-ltb (length w) 1 (omega arith), le-ltb (length w) 2 (omega arith), ne-eqb (getD w 0 0) 48 (λ z. omega arith))
 
-pub whole-shown : (limit v : ℕ) → v ≤ limit → v < 10 ^ 20 → wholeOf limit (decimalOf v) ≡ whole v
-unfolding wholeOf wholeWithin
+pub whole-shown : (limit v : ℕ) → v ≤ limit → v < 10 ^ 20 → decimalIn limit (decimalOf v) ≡ whole v
+unfolding decimalIn wholeWithin
 whole-shown limit v h k = rw (not-padded 19 v k, all-shown 19 v, said-shown 19 v k, le-ltb limit v h)
 
 -- ---- hex

@@ -6,7 +6,7 @@ ghost use lib.ListN.{length, set, drop};
 ghost use lib.Ieee.{binary32, ofBits};
 ghost use Rattle.octets.specs.Bytes.{splice};
 ghost use Rattle.text.specs.Words.{
-  wholeOf,
+  decimalIn,
   wholeWithin,
   signedOf,
   fitted,
@@ -16,7 +16,7 @@ ghost use Rattle.text.specs.Words.{
   nibbleOf,
   digitOf,
   hexOf,
-  after,
+  cursorAfter,
 };
 
 // ---- words of a line
@@ -167,7 +167,7 @@ fn digits_of(w: &[u8], limit: u64) -> Whole
 
 // The number of a word, from 0 to the limit, with no zeros in front.
 pub fn decimal_of(w: &[u8], limit: u64) -> Whole
-    ensures { λ r. ⌜ (r ≡ wholeOf limit (now (w .entry))) × (r .value ≤ limit) ⌝ }
+    ensures { λ r. ⌜ (r ≡ decimalIn limit (now (w .entry))) × (r .value ≤ limit) ⌝ }
 {
     if w.len() < 1 {
         return Whole {
@@ -223,7 +223,7 @@ pub fn signed_of(w: &[u8], low: u64, high: u64) -> Signed
 
 // Puts a byte at the cursor, if there is room, and answers the next cursor.
 pub fn put(out: &mut [u8], at: usize, b: u8) -> usize
-    ensures { λ r. ⌜ (now (out .exit) ≡ set (now (out .entry)) at b) × (r ≡ after (length (now (out .entry))) at 1) ⌝ }
+    ensures { λ r. ⌜ (now (out .exit) ≡ set (now (out .entry)) at b) × (r ≡ cursorAfter (length (now (out .entry))) at 1) ⌝ }
 {
     if at < out.len() {
         out[at] = b;
@@ -235,7 +235,7 @@ pub fn put(out: &mut [u8], at: usize, b: u8) -> usize
 
 // Puts the bytes at the cursor, as far as there is room.
 pub fn put_bytes(out: &mut [u8], at: usize, s: &[u8]) -> usize
-    ensures { λ r. ⌜ (now (out .exit) ≡ splice (now (out .entry)) at (now (s .entry))) × (r ≡ after (length (now (out .entry))) at (length (now (s .entry)))) ⌝ }
+    ensures { λ r. ⌜ (now (out .exit) ≡ splice (now (out .entry)) at (now (s .entry))) × (r ≡ cursorAfter (length (now (out .entry))) at (length (now (s .entry)))) ⌝ }
 {
     let mut to = at;
     let mut i = 0;
@@ -265,7 +265,7 @@ fn spell(t: &mut [u8; 20], v: u64) -> usize
 
 // Puts the decimal digits of v at the cursor.
 pub fn put_decimal(out: &mut [u8], at: usize, v: u64) -> usize
-    ensures { λ r. ⌜ (now (out .exit) ≡ splice (now (out .entry)) at (decimalOf v)) × (r ≡ after (length (now (out .entry))) at (length (decimalOf v))) ⌝ }
+    ensures { λ r. ⌜ (now (out .exit) ≡ splice (now (out .entry)) at (decimalOf v)) × (r ≡ cursorAfter (length (now (out .entry))) at (length (decimalOf v))) ⌝ }
 {
     let mut t = [0u8; 20];
     let from = spell(&mut t, v);
@@ -337,7 +337,7 @@ fn digit(d: u8) -> u8
 
 // Puts the bytes at the cursor, two digits each.
 pub fn put_hex(out: &mut [u8], at: usize, s: &[u8]) -> usize
-    ensures { λ r. ⌜ (now (out .exit) ≡ splice (now (out .entry)) at (hexOf (now (s .entry)))) × (r ≡ after (length (now (out .entry))) at (2 * length (now (s .entry)))) ⌝ }
+    ensures { λ r. ⌜ (now (out .exit) ≡ splice (now (out .entry)) at (hexOf (now (s .entry)))) × (r ≡ cursorAfter (length (now (out .entry))) at (2 * length (now (s .entry)))) ⌝ }
 {
     let mut to = at;
     let mut i = 0;
@@ -350,7 +350,7 @@ pub fn put_hex(out: &mut [u8], at: usize, s: &[u8]) -> usize
 
 // Puts the two digits of a byte at the cursor.
 pub fn put_byte(out: &mut [u8], at: usize, b: u8) -> usize
-    ensures { λ r. ⌜ (now (out .exit) ≡ splice (now (out .entry)) at (digitOf (b / 16) ∷ digitOf (b % 16) ∷ [])) × (r ≡ after (length (now (out .entry))) at 2) ⌝ }
+    ensures { λ r. ⌜ (now (out .exit) ≡ splice (now (out .entry)) at (digitOf (b / 16) ∷ digitOf (b % 16) ∷ [])) × (r ≡ cursorAfter (length (now (out .entry))) at 2) ⌝ }
 {
     let next = put(out, at, digit(b / 16));
     put(out, next, digit(b % 16))

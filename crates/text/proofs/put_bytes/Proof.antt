@@ -5,7 +5,7 @@ use Prim.Native.Nat.{_-_, _≤_}
 use lib.ListN.{length, drop}
 use Rattle.octets.specs.Bytes.{splice}
 use Rattle.octets.proofs.Splice.{splice-end}
-use Rattle.text.specs.Words.{after}
+use Rattle.text.specs.Words.{cursorAfter}
 use Rattle.text.proofs.Writing.{put-turn}
 use borrow.Author.Needs.{needs}
 use native.Mathlib.Omega.{arith}
@@ -13,7 +13,7 @@ use Rattle.text.proofs.put_bytes.Statement.{statement}
 use Rattle.text.proofs.put_bytes.Tie as tie
 
 abbrev Inv-loop : tie.InvT-loop
-Inv-loop out₀ at s to₀ i₀ out to i = (splice out to (drop i s) ≡ splice out₀ at s) × (length out ≡ length out₀) × (i ≤ length s) × (to ≡ after (length out₀) at i)
+Inv-loop out₀ at s to₀ i₀ out to i = (splice out to (drop i s) ≡ splice out₀ at s) × (length out ≡ length out₀) × (i ≤ length s) × (to ≡ cursorAfter (length out₀) at i)
 
 abbrev μ-loop : tie.MeasureT-loop
 μ-loop out₀ at s to₀ i₀ out to i = length s - i

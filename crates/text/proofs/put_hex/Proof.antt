@@ -4,7 +4,7 @@ use mathlib.Core.Path.{_≡_, refl}
 use Prim.Native.Nat.{_-_, _*_, _≤_}
 use lib.ListN.{length, drop}
 use Rattle.octets.specs.Bytes.{splice}
-use Rattle.text.specs.Words.{after, hexOf}
+use Rattle.text.specs.Words.{cursorAfter, hexOf}
 use Rattle.text.proofs.HexLaws.{hex-turn, hex-end}
 use borrow.Author.Needs.{needs}
 use native.Mathlib.Omega.{arith}
@@ -12,7 +12,7 @@ use Rattle.text.proofs.put_hex.Statement.{statement}
 use Rattle.text.proofs.put_hex.Tie as tie
 
 abbrev Inv-loop : tie.InvT-loop
-Inv-loop out₀ at s to₀ i₀ out to i = (splice out to (hexOf (drop i s)) ≡ splice out₀ at (hexOf s)) × (length out ≡ length out₀) × (i ≤ length s) × (to ≡ after (length out₀) at (2 * i))
+Inv-loop out₀ at s to₀ i₀ out to i = (splice out to (hexOf (drop i s)) ≡ splice out₀ at (hexOf s)) × (length out ≡ length out₀) × (i ≤ length s) × (to ≡ cursorAfter (length out₀) at (2 * i))
 
 abbrev μ-loop : tie.MeasureT-loop
 μ-loop out₀ at s to₀ i₀ out to i = length s - i
