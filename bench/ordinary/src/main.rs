@@ -289,7 +289,7 @@ fn fold_answer(sum: u64, r: Result<Answer, FragmentError>, out: &[u8]) -> u64 {
         Err(FragmentError::Time) => 3,
         Err(FragmentError::Malformed) => 4,
         Err(FragmentError::NotConfirmed) => 5,
-        Err(FragmentError::AnswerLent) => 6,
+        Err(FragmentError::OutputTooSmall) => 6,
     };
     fold(sum, x)
 }

@@ -6,6 +6,7 @@ use mathlib.Core.Bool.{true, false}
 use mathlib.Core.List.{List, [], _∷_, _++_, map}
 use lib.Ieee.{binary32, ofBits}
 use lib.ListN.{length, replicate}
+use Rattle.laws.specs.Limits.{fragmentMax, pointsMax}
 use Rattle.frame.specs.Frame.{frameSize}
 use Rattle.points.specs.declared.WholeGate.the-variants as W
 use Rattle.points.specs.declared.FloatGate.the-variants as F
@@ -52,7 +53,7 @@ unused = record { class = 0; kind = Ks.Int32 W.Never }
 
 -- "4 binaries", "binary 3, class 1"
 abbrev pub fourBinaries : Setup
-fourBinaries = tableSetup 4 0 (0 ∷ 0 ∷ 0 ∷ 1 ∷ replicate 60 0) (replicate 64 unused)
+fourBinaries = tableSetup 4 0 (0 ∷ 0 ∷ 0 ∷ 1 ∷ replicate 60 0) (replicate pointsMax unused)
 
 -- gain 1.0 and offset 0.0
 abbrev pub floatPoint : AnalogSetup
@@ -70,7 +71,7 @@ pub record TableRow : Type 0 where
 
 -- a fragment at this time, with 2,048 lent bytes
 abbrev pub fragmentAt : ℕ → List ℕ → Answer → TableRow
-fragmentAt time bytes answer = record { call = fragment time bytes 2048; answer = answer }
+fragmentAt time bytes answer = record { call = fragment time bytes fragmentMax; answer = answer }
 
 -- a reading with flags 01, which is taken
 abbrev pub readingAt : ℕ → (point : ℕ) → Measured → TableRow

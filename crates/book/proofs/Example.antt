@@ -6,6 +6,7 @@ use mathlib.Core.Path.{_≡_, refl}
 use mathlib.Core.Bool.{Bool, true, false}
 use mathlib.Core.List.{List, [], _∷_}
 use lib.ListN.{replicate}
+use Rattle.laws.specs.Limits.{fragmentMax, pointsMax}
 use Rattle.points.specs.Reading as P
 use Rattle.points.specs.declared.WholeGate.the-variants as W
 use Rattle.points.specs.declared.AnalogKind.the-variants as Ks
@@ -38,7 +39,7 @@ oneBinary =
       «binary_count» = 1;
       «analog_count» = 0;
       classes = 1 ∷ replicate 63 0;
-      analogs = replicate 64 (record { class = 0; kind = Ks.Int32 W.Never });
+      analogs = replicate pointsMax (record { class = 0; kind = Ks.Int32 W.Never });
     }
 
 -- the binary is so, from this time on
@@ -49,9 +50,9 @@ abbrev calls : List Call
 calls =
     isAt 0 false
     ∷ isAt 1000 true
-    ∷ fragment 1001 (0xC3 ∷ 0x01 ∷ 0x3C ∷ 0x02 ∷ 0x06 ∷ []) 2048
-    ∷ fragment 1002 (0xC4 ∷ 0x00 ∷ []) 2048
-    ∷ fragment 1003 (0xC3 ∷ 0x00 ∷ []) 2048
+    ∷ fragment 1001 (0xC3 ∷ 0x01 ∷ 0x3C ∷ 0x02 ∷ 0x06 ∷ []) fragmentMax
+    ∷ fragment 1002 (0xC4 ∷ 0x00 ∷ []) fragmentMax
+    ∷ fragment 1003 (0xC3 ∷ 0x00 ∷ []) fragmentMax
     ∷ []
 
 -- what the book says of each call

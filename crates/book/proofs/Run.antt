@@ -9,6 +9,7 @@ use native.Mathlib.Omega.{arith}
 use lib.ListN.{length}
 use borrow.Author.Tests.{le-leb}
 use Rattle.laws.specs.Limits.{fragmentMax, eventsMax}
+use Rattle.read.specs.Response.{responseObjectsMax}
 use Rattle.laws.specs.Lists.{filter, some, same}
 use Rattle.points.specs.Reading as P
 use Rattle.points.specs.PointsView.{PointsView}
@@ -87,12 +88,12 @@ written = 0xC3 ∷ 0x81 ∷ 0x02 ∷ 0x00 ∷ []
 abbrev pub calls : List Call
 calls =
     table readings
-    ∷ fragment 2000 (read 0xC1) 2048
-    ∷ fragment 7001 (confirm 0xC1) 2048
-    ∷ fragment 8000 (read 0xC2) 2048
-    ∷ fragment 9000 (confirm 0xC2) 2048
-    ∷ fragment 9500 write 2048
-    ∷ fragment 9600 write 2048
+    ∷ fragment 2000 (read 0xC1) fragmentMax
+    ∷ fragment 7001 (confirm 0xC1) fragmentMax
+    ∷ fragment 8000 (read 0xC2) fragmentMax
+    ∷ fragment 9000 (confirm 0xC2) fragmentMax
+    ∷ fragment 9500 write fragmentMax
+    ∷ fragment 9600 write fragmentMax
     ∷ []
 
 -- ---- the states that they leave
@@ -220,7 +221,7 @@ none-fits : (n t : ℕ) (on : Bool) → K.carry class1 (record { left = 5; kind 
 unfolding K.carry E.fits E.spaceAfter E.costOf
 none-fits n t on = refl
 
-marks : K.carry class1 (E.emptySpace 2044) (all256 false) ≡ all256 true
+marks : K.carry class1 (E.emptySpace responseObjectsMax) (all256 false) ≡ all256 true
 marks = first-fit 225 5 1 true newest ∙ ap (λ (l : List Held). events true 226 1 true ++ l) (none-fits 29 227 true)
 
 -- a response carries the marked ones, and a CONFIRM leaves the others
@@ -264,8 +265,8 @@ readAnswer control = answers (control ∷ 0x81 ∷ 0x82 ∷ 0x08 ∷ eventsBytes
 -- of any state behind the table, by the events that are marked
 module _ (clock time q : ℕ) (f : List ℕ) (held after : List Held) (x : SessionView) where
   read-at : R.badTime clock time ≡ false → Q.ask (stateAt clock held true x .shared .inputs) f ≡ Q.reads q (eventsOf 1 ∷ [])
-      → K.carry class1 (E.emptySpace 2044) (map (K.marked false) held) ≡ after
-      → step (fragment time f 2048) (stateAt clock held true x)
+      → K.carry class1 (E.emptySpace responseObjectsMax) (map (K.marked false) held) ≡ after
+      → step (fragment time f fragmentMax) (stateAt clock held true x)
       ≡ record {
         state = stateAt time after true (sessionWith (x .restarted) (awaits q time) (kept f []));
         answer = answers (I.responseOf q true (S.indicationsOf (record { held = after; overflow = true }) (x .restarted)) Faultless ++ (carriedBytes after ++ [])) [];
@@ -300,44 +301,44 @@ read-bytes q control e =
     ∙ ap (λ (l : List ℕ). answers (control ∷ 0x81 ∷ 0x82 ∷ 0x08 ∷ l) [])
     (append-nil (carriedBytes (all256 true)) ∙ carried-bytes (all256 true) ∙ ap (λ (l : List Held). eventsBytes (map (λ (h : Held). h .event) l)) carried-226)
 
-pub by-read₁ : step (fragment 2000 (read 0xC1) 2048) w₁ ≡ record { state = w₂; answer = readAnswer 0xE1 }
+pub by-read₁ : step (fragment 2000 (read 0xC1) fragmentMax) w₁ ≡ record { state = w₂; answer = readAnswer 0xE1 }
 unfolding I.responseOf
 by-read₁ =
     read-at 257 2000 1 (read 0xC1) (all256 false) (all256 true) (sessionWith true Idle nothing) (in-time .0) asks₁
-    (ap (K.carry class1 (E.emptySpace 2044)) (unmarked-all false) ∙ marks)
+    (ap (K.carry class1 (E.emptySpace responseObjectsMax)) (unmarked-all false) ∙ marks)
     ∙ ap (λ (a : Answer). record { state = w₂; answer = a }) (read-bytes 1 0xE1 refl)
 
-pub by-read₂ : step (fragment 8000 (read 0xC2) 2048) w₂ ≡ record { state = w₄; answer = readAnswer 0xE2 }
+pub by-read₂ : step (fragment 8000 (read 0xC2) fragmentMax) w₂ ≡ record { state = w₄; answer = readAnswer 0xE2 }
 unfolding I.responseOf
 by-read₂ =
     read-at 2000 8000 2 (read 0xC2) (all256 true) (all256 true) (w₂ .master .session) (in-time .1) asks₂
-    (ap (K.carry class1 (E.emptySpace 2044)) (unmarked-all true) ∙ marks)
+    (ap (K.carry class1 (E.emptySpace responseObjectsMax)) (unmarked-all true) ∙ marks)
     ∙ ap (λ (a : Answer). record { state = w₄; answer = a }) (read-bytes 2 0xE2 refl)
 
 -- ---- CONFIRM, too late and in time, of any events
 
 pub by-late : (held : List Held) (m : LastRequestView) → let w = stateAt 2000 held true (sessionWith true (awaits 1 2000) m) in
-    step (fragment 7001 (confirm 0xC1) 2048) w ≡ record { state = w; answer = refuses 32 }
+    step (fragment 7001 (confirm 0xC1) fragmentMax) w ≡ record { state = w; answer = refuses 32 }
 unfolding S.step S.fragmentStep S.confirmStep R.badTime Q.ask Q.isConfirmed F.classified F.malformed
 by-late held m = refl
 
 confirm-at : (held : List Held) (m : LastRequestView)
-    → step (fragment 9000 (confirm 0xC2) 2048) (stateAt 8000 held true (sessionWith true (awaits 2 8000) m))
+    → step (fragment 9000 (confirm 0xC2) fragmentMax) (stateAt 8000 held true (sessionWith true (awaits 2 8000) m))
     ≡ record { state = stateAt 9000 (filter K.notCarried held) false (sessionWith true Idle m); answer = accepts }
 unfolding S.step S.fragmentStep S.confirmStep S.confirmedStep R.badTime Q.ask Q.isConfirmed F.classified F.malformed
 confirm-at held m = refl
 
-pub by-confirm : step (fragment 9000 (confirm 0xC2) 2048) w₄ ≡ record { state = w₅; answer = accepts }
+pub by-confirm : step (fragment 9000 (confirm 0xC2) fragmentMax) w₄ ≡ record { state = w₅; answer = accepts }
 by-confirm =
     confirm-at (all256 true) (kept (read 0xC2) [])
     ∙ ap (λ (l : List Held). record { state = stateAt 9000 l false (w₅ .master .session); answer = accepts }) waiting-30
 
 -- ---- WRITE, and its repeat
 
-pub by-write : step (fragment 9500 write 2048) w₅ ≡ record { state = w₆; answer = answers written [] }
+pub by-write : step (fragment 9500 write fragmentMax) w₅ ≡ record { state = w₆; answer = answers written [] }
 unfolding S.step S.fragmentStep S.requestStep R.badTime Q.ask F.classified F.malformed I.responseOf I.writeFault isRepeat same
 by-write = refl
 
-pub by-repeat : step (fragment 9600 write 2048) w₆ ≡ record { state = w₇; answer = answers written [] }
+pub by-repeat : step (fragment 9600 write fragmentMax) w₆ ≡ record { state = w₇; answer = answers written [] }
 unfolding S.step S.fragmentStep S.repeatStep R.badTime Q.ask F.classified F.malformed isRepeat same
 by-repeat = refl

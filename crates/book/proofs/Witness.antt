@@ -8,7 +8,8 @@ use mathlib.Core.List.{List, [], _∷_, _++_, append-nil}
 use native.Mathlib.Omega.{arith}
 use lib.ListN.{length, getD, drop}
 use borrow.Author.Tests.{le-leb, leb-true}
-use Rattle.laws.specs.Limits.{eventsMax}
+use Rattle.laws.specs.Limits.{fragmentMax, eventsMax}
+use Rattle.read.specs.Response.{responseObjectsMax}
 use Rattle.laws.specs.Lists.{isNil, same, count}
 use Rattle.points.specs.Reading as P
 use Rattle.events.specs.declared.Event.{Event}
@@ -80,7 +81,7 @@ none-picked : (n i t : ℕ) (on : Bool) (l : List Row) → picks class1 (record 
 unfolding E.fits E.spaceAfter E.costOf
 none-picked n i t on l = refl
 
-picked-226 : picks class1 (E.emptySpace 2044) 0 (all257 held) ≡ upTo 226 0
+picked-226 : picks class1 (E.emptySpace responseObjectsMax) 0 (all257 held) ≡ upTo 226 0
 picked-226 =
     first-picked 225 5 0 1 true (rowsAt held 30 227 true ++ rowsAt dropped 1 257 true)
     ∙ ap (λ (l : List ℕ). upTo 226 0 ++ l) (none-picked 29 226 227 true (rowsAt dropped 1 257 true))
@@ -105,32 +106,32 @@ book-table = refl
 
 module _ (rows : List Row) where
   abbrev picked : List ℕ
-  picked = picks class1 (E.emptySpace 2044) 0 rows
+  picked = picks class1 (E.emptySpace responseObjectsMax) 0 rows
 
   book-read : (clock time q : ℕ) (f last : List ℕ) (wait : BookWait) (built : ℕ) → R.badTime clock time ≡ false → Q.ask points f ≡ Q.reads q (eventsOf 1 ∷ [])
-      → enter (fragment time f 2048) (bookAt clock rows wait true last built) .book
+      → enter (fragment time f fragmentMax) (bookAt clock rows wait true last built) .book
       ≡ bookAt time rows (awaiting q time picked (length rows) built) true f (suc built)
   unfolding B.enter B.fragmentEntry B.readEntry A.asksFor staticBytes rangeBytes pointObjects encoded runs allBytes
   book-read clock time q f last wait built b a = rw (b, a, or-true (not (isNil picked)))
 
   book-late : (ws : List ℕ) (n k : ℕ) (last : List ℕ) (built : ℕ) → let b = bookAt 2000 rows (awaiting 1 2000 ws n k) true last built in
-      enter (fragment 7001 (confirm 0xC1) 2048) b .book ≡ b
+      enter (fragment 7001 (confirm 0xC1) fragmentMax) b .book ≡ b
   unfolding B.enter B.fragmentEntry B.confirmEntry R.badTime Q.ask Q.isConfirmed F.classified F.malformed
   book-late ws n k last built = refl
 
   book-confirm : (ws : List ℕ) (n k : ℕ) (last : List ℕ) (built : ℕ)
-      → enter (fragment 9000 (confirm 0xC2) 2048) (bookAt 8000 rows (awaiting 2 8000 ws n k) true last built) .book
+      → enter (fragment 9000 (confirm 0xC2) fragmentMax) (bookAt 8000 rows (awaiting 2 8000 ws n k) true last built) .book
       ≡ bookAt 9000 (release ws 0 rows) idle (cond (dropSince n rows) true false) last built
   unfolding B.enter B.fragmentEntry B.confirmEntry B.confirmedEntry R.badTime Q.ask Q.isConfirmed F.classified F.malformed
   book-confirm ws n k last built = refl
 
   book-write : (warning : Bool) (built : ℕ)
-      → enter (fragment 9500 write 2048) (bookAt 9000 rows idle warning (read 0xC2) built) .book ≡ bookAt 9500 rows idle warning write (suc built)
+      → enter (fragment 9500 write fragmentMax) (bookAt 9000 rows idle warning (read 0xC2) built) .book ≡ bookAt 9500 rows idle warning write (suc built)
   unfolding B.enter B.fragmentEntry B.otherEntry R.badTime Q.ask F.classified F.malformed same
   book-write warning built = refl
 
   book-repeat : (warning : Bool) (built : ℕ)
-      → enter (fragment 9600 write 2048) (bookAt 9500 rows idle warning write built) .book ≡ bookAt 9600 rows idle warning write built
+      → enter (fragment 9600 write fragmentMax) (bookAt 9500 rows idle warning write built) .book ≡ bookAt 9600 rows idle warning write built
   unfolding B.enter B.fragmentEntry B.repeatEntry R.badTime Q.ask F.classified F.malformed same
   book-repeat warning built = refl
 
@@ -207,19 +208,19 @@ run =
     let f₇ = fits-at 9600 newest false false Idle k₃ n coded-newest in
     let in₂ = counted-at 2000 (all256 true) true true (awaits 1 2000) k₁ m (omega arith) (omega arith) in
     more (did-for (restarted oneBinary) w₁ (table readings) (took 258 4) f₀ f₁ (counted-at 257 (all256 false) true true Idle nothing l (omega arith) (omega arith)) by-table)
-    (more (did-for w₁ w₂ (fragment 2000 (read 0xC1) 2048) (readAnswer 0xE1) f₁ f₂ in₂ by-read₁)
-    (more (did-for w₂ w₂ (fragment 7001 (confirm 0xC1) 2048) (refuses 32) f₂ f₂ in₂ (by-late (all256 true) k₁))
+    (more (did-for w₁ w₂ (fragment 2000 (read 0xC1) fragmentMax) (readAnswer 0xE1) f₁ f₂ in₂ by-read₁)
+    (more (did-for w₂ w₂ (fragment 7001 (confirm 0xC1) fragmentMax) (refuses 32) f₂ f₂ in₂ (by-late (all256 true) k₁))
     (more
-    (did-for w₂ w₄ (fragment 8000 (read 0xC2) 2048) (readAnswer 0xE2) f₂ f₄
+    (did-for w₂ w₄ (fragment 8000 (read 0xC2) fragmentMax) (readAnswer 0xE2) f₂ f₄
     (counted-at 8000 (all256 true) true true (awaits 2 8000) k₂ m (omega arith) (omega arith)) by-read₂)
     (more
-    (did-for w₄ w₅ (fragment 9000 (confirm 0xC2) 2048) accepts f₄ f₅
+    (did-for w₄ w₅ (fragment 9000 (confirm 0xC2) fragmentMax) accepts f₄ f₅
     (counted-at 9000 newest false true Idle k₂ n (omega arith) (omega arith)) by-confirm)
     (more
-    (did-for w₅ w₆ (fragment 9500 write 2048) (answers written []) f₅ f₆
+    (did-for w₅ w₆ (fragment 9500 write fragmentMax) (answers written []) f₅ f₆
     (counted-at 9500 newest false false Idle k₃ n (omega arith) (omega arith)) by-write)
     (more
-    (did-for w₆ w₇ (fragment 9600 write 2048) (answers written []) f₆ f₇
+    (did-for w₆ w₇ (fragment 9600 write fragmentMax) (answers written []) f₆ f₇
     (counted-at 9600 newest false false Idle k₃ n (omega arith) (omega arith)) by-repeat)
     none))))))
 
