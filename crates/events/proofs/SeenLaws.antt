@@ -1,7 +1,7 @@
 -- Laws of a loop that notes whether one of the first n slots of an array passes a test.
 -- Assumes nothing.
 use mathlib.Core.Path.{_≡_, refl, sym, ap, _∙_}
-use mathlib.Core.Bool.{Bool, true, false, _||_}
+use mathlib.Core.Bool.{Bool, false, _||_, or-false, or-assoc}
 use mathlib.Core.List.{List, []}
 use Prim.Native.Nat.{ℕ, _+_, _≤_, _<_}
 use native.Mathlib.Omega.{arith}
@@ -9,14 +9,6 @@ use lib.ListN.{length, take, getD}
 use lib.Seq.{slice, slice-empty}
 use Rattle.laws.specs.Lists.{some}
 use Rattle.laws.proofs.Loops.{slice-front}
-
-turn : (s q r : Bool) → ((s || q) || r) ≡ (s || (q || r))
-turn true q r = refl
-turn false q r = refl
-
-or-false : (s : Bool) → (s || false) ≡ s
-or-false true = refl
-or-false false = refl
 
 -- i of the n slots are looked at; seen: one of them passed
 pub record Noting {A : Type 0} (p : A → Bool) (l : List A) (n : ℕ) (seen : Bool) (i : ℕ) : Type 0 where
@@ -37,7 +29,7 @@ module _ {A : Type 0} (p : A → Bool) (l : List A) (n : ℕ) where
           fits = s .fits;
           rest =
               ap (λ (x : Bool). x || some p r) e
-              ∙ turn seen (p (getD l i d)) (some p r)
+              ∙ or-assoc seen (p (getD l i d)) (some p r)
               ∙ ap (λ (x : List A). seen || some p x) (sym (slice-front (λ x. x) (λ x. x) n i i l d below (s .fits)))
               ∙ s .rest;
         }

@@ -16,12 +16,12 @@ use Rattle.application.specs.declared.Fault.the-variants.{Faultless}
 use Rattle.application.specs.declared.ApplicationSequence.{ApplicationSequence}
 use Rattle.application.specs.Fragment.{objectsOf}
 use Rattle.application.specs.Response.{responseOf, isFaultless}
-use Rattle.application.proofs.Laws.{faultless-is}
 use Rattle.events.specs.BufferView.{BufferView, bufferView, released, cleared, isCarried}
 use Rattle.read_headers.specs.declared.Header.{Header}
-use Rattle.read_headers.specs.Parse.{Parsed, headers, fault}
-use Rattle.read_headers.specs.Plans.{planned}
+use Rattle.read_headers.specs.Parse.{Parsed, headers, fault, faultIn}
+use Rattle.read_headers.proofs.ParseLaws.{Told}
 use Rattle.static_objects.specs.Static.{askedOf}
+use Rattle.read.proofs.AskLaws.{told-asked}
 use Rattle.read.specs.Response.{bufferAfter, responseObjects, RepliedAs}
 use Rattle.control.specs.declared.Crobs.{Crobs}
 use Rattle.control.specs.Objects.{answerMax, listOf, Holding}
@@ -201,12 +201,9 @@ module _ (w : OutstationView) (q time : ℕ) (b a : List ℕ) (k : BufferView) (
         restarted = refl;
       }
 
-  read-worked : (hs : List Header) (p : Parsed) → planned f hs ≡ p → WorkedBy p
-  read-worked hs p e = go (isFaultless f) refl
-    where
-      go : (b : Bool) → isFaultless f ≡ b → WorkedBy p
-      go true t = subst WorkedBy (sym (ap (λ (x : Bool). cond x (headers hs) (fault f)) t) ∙ e) (faultless (faultless-is f t) hs)
-      go false t = subst WorkedBy (sym (ap (λ (x : Bool). cond x (headers hs) (fault f)) t) ∙ e) (faulty t)
+  read-worked : (p : Parsed) → Told p → f ≡ faultIn p → WorkedBy p
+  read-worked (headers hs) t e = faultless e hs
+  read-worked (fault g) t e = subst (λ (x : Fault). WorkedBy (fault x)) e (faulty (ap isFaultless e ∙ t))
 
 -- the memory of a READ, by the latch's bytes
 abbrev pub memoryOf : (binaries analogs held request answer : List ℕ) → List ℕ → Lent
@@ -229,7 +226,7 @@ module _ (h : Head) (bw aw e p s : List ℕ) (q time : ℕ) (f e₁ p₁ s₁ : 
       let w : OutstationView = viewOf h (memoryOf bw aw e p s o) in
       let y : Parsed = askedOf (w .shared .inputs) (objectsOf f) in
       let d : RequestEffect = effectFor (r .fault) con (r .size) (waitBy w q time b a₁ u (r .fault) con carried (r .size) is con) (holds (h .restarted)) in
-      let worked : EffectMeets d b a₁ (readEffectBy w q time y) = read-worked w q time b a₁ u (r .fault) con carried (r .size) is (g .asked) y (g .plan) ec (g .events) (g .size) (g .bytes) in
+      let worked : EffectMeets d b a₁ (readEffectBy w q time y) = read-worked w q time b a₁ u (r .fault) con carried (r .size) is y (told-asked (w .shared .inputs) (objectsOf f)) (g .fault) ec (g .events) (g .size) (g .bytes) in
       let marked : u ≡ readEffectBy w q time y .buffer = g .events ∙ sym (read-buffer w q time y) in
       let fits : r .size ≤ length b = omega (arith, read-most w q time (objectsOf f), worked .size, room) in
       record {

@@ -7,7 +7,7 @@ use lib.Dec.{eqb}
 use lib.ListN.{drop}
 use Rattle.laws.specs.Lists.{some}
 use Rattle.application.specs.declared.Fault.{Fault}
-use Rattle.application.specs.declared.Fault.the-variants.{BadParameter}
+use Rattle.application.specs.declared.Fault.the-variants.{Faultless, BadParameter}
 use Rattle.read_headers.specs.Headers.{frontHeader}
 use Rattle.read_headers.specs.declared.Header.{Header}
 use Rattle.read_headers.specs.declared.Front.{Front}
@@ -20,6 +20,14 @@ headersMax = 16
 pub data Parsed : Type 0 where
   headers : List Header → Parsed
   fault : Fault → Parsed
+
+abbrev pub faultIn : Parsed → Fault
+faultIn (headers hs) = Faultless
+faultIn (fault f) = f
+
+abbrev pub headersIn : Parsed → List Header
+headersIn (headers hs) = hs
+headersIn (fault f) = []
 
 -- one header more, in front
 abbrev pub also : Header → Parsed → Parsed

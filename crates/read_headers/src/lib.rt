@@ -1,10 +1,8 @@
-// A READ's object headers: what they ask for, or the first fault.
+// One object header of a READ: what it asks for, or its fault.
 ghost use mathlib.Core.Path.{_≡_};
 ghost use Prim.Native.Nat.{_≤_};
 ghost use lib.ListN.{length};
 ghost use Rattle.read_headers.specs.Headers.{objectOf, pointsFrom, rangeHeader, pointHeader, classHeader, frontHeader};
-ghost use Rattle.read_headers.specs.Parse.{headersMax, parse};
-ghost use Rattle.read_headers.specs.Plans.{plannedOf};
 use application::Fault;
 
 // A READ has at most so many object headers.
@@ -31,13 +29,6 @@ pub enum Object {
 pub enum Front {
     Asked(Header, usize),
     Faulty(Fault),
-}
-
-// What a READ asks for: the headers are the first `count` of the array, where there is no fault.
-pub struct Plan {
-    pub fault: Fault,
-    pub headers: [Header; HEADERS_MAX],
-    pub count: usize,
 }
 
 fn object_of(group: u8, variation: u8) -> Object
@@ -157,8 +148,8 @@ fn point_header(s: &[u8], analog: bool, n: u16) -> Front
     Front::Faulty(Fault::BadParameter)
 }
 
-// The header at the front of the bytes.
-fn front_header(s: &[u8], binaries: u16, analogs: u16) -> Front
+// The header at the front of the bytes, where there are so many binaries and analogs.
+pub fn front_header(s: &[u8], binaries: u16, analogs: u16) -> Front
     ensures { λ r. ⌜ r ≡ frontHeader binaries analogs (now (s .entry)) ⌝ }
 {
     if s.len() < 3 {
@@ -170,44 +161,5 @@ fn front_header(s: &[u8], binaries: u16, analogs: u16) -> Front
         Object::Binary => point_header(s, false, binaries),
         Object::Analog => point_header(s, true, analogs),
         Object::Unknown => Front::Faulty(Fault::ObjectUnknown),
-    }
-}
-
-// The headers of a READ, of the bytes after control and function, where there are so many binaries and analogs.
-pub fn headers(s: &[u8], binaries: u16, analogs: u16) -> Plan
-    ensures { λ r. ⌜ (plannedOf r ≡ parse binaries analogs (now (s .entry))) × (r .count ≤ headersMax) ⌝ }
-{
-    let blank = points_from(false, 0, 0);
-    let mut list = [blank; HEADERS_MAX];
-    let mut n: usize = 0;
-    let mut at: usize = 0;
-    while at < s.len() {
-        if n == HEADERS_MAX {
-            return Plan {
-                fault: Fault::BadParameter,
-                headers: list,
-                count: 0,
-            };
-        }
-        let next = front_header(&s[at..], binaries, analogs);
-        match next {
-            Front::Asked(h, size) => {
-                list[n] = h;
-                n += 1;
-                at += size;
-            }
-            Front::Faulty(f) => {
-                return Plan {
-                    fault: f,
-                    headers: list,
-                    count: 0,
-                };
-            }
-        }
-    }
-    Plan {
-        fault: Fault::Faultless,
-        headers: list,
-        count: n,
     }
 }

@@ -2,7 +2,7 @@
 -- headers".
 -- Assumes nothing.
 use Prim.Native.Nat.{ℕ, zero, suc, _+_, _-_}
-use mathlib.Core.Bool.{Bool, true, false, cond, _&&_}
+use mathlib.Core.Bool.{Bool, true, false, cond}
 use mathlib.Core.List.{List, [], _∷_, _++_}
 use lib.Dec.{ltb}
 use lib.ListN.{length, getD}
@@ -14,9 +14,7 @@ use Rattle.points.specs.declared.Value.{Value}
 use Rattle.points.specs.declared.Value.the-variants.{Int32, Int16, Float32}
 use Rattle.objects.specs.Values.{valueBytes, stateByte}
 use Rattle.objects.specs.Runs.{Object, Heading, encoded}
-use Rattle.application.specs.declared.Fault.{Fault}
 use Rattle.application.specs.declared.Fault.the-variants.{BadParameter}
-use Rattle.application.specs.Response.{isFaultless}
 use Rattle.read_headers.specs.declared.Header.{Header}
 use Rattle.read_headers.specs.Parse.{Parsed, headers, fault, parse}
 use Rattle.static_objects.specs.declared.ShownPoint.{ShownPoint}
@@ -74,10 +72,6 @@ staticBytes i (h ∷ hs) = headerBytes i h ++ staticBytes i hs
 abbrev pub sized : PointsView → Parsed → Parsed
 sized i (headers hs) = first (ltb fragmentMax (length (staticBytes i hs) + 4) ⇒ fault BadParameter ∷ []) (headers hs)
 sized i (fault f) = fault f
-
--- the same of a fault, where the static part has so many bytes
-abbrev pub fittedOf : Fault → ℕ → Fault
-fittedOf f size = first ((isFaultless f && ltb fragmentMax (size + 4)) ⇒ BadParameter ∷ []) f
 
 -- what a READ asks for, or its fault, of the bytes after control and function
 abbrev pub askedOf : PointsView → List ℕ → Parsed

@@ -1,16 +1,13 @@
-// The static part of a response, written from points in lent words into lent bytes. Its size is worked out once, for the test and for the
-// room that is left to events.
+// The static part of a response for one header of a READ: its size, and its bytes, written from points in lent words into lent bytes.
 ghost use mathlib.Core.Path.{_≡_};
 ghost use mathlib.Core.Bool.{true, false, cond};
 ghost use mathlib.Core.List.{List, []};
 ghost use Prim.Native.Nat.{ℕ, _+_, _*_, _≤_, _<_};
 ghost use lib.Dec.{eqb};
-ghost use lib.ListN.{length, take};
+ghost use lib.ListN.{length};
 ghost use Rattle.octets.specs.Bytes.{splice};
 ghost use Rattle.points.specs.PointsView.{PointsView};
 ghost use Rattle.objects.specs.Runs.{objectBytes};
-ghost use Rattle.read_headers.specs.Parse.{headersMax};
-ghost use Rattle.read_headers.specs.Plans.{plannedOf};
 ghost use Rattle.point_store.specs.PointWords.{pointsViewIn};
 ghost use Rattle.static_objects.specs.Static.{
   staticGroup,
@@ -21,31 +18,18 @@ ghost use Rattle.static_objects.specs.Static.{
   pointObjects,
   rangeBytes,
   headerBytes,
-  staticBytes,
-  fittedOf,
-  askedOf,
 };
 ghost use Rattle.static_objects.specs.Alone.{binariesAlone, analogsAlone};
-use application::FRAGMENT_MAX;
-use application::Fault;
 use point_store::ANALOG_WORDS;
 use point_store::BINARY_WORDS;
 use point_store::Installed;
 use points::Value;
-use read_headers::HEADERS_MAX;
 use read_headers::Header;
-use read_headers::Plan;
 
 // What a point shows: a binary's flags with its state, or an analog's flags and value.
 enum ShownPoint {
     Binary(u8),
     Analog(u8, Value),
-}
-
-// What a READ asks for, or its fault, and the bytes of the static part of its headers.
-pub struct SizedPlan {
-    pub plan: Plan,
-    pub size: usize,
 }
 
 // ---- one point, and one header
@@ -293,9 +277,10 @@ fn put_analogs(
     to
 }
 
-// ---- the headers of a request. A size reads no binary, and is the same whatever their words are: (b : List ℕ) → …
+// ---- a header of a request
 
-fn header_size(h: Header, analogs: &[u32; ANALOG_WORDS], n: Installed) -> usize
+// The bytes that a header takes. A size reads no binary, and is the same whatever their words are: (b : List ℕ) → …
+pub fn header_size(h: Header, analogs: &[u32; ANALOG_WORDS], n: Installed) -> usize
     ensures { λ r. ⌜ ((b : List ℕ) → r ≡ length (headerBytes (pointsViewIn n b (now (analogs .entry))) h)) × (r ≤ 1600000) ⌝ }
 {
     let binary_bytes = binaries_size(h.binaries as usize);
@@ -303,7 +288,8 @@ fn header_size(h: Header, analogs: &[u32; ANALOG_WORDS], n: Installed) -> usize
     binary_bytes + analog_bytes
 }
 
-fn put_header(
+// Puts what a header asks for at the offset, and answers the offset after it.
+pub fn put_header(
     out: &mut [u8],
     at: usize,
     h: Header,
@@ -332,84 +318,4 @@ fn put_header(
         h.analog as usize,
         h.analogs as usize,
     )
-}
-
-// The bytes of the static part.
-fn static_size(plan: Plan, analogs: &[u32; ANALOG_WORDS], n: Installed) -> usize
-    ensures { λ r. ⌜
-        ((b : List ℕ) → r ≡ length (staticBytes (pointsViewIn n b (now (analogs .entry))) (take (plan .count) (plan .headers))))
-        × (r ≤ 25600000) ⌝ }
-{
-    let stop = octets::least(plan.count, HEADERS_MAX);
-    let mut total: usize = 0;
-    let mut i: usize = 0;
-    while i < stop {
-        let h = plan.headers[i];
-        total += header_size(h, analogs, n);
-        i += 1;
-    }
-    total
-}
-
-// Puts the static part at the offset, and answers the offset after it.
-pub fn put_static(
-    out: &mut [u8],
-    at: usize,
-    plan: Plan,
-    binaries: &[u32; BINARY_WORDS],
-    analogs: &[u32; ANALOG_WORDS],
-    n: Installed,
-) -> usize
-    requires { ⌜ at + length (staticBytes (pointsViewIn n (now binaries) (now analogs)) (take (plan .count) (plan .headers))) ≤ length (now out) ⌝ }
-    ensures { λ r. ⌜
-        (r ≡ at + length (staticBytes (pointsViewIn n (now (binaries .entry)) (now (analogs .entry))) (take (plan .count) (plan .headers))))
-        × (now (out .exit) ≡ splice (now (out .entry)) at (staticBytes (pointsViewIn n (now (binaries .entry)) (now (analogs .entry))) (take (plan .count) (plan .headers)))) ⌝ }
-{
-    let stop = octets::least(plan.count, HEADERS_MAX);
-    let mut to = at;
-    let mut i: usize = 0;
-    while i < stop {
-        let h = plan.headers[i];
-        to = put_header(out, to, h, binaries, analogs, n);
-        i += 1;
-    }
-    to
-}
-
-// The fault of a READ whose static part has so many bytes: one that is too long is a fault.
-fn fitted(f: Fault, size: usize) -> Fault
-    requires { ⌜ size ≤ 25600000 ⌝ }
-    ensures { λ r. ⌜ r ≡ fittedOf f size ⌝ }
-{
-    if application::is_faultless(f) {
-        if FRAGMENT_MAX < size + 4 {
-            return Fault::BadParameter;
-        }
-    }
-    f
-}
-
-// What a READ asks for, or its fault, of the bytes after control and function.
-pub fn asked(s: &[u8], analogs: &[u32; ANALOG_WORDS], n: Installed) -> SizedPlan
-    ensures { λ r. ⌜
-        ((b : List ℕ) → plannedOf (r .plan) ≡ askedOf (pointsViewIn n b (now (analogs .entry))) (now (s .entry)))
-        × ((b : List ℕ) → r .size ≡ length (staticBytes (pointsViewIn n b (now (analogs .entry))) (take (r .plan .count) (r .plan .headers))))
-        × (r .plan .count ≤ headersMax) ⌝ }
-{
-    let binary_count = points::installed(n.binaries) as u16;
-    let analog_count = points::installed(n.analogs) as u16;
-    let plan = read_headers::headers(s, binary_count, analog_count);
-    let size = static_size(plan, analogs, n);
-    let f = plan.fault;
-    let fault = fitted(f, size);
-    let headers = plan.headers;
-    let sized = Plan {
-        fault: fault,
-        headers: headers,
-        count: plan.count,
-    };
-    SizedPlan {
-        plan: sized,
-        size: size,
-    }
 }
