@@ -37,10 +37,10 @@ pub struct Reply {
 }
 
 // What is known of a READ before it is answered: its fault, or the bytes of its static part and its event classes.
-pub struct ReadRequest {
-    pub fault: Fault,
-    pub size: usize,
-    pub classes: Classes,
+struct ReadRequest {
+    fault: Fault,
+    size: usize,
+    classes: Classes,
 }
 
 // A READ with a fault asks for nothing.
