@@ -73,7 +73,8 @@ fn with_class(m: Classes, class: u8) -> Classes
     }
 }
 
-// What a READ asks for, of the bytes after control and function. Its headers are not kept: put_static reads them again.
+// What a READ asks for, of the bytes after control and function. Its headers are not kept: put_static reads them again. No binary is read
+// for it, so it is the same whatever their words are: (b : List ℕ) → …
 fn asked(s: &[u8], analogs: &[u32; ANALOG_WORDS], n: Installed) -> ReadRequest
     ensures { λ r. ⌜ ((b : List ℕ) → r ≡
         requestOf (pointsViewIn n b (now (analogs .entry))) (askedOf (pointsViewIn n b (now (analogs .entry))) (now (s .entry)))) ⌝ }
@@ -115,7 +116,7 @@ fn asked(s: &[u8], analogs: &[u32; ANALOG_WORDS], n: Installed) -> ReadRequest
     }
 }
 
-// Puts the static part of a faultless READ at the offset, and answers the offset after it.
+// Puts the static part of a READ that `asked` found faultless at the offset, and answers the offset after it. A fault is not met again.
 fn put_static(
     out: &mut [u8],
     at: usize,
