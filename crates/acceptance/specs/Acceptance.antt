@@ -1,6 +1,6 @@
 -- The acceptance table of document 01, rows a to j, and the five frame sizes, as one statement about the rules.
 -- Assumes nothing.
-use Prim.Native.Nat.{ℕ, _+_}
+use Prim.Native.Nat.{ℕ, _+_, _-_}
 use mathlib.Core.Path.{_≡_}
 use mathlib.Core.Bool.{true, false}
 use mathlib.Core.List.{List, [], _∷_, _++_, map}
@@ -53,7 +53,7 @@ unused = record { class = 0; kind = Ks.Int32 W.Never }
 
 -- "4 binaries", "binary 3, class 1"
 abbrev pub fourBinaries : Setup
-fourBinaries = tableSetup 4 0 (0 ∷ 0 ∷ 0 ∷ 1 ∷ replicate 60 0) (replicate pointsMax unused)
+fourBinaries = tableSetup 4 0 (0 ∷ 0 ∷ 0 ∷ 1 ∷ replicate (pointsMax - 4) 0) (replicate pointsMax unused)
 
 -- gain 1.0 and offset 0.0
 abbrev pub floatPoint : AnalogSetup

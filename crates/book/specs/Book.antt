@@ -170,7 +170,12 @@ enterReading b r h =
     (withMaster (cond (h .raised) (enterEvent (h .event) (b .master)) (b .master)) b)
 
 unfoldable pub readingEntries : BookMaster → ReadingEffect → List HistoryEntry
-readingEntries m h = cond (h .raised) (cond (full m) (drop! (length (m .rows)) ∷ []) (hold! (length (m .rows)) ∷ [])) []
+readingEntries m h =
+    first
+    (not (h .raised) ⇒ []
+    ∷ full m ⇒ (drop! (length (m .rows)) ∷ [])
+    ∷ [])
+    (hold! (length (m .rows)) ∷ [])
 
 unfoldable pub readingEntry : Reading → Book → Entry
 readingEntry r b =

@@ -179,7 +179,7 @@ fn con_by(f: Fault, carried: bool, overflow: bool) -> bool
 }
 
 // Puts the response header in front of the objects; the carried events are marked.
-fn put_header(
+fn put_response_header(
     out: &mut [u8],
     q: ApplicationSequence,
     s: ResponseFlags,
@@ -249,7 +249,7 @@ fn answer_read(
     let fault = reply.fault;
     let con = con_by(fault, event_store::any_carried(held, t), t.overflow);
     let s = ResponseFlags { fault, con };
-    put_header(out, q, s, held, t, outstation::truth(h.restarted));
+    put_response_header(out, q, s, held, t, outstation::truth(h.restarted));
     let kept = last_request::remember(request, answer, f, &f[..0]);
     let next = after_read(h, q, time, con, kept);
     let a = FragmentAnswer::Answer(reply.size);
@@ -374,7 +374,7 @@ fn put_answer(
         fault: fault,
         con: d.con,
     };
-    put_header(out, q, s, held, t, d.restarted);
+    put_response_header(out, q, s, held, t, d.restarted);
     d.size
 }
 

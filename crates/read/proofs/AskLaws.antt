@@ -134,17 +134,15 @@ module _ (i : PointsView) where
   fitted-sized (headers hs) = fitted-by (ltb fragmentMax (length (staticBytes i hs) + 4)) hs
   fitted-sized (fault f) = ap (λ (n : ℕ). cond (ltb fragmentMax (n + 4)) (requestOf i (fault BadParameter)) (requestOf i (fault f))) (ap length (static-nil i))
 
-  module _ (r : ReadRequest) (p : Parsed) (e : r ≡ requestOf i p) where
-    pub too-long : ltb fragmentMax (r .size + 4) ≡ true → requestOf i (fault BadParameter) ≡ requestOf i (sized i p)
-    too-long t = sym (ap (λ (x : Bool). cond x (requestOf i (fault BadParameter)) r) t) ∙ ap fitted e ∙ fitted-sized p
-
-    pub fitting-one : ltb fragmentMax (r .size + 4) ≡ false → r ≡ requestOf i (sized i p)
-    fitting-one t = sym (ap (λ (x : Bool). cond x (requestOf i (fault BadParameter)) r) t) ∙ ap fitted e ∙ fitted-sized p
+  -- what the code answers by the test of the size is what is asked for
+  pub by-size : (r : ReadRequest) (p : Parsed) → r ≡ requestOf i p → (t : Bool) → ltb fragmentMax (r .size + 4) ≡ t
+      → cond t (requestOf i (fault BadParameter)) r ≡ requestOf i (sized i p)
+  by-size r p e t h = sym (ap (λ (x : Bool). cond x (requestOf i (fault BadParameter)) r) h) ∙ ap fitted e ∙ fitted-sized p
 
   -- a fault before the size is looked at
   pub fault-first : (f : Fault) (p : Parsed) → requestOf i (fault f) ≡ requestOf i p → requestOf i (fault f) ≡ requestOf i (sized i p)
   fault-first f p e =
-      fitting-one (requestOf i (fault f)) p e (ap (λ (n : ℕ). ltb fragmentMax (n + 4)) (ap length (static-nil i)))
+      by-size (requestOf i (fault f)) p e false (ap (λ (n : ℕ). ltb fragmentMax (n + 4)) (ap length (static-nil i)))
 
   -- the counts that the code has are those of the inputs
   as-asked : (s : List ℕ) (nb na : ℕ) → nb ≡ length (i .binaries) → na ≡ length (i .analogs) → sized i (parse nb na s) ≡ askedOf i s

@@ -37,8 +37,8 @@ con-by-requires c κs = search needs
 truth-requires : tie.Need-truth-requires
 truth-requires c κs = search needs
 
-put-header-requires : tie.Need-put-header-requires
-put-header-requires c κs = search needs
+put-response-header-requires : tie.Need-put-response-header-requires
+put-response-header-requires c κs = search needs
 
 slice-aggregate-remember : tie.Need-slice-aggregate-remember
 slice-aggregate-remember c = search needs
@@ -54,7 +54,7 @@ none-requires c κs = search needs
 
 same-length : tie.Need-same-length
 same-length c =
-    c .before .before .before .before .before .before .before .before .put-header .kept .0 ∙ c .before .before .before .before .before .before .before .before .before .before .before .before .before .before .before .before .before .respond .kept .0
+    c .before .before .before .before .before .before .before .before .put-response-header .kept .0 ∙ c .before .before .before .before .before .before .before .before .before .before .before .before .before .before .before .before .before .respond .kept .0
 
 returns : tie.Need-returns
 returns c =
@@ -69,7 +69,7 @@ returns c =
     read-in (a .h) (a .binaries .now) (a .analogs .now) (a .held .now) (a .request .now) (a .answer .now) (a .q .0) (a .time) (a .f .now) _ _ _ (re .result) (a .out .now) _ _ _ _
     (c .before .before .remember .result) (c .before .after-read .result) (c .none .result) (c .none .ensures) (c .before .after-read .ensures) (c .before .before .remember .ensures)
     (s .pre .1) (s .pre .2) (t .result) _ (t .ensures) (c .before .before .before .before .before .before .before .before .before .truth .ensures) g (rs .ensures) (c .before .before .before .before .before .before .before .before .before .before .before .before .before .any-carried .ensures)
-    (c .before .before .before .before .before .before .before .before .put-header .ensures)
+    (c .before .before .before .before .before .before .before .before .put-response-header .ensures)
 
 pub answer-read-spec : {M : Type 1} → statement M
 answer-read-spec =
@@ -83,7 +83,7 @@ answer-read-spec =
     any-carried-requires
     con-by-requires
     truth-requires
-    put-header-requires
+    put-response-header-requires
     slice-aggregate-remember
     remember-requires
     after-read-requires

@@ -1,6 +1,7 @@
 -- `read::asked` meets its contract. The invariant: what was gathered, with what the headers to come ask for, is what all ask for.
 -- Assumes nothing.
 use mathlib.Core.Path.{_≡_, sym, ap, _∙_}
+use mathlib.Core.Bool.{true, false}
 use mathlib.Core.List.{List, []}
 use Prim.Native.Nat.{ℕ, _+_, _-_}
 use native.Mathlib.Omega.{arith}
@@ -11,7 +12,7 @@ use Rattle.point_store.specs.PointWords.{pointsViewIn}
 use Rattle.read_headers.specs.Parse.{headersMax, parse}
 use Rattle.read_headers.proofs.ParseLaws.{asked-small}
 use Rattle.read.specs.Response.{requestOf}
-use Rattle.read.proofs.AskLaws.{Gathering, gathering, gather-over, gather-faulty, gather-more, gather-all, too-long, fitting-one, fault-first, by-counts}
+use Rattle.read.proofs.AskLaws.{Gathering, gathering, gather-over, gather-faulty, gather-more, gather-all, by-size, fault-first, by-counts}
 use Rattle.read.proofs.asked.Statement.{statement}
 use Rattle.read.proofs.asked.Tie as tie
 
@@ -117,14 +118,14 @@ returns-3 c =
     let a = c .before .before .before .before .before .before .before .args in
     λ b.
     c .faulty3 .ensures (pointsViewIn (a .n) b (a .analogs .now))
-    ∙ too-long _ _ (parse _ _ (a .s .now)) (gather-all _ _ _ _ _ _ _ _ (c .before .before .before .loop .inv b) (c .before .before .loop-test .left)) (lt-ltb _ _ (c .before .if2 .taken))
+    ∙ by-size _ _ (parse _ _ (a .s .now)) (gather-all _ _ _ _ _ _ _ _ (c .before .before .before .loop .inv b) (c .before .before .loop-test .left)) true (lt-ltb _ _ (c .before .if2 .taken))
     ∙ ap (requestOf (pointsViewIn (a .n) b (a .analogs .now))) (by-counts (a .n) b (a .analogs .now) (a .s .now) _ _ (c .before .before .before .before .before .installed .ensures) (c .before .before .before .before .installed2 .ensures))
 
 returns-4 : tie.Need-returns-4 Inv-loop μ-loop
 returns-4 c =
     let a = c .before .before .before .before .before .before .args in
     λ b.
-    fitting-one _ _ (parse _ _ (a .s .now)) (gather-all _ _ _ _ _ _ _ _ (c .before .before .loop .inv b) (c .before .loop-test .left)) (le-ltb _ _ (c .if2 .left))
+    by-size _ _ (parse _ _ (a .s .now)) (gather-all _ _ _ _ _ _ _ _ (c .before .before .loop .inv b) (c .before .loop-test .left)) false (le-ltb _ _ (c .if2 .left))
     ∙ ap (requestOf (pointsViewIn (a .n) b (a .analogs .now))) (by-counts (a .n) b (a .analogs .now) (a .s .now) _ _ (c .before .before .before .before .installed .ensures) (c .before .before .before .installed2 .ensures))
 
 pub asked-spec : {M : Type 1} → statement M

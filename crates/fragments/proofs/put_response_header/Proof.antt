@@ -1,4 +1,4 @@
--- `fragments::put_header` meets its contract.
+-- `fragments::put_response_header` meets its contract.
 -- Assumes nothing.
 use mathlib.Core.Path.{ap, _∙_}
 use Rattle.octets.specs.Bytes.{splice}
@@ -6,8 +6,8 @@ use Rattle.application.specs.Response.{responseOf}
 use Rattle.events.specs.declared.Classes.{Classes}
 use Rattle.events.specs.BufferView.{bufferView}
 use borrow.Author.Needs.{needs}
-use Rattle.fragments.proofs.put_header.Statement.{statement}
-use Rattle.fragments.proofs.put_header.Tie as tie
+use Rattle.fragments.proofs.put_response_header.Statement.{statement}
+use Rattle.fragments.proofs.put_response_header.Tie as tie
 
 classes-pending-requires : tie.Need-classes-pending-requires
 classes-pending-requires c κs = search needs
@@ -31,6 +31,6 @@ returns c =
     (record { «class_1» = x .one; «class_2» = x .two; «class_3» = x .three; restart = a .restarted; dropped = a .t .overflow }) (a .s .fault)))
     (l .classes-pending .ensures)
 
-pub put-header-spec : {M : Type 1} → statement M
-put-header-spec =
+pub put-response-header-spec : {M : Type 1} → statement M
+put-response-header-spec =
     tie.close (tie.spec classes-pending-requires put-response-requires same-length returns)
