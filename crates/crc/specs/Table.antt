@@ -6,7 +6,7 @@ use mathlib.Core.List.{List}
 use lib.ListN.{getD}
 use Rattle.crc.specs.Check.{shifts}
 
--- the number at j: what is left of the half byte j % 16 in row j / 16 when its bits and all after them are shifted out
+-- the number at j, in row j / 16: what is left of the half byte j % 16 when the 64 - 4 × row bits from it on are shifted out
 unfoldable pub entryOf : ℕ → ℕ
 entryOf j = shifts (64 - 4 * (j / 16)) (j % 16)
 
