@@ -1,4 +1,5 @@
--- The table of the check: 16 rows of 16 numbers, a row for each half of eight bytes, in the order in which their bits are shifted out.
+-- The table of the check. Request 102: "Use a table of 256 numbers instead, its rule proved once over the whole table."
+-- It has 16 rows of 16 numbers, a row for each half of eight bytes, in the order in which their bits are shifted out.
 -- Assumes nothing.
 use mathlib.Core.Path.{_≡_}
 use Prim.Native.Nat.{ℕ, _-_, _*_, _/_, _%_, _<_}
