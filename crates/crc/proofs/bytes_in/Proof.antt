@@ -1,14 +1,13 @@
 -- `crc::bytes_in` meets its contract. The invariant: the bytes that are left, from the remainder so far, give the remainder of all.
 -- Assumes nothing.
-use mathlib.Core.Path.{_≡_, refl, sym, ap, _∙_}
-use Prim.Native.Nat.{ℕ, suc, _-_, _<_, _≤_, zero-le}
+use mathlib.Core.Path.{_≡_, refl}
+use Prim.Native.Nat.{suc, _-_, _<_, _≤_, zero-le}
 use native.Mathlib.Numerals.{add-one}
 use native.Mathlib.Omega.{arith}
 use borrow.Author.Needs.{needs}
 use lib.ListN.{length, getD, drop, drop-of-length-le}
 use lib.Seq.{drop-cons}
 use Rattle.crc.specs.Check.{remainder}
-use Rattle.crc.specs.Table.{IsTable}
 use Rattle.crc.proofs.Laws.{remainder-nil, remainder-cons}
 use Rattle.crc.proofs.bytes_in.Statement.{statement}
 use Rattle.crc.proofs.bytes_in.Tie as tie

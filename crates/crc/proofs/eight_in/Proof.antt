@@ -1,7 +1,7 @@
--- `crc::eight_in` meets its contract. The invariant: what is put together and what the bytes left give is what all six after the first two give.
+-- `crc::eight_in` meets its contract. The invariant: what is put together so far, with what the bytes to come give, is what the six after the first two give.
 -- Assumes nothing.
-use mathlib.Core.Path.{_≡_, refl, sym, ap, _∙_}
-use Prim.Native.Nat.{ℕ, _+_, _-_, _*_, _%_, _/_, _<_, _≤_}
+use mathlib.Core.Path.{_≡_, refl}
+use Prim.Native.Nat.{_+_, _-_, _*_, _<_, _≤_}
 use native.Mathlib.Omega.{arith}
 use borrow.Author.Needs.{needs}
 use lib.Bits.{bitXor, xor-zero-r}
