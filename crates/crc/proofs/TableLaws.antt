@@ -1,12 +1,13 @@
 -- Laws of the table: its rule by one test over the whole of it; a byte by the two numbers of its halves.
 -- Assumes nothing.
 use mathlib.Core.Path.{_≡_, sym, ap, ap₂, _∙_}
-use mathlib.Core.Bool.{Bool, true, false, _&&_}
+use mathlib.Core.Bool.{Bool, true, _&&_}
 use mathlib.Core.List.{List, [], _∷_}
 use Prim.Native.Nat.{ℕ, zero, suc, _+_, _-_, _*_, _/_, _%_, _<_}
 use native.Mathlib.Nat.{add-zero, zero-add, add-suc, suc-add, le-of-suc-le-suc, not-suc-le-zero}
 use native.Mathlib.Omega.{arith}
 use lib.Dec.{T, eqb, eqb→eq}
+use lib.Ieee.Fits.{and-l, and-r}
 use lib.Bits.{bitXor}
 use lib.ListN.{length, getD}
 use Rattle.crc.specs.Check.{shifts}
@@ -14,14 +15,6 @@ use Rattle.crc.specs.Table.{entryOf, IsTable}
 use Rattle.crc.proofs.Laws.{shifts-split}
 
 -- ---- the rule
-
-first-passed : (a b : Bool) → T (a && b) → T a
-first-passed true b passed = tt
-first-passed false b passed = passed
-
-others-passed : (a b : Bool) → T (a && b) → T b
-others-passed true b passed = passed
-others-passed false b passed = absurd passed
 
 -- the test: these are the table's numbers from the one at j on
 unfoldable pub entriesFrom : ℕ → List ℕ → Bool
@@ -31,9 +24,9 @@ entriesFrom j (x ∷ xs) = eqb x (entryOf j) && entriesFrom (suc j) xs
 entry-at : (j : ℕ) (xs : List ℕ) → T (entriesFrom j xs) → (k : ℕ) → k < length xs → getD xs k 0 ≡ entryOf (j + k)
 unfolding entriesFrom
 entry-at j [] passed k h = absurd (not-suc-le-zero h)
-entry-at j (x ∷ xs) passed zero h = eqb→eq x (entryOf j) (first-passed (eqb x (entryOf j)) (entriesFrom (suc j) xs) passed) ∙ ap entryOf (sym (add-zero j))
+entry-at j (x ∷ xs) passed zero h = eqb→eq x (entryOf j) (and-l (eqb x (entryOf j)) (entriesFrom (suc j) xs) passed) ∙ ap entryOf (sym (add-zero j))
 entry-at j (x ∷ xs) passed (suc k) h =
-    entry-at (suc j) xs (others-passed (eqb x (entryOf j)) (entriesFrom (suc j) xs) passed) k (le-of-suc-le-suc h)
+    entry-at (suc j) xs (and-r (eqb x (entryOf j)) (entriesFrom (suc j) xs) passed) k (le-of-suc-le-suc h)
     ∙ ap entryOf (suc-add j k ∙ sym (add-suc j k))
 
 -- 256 numbers that pass the test are the table
