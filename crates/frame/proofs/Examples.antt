@@ -6,8 +6,8 @@ use Prim.Native.Nat.{ℕ}
 use Rattle.octets.specs.Bytes.{le, value}
 use Rattle.crc.specs.Check.{shiftOf, shifts, byteIn, remainder, checkOf}
 use Rattle.laws.specs.Limits.{userMax}
-use Rattle.laws.specs.Outcome.{accepted}
-use Rattle.frame.specs.Frame.{parts, frameSize, withCrc, blocks, linkHeader, encode, withoutCrc, crcOk, blocksOk, users, decodeBody, decode}
+use Rattle.frame.specs.FrameOutcome.{accepted}
+use Rattle.frame.specs.Frame.{parts, frameSize, withCrc, blocks, linkHeader, encode, withoutCrc, crcOk, firstWrong, users, decodeBody, decode}
 
 sizes : (frameSize 0 ≡ 10) × (frameSize 1 ≡ 13) × (frameSize 16 ≡ 28) × (frameSize 17 ≡ 31) × (frameSize 250 ≡ 292)
 sizes = (refl, refl, refl, refl, refl)
@@ -20,5 +20,5 @@ unfolding reset-link encode withCrc linkHeader blocks le checkOf remainder byteI
 written = refl
 
 read : decode userMax reset-link ≡ accepted (parts 0xC0 1 1024 [])
-unfolding reset-link decode decodeBody withoutCrc crcOk blocksOk users value checkOf remainder byteIn shifts shiftOf
+unfolding reset-link decode decodeBody withoutCrc crcOk firstWrong users value checkOf remainder byteIn shifts shiftOf
 read = refl

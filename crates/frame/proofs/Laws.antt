@@ -16,10 +16,13 @@ use Rattle.crc.specs.Check.{checkOf}
 use Rattle.frame.specs.declared.Read.{Read}
 use Rattle.frame.specs.declared.Read.the-variants.{Frame, Refused}
 use Rattle.frame.specs.declared.FrameRefusal.{FrameRefusal}
+use Rattle.frame.specs.declared.FrameRefusal.the-variants as F
 use Rattle.frame.specs.declared.Wrote.{Wrote}
 use Rattle.laws.specs.Limits.{userMax, frameMax}
 use Rattle.laws.specs.Outcome.{Outcome, accepted, refused}
-use Rattle.frame.specs.Frame.{wroteOf, writtenSize, lentAfterWrite, FrameWritten, readOf, fields, fieldsOf, checkedOf, lentAfterRead, FrameRead, Whole, bodyOf, decode, withoutCrc, crcOk, blocksOk, users, Parts, withCrc, blocks, blockCount, frameSize, linkHeader, encode, encodeInto}
+use Rattle.frame.specs.FrameOutcome.{FrameOutcome}
+use Rattle.frame.specs.FrameOutcome as R
+use Rattle.frame.specs.Frame.{wroteOf, writtenSize, lentAfterWrite, FrameWritten, readOf, fields, fieldsOf, refusedAs, checkedOf, lentAfterRead, FrameRead, Whole, bodyOf, decode, withoutCrc, crcOk, firstWrong, users, Parts, withCrc, blocks, blockCount, frameSize, linkHeader, encode, encodeInto}
 
 pub length-with-crc : (s : List ℕ) → length (withCrc s) ≡ length s + 2
 unfolding withCrc
@@ -95,17 +98,17 @@ written-by w f d d′ o e a l = record { answer = a ∙ ap writtenSize (sym e); 
 
 -- ---- reading: a turn of a loop over blocks with their checks
 
-pub ok-more : (k : ℕ) (b : List ℕ) → 0 < k → blocksOk k b ≡ cond (crcOk (take 18 b)) (blocksOk (k - 1) (drop 18 b)) false
-unfolding blocksOk
-ok-more zero b h = absurd (omega arith)
-ok-more (suc k) b h =
+pub wrong-more : (k : ℕ) (b : List ℕ) → 0 < k → firstWrong k b ≡ cond (crcOk (take 18 b)) (suc (firstWrong (k - 1) (drop 18 b))) 0
+unfolding firstWrong
+wrong-more zero b h = absurd (omega arith)
+wrong-more (suc k) b h =
     let e : k ≡ suc k - 1 = omega arith in
-    ap (λ (n : ℕ). cond (crcOk (take 18 b)) (blocksOk n (drop 18 b)) false) e
+    ap (λ (n : ℕ). cond (crcOk (take 18 b)) (suc (firstWrong n (drop 18 b))) 0) e
 
-pub ok-none : (k : ℕ) (b : List ℕ) → k ≤ 0 → blocksOk k b ≡ true
-unfolding blocksOk
-ok-none zero b h = refl
-ok-none (suc k) b h = absurd (omega arith)
+pub wrong-none : (k : ℕ) (b : List ℕ) → k ≤ 0 → firstWrong k b ≡ 0
+unfolding firstWrong
+wrong-none zero b h = refl
+wrong-none (suc k) b h = absurd (omega arith)
 
 pub users-more : (k : ℕ) (b : List ℕ) → 0 < k → users k b ≡ withoutCrc (take 18 b) ++ users (k - 1) (drop 18 b)
 unfolding users
@@ -121,11 +124,11 @@ users-none (suc k) b h = absurd (omega arith)
 
 module _ (at e left : ℕ) (b : List ℕ) (pos : 0 < left) (h : at ≤ length b) (k : e ≡ min (at + 18) (length b)) where
   -- a block whose check is right is passed, and one whose check is wrong decides
-  pub ok-turn : crcOk (take (e - at) (drop at b)) ≡ true → blocksOk (left - 1) (drop (at + 18) b) ≡ blocksOk left (drop at b)
-  ok-turn t = rw (ok-more left (drop at b) pos, sym (part-is 18 at e b h k), t, drop-drop 18 at b)
+  pub wrong-turn : crcOk (take (e - at) (drop at b)) ≡ true → firstWrong left (drop at b) ≡ suc (firstWrong (left - 1) (drop (at + 18) b))
+  wrong-turn t = rw (wrong-more left (drop at b) pos, sym (part-is 18 at e b h k), t, drop-drop 18 at b)
 
-  pub ok-stop : crcOk (take (e - at) (drop at b)) ≡ false → blocksOk left (drop at b) ≡ false
-  ok-stop t = rw (ok-more left (drop at b) pos, sym (part-is 18 at e b h k), t)
+  pub wrong-stop : crcOk (take (e - at) (drop at b)) ≡ false → firstWrong left (drop at b) ≡ 0
+  wrong-stop t = rw (wrong-more left (drop at b) pos, sym (part-is 18 at e b h k), t)
 
   -- a block without its check, `&b[at..e - 2]`
   pub without-crc-part : withoutCrc (take 18 (drop at b)) ≡ take (e - 2 - at) (drop at b)
@@ -163,7 +166,7 @@ module _ (n : ℕ) (s : List ℕ) (whole : frameSize n ≤ length s) where
 
 -- ---- checking first, copying after
 
-pub decode-lent : (room : ℕ) (s : List ℕ) → room < userMax → decode room s ≡ refused 33
+pub decode-lent : (room : ℕ) (s : List ℕ) → room < userMax → decode room s ≡ R.refused 33
 unfolding decode
 decode-lent room s h = rw (lt-ltb room userMax h)
 
@@ -172,16 +175,33 @@ unfolding decode
 decode-room room s h = rw (le-ltb room userMax h)
 
 -- the contract from the outcome
-pub read-by : (r : Read) (s d d′ : List ℕ) (o : Outcome Parts) → decode (length d) s ≡ o → readOf r ≡ fieldsOf o → d′ ≡ lentAfterRead d o
+pub read-by : (r : Read) (s d d′ : List ℕ) (o : FrameOutcome Parts) → decode (length d) s ≡ o → readOf r ≡ fieldsOf o → d′ ≡ lentAfterRead d o
     → FrameRead r s d d′
 read-by r s d d′ o e a l = record { answer = a ∙ ap fieldsOf (sym e); lent = l ∙ ap (lentAfterRead d) (sym e) }
+
+-- a refusal has no fields, and leaves the lent bytes
+refused-fields : (why : FrameRefusal) → refusedAs why ≡ fieldsOf (refusedAs why)
+refused-fields F.TooShort = refl
+refused-fields F.Start = refl
+refused-fields F.HeaderCheck = refl
+refused-fields F.Length = refl
+refused-fields (F.BlockCheck b) = refl
+refused-fields F.OutputTooSmall = refl
+
+refused-leaves : (why : FrameRefusal) (d : List ℕ) → d ≡ lentAfterRead d (refusedAs why)
+refused-leaves F.TooShort d = refl
+refused-leaves F.Start d = refl
+refused-leaves F.HeaderCheck d = refl
+refused-leaves F.Length d = refl
+refused-leaves (F.BlockCheck b) d = refl
+refused-leaves F.OutputTooSmall d = refl
 
 -- a frame that was checked has its fields and so many user bytes
 pub fields-checked : (r : Read) (s : List ℕ) → Whole r s → readOf r ≡ fieldsOf (checkedOf r s)
 fields-checked (Frame control destination source n) s w =
-    ap (λ (k : ℕ). accepted (fields control destination source k)) (sym (length-user n s (w .1)))
-fields-checked (Refused why) s w = refl
+    ap (λ (k : ℕ). R.accepted (fields control destination source k)) (sym (length-user n s (w .1)))
+fields-checked (Refused why) s w = refused-fields why
 
 -- a frame that was refused leaves the lent bytes
 pub refused-lent : (r : Read) (why : FrameRefusal) (s d : List ℕ) → r ≡ Refused why → d ≡ lentAfterRead d (checkedOf r s)
-refused-lent r why s d e = ap (λ (x : Read). lentAfterRead d (checkedOf x s)) (sym e)
+refused-lent r why s d e = refused-leaves why d ∙ ap (λ (x : Read). lentAfterRead d (checkedOf x s)) (sym e)

@@ -9,18 +9,20 @@ use lib.Dec.{ltb, eqb}
 use borrow.Author.Tests.{le-ltb, ltb-false, eq-eqb, eqb-true, not-false}
 use lib.ListN.{length, getD, take, drop, length-append, length-take, length-drop, take-append-drop, drop-of-length-le}
 use lib.Seq.{length-take-le, take-take, take-all, take-at, drop-at, take-add, drop-append-seam}
-use Rattle.laws.proofs.Tests.{passed-no, both-true}
 use Rattle.octets.specs.Bytes.{splice, le, value, valueAt, AreBytes}
 use Rattle.octets.proofs.Splice.{drop-splice, stored-splice}
 use Rattle.octets.proofs.Le.{length-le, value-le, le-value, take-bytes, drop-bytes}
 use Rattle.crc.specs.Check.{checkOf}
 use Rattle.laws.specs.Limits.{userMax, frameMax}
 use Rattle.laws.specs.Outcome.{Outcome, accepted, refused}
+use Rattle.frame.specs.FrameOutcome.{FrameOutcome, wrongBlock}
+use Rattle.frame.specs.FrameOutcome as R
+use Rattle.frame.specs.declared.FrameRefusal.the-variants as F
 use Rattle.frame.specs.declared.Read.{Read}
 use Rattle.frame.specs.declared.Read.the-variants.{Frame, Refused}
 use Rattle.frame.specs.declared.Wrote.{Wrote}
 use Rattle.frame.specs.declared.Wrote.the-variants.{Size, UserTooLong, OutputTooSmall}
-use Rattle.frame.specs.Frame.{Parts, parts, withCrc, blocks, blockCount, frameSize, linkHeader, encode, withoutCrc, crcOk, blocksOk, users, bodyOf, decodeBody, decode, encodeInto, wroteOf, writtenSize, lentAfterWrite, Fields, fields, fieldsOf, readOf, lentAfterRead}
+use Rattle.frame.specs.Frame.{Parts, parts, withCrc, blocks, blockCount, frameSize, linkHeader, encode, withoutCrc, crcOk, firstWrong, firstWrongOf, users, bodyOf, decodeBody, decode, encodeInto, wroteOf, writtenSize, lentAfterWrite, Fields, fields, fieldsOf, readOf, lentAfterRead}
 use Rattle.frame.specs.RoundTrip.{WrittenIsRead, ReadIsWritten}
 use Rattle.frame.proofs.Laws.{length-with-crc, length-blocks, length-header, length-encode, length-body, length-user, into}
 
@@ -76,12 +78,13 @@ first-block (suc k) u h l =
     let n : length (withCrc (take 16 u)) ≡ 18 = simp (length-with-crc, length-take) (omega arith) in
     (take-at (withCrc (take 16 u)) _ 18 n, drop-at (withCrc (take 16 u)) _ 18 n)
 
-pub ok-blocks : (k : ℕ) (u : List ℕ) → length u ≤ 16 * k → 16 * k < length u + 16 → blocksOk k (blocks k u) ≡ true
-unfolding blocksOk blocks
+-- no block is wrong
+pub ok-blocks : (k : ℕ) (u : List ℕ) → length u ≤ 16 * k → 16 * k < length u + 16 → firstWrong k (blocks k u) ≡ k
+unfolding firstWrong blocks
 ok-blocks zero u h l = refl
 ok-blocks (suc k) u h l =
     let s = first-block k u h l in
-    rw (s .0, s .1, ok-with-crc (take 16 u)) (ok-blocks k (drop 16 u) (simp length-drop (omega arith)) (simp length-drop (omega arith)))
+    rw (s .0, s .1, ok-with-crc (take 16 u)) (ap (λ (n : ℕ). suc n) (ok-blocks k (drop 16 u) (simp length-drop (omega arith)) (simp length-drop (omega arith))))
 
 pub users-blocks : (k : ℕ) (u : List ℕ) → length u ≤ 16 * k → 16 * k < length u + 16 → users k (blocks k u) ≡ u
 unfolding users blocks
@@ -102,13 +105,18 @@ first-user (suc k) b h l =
     let n : length (withoutCrc (take 18 b)) ≡ 16 = simp length-take (omega arith) in
     (take-at (withoutCrc (take 18 b)) _ 16 n, drop-at (withoutCrc (take 18 b)) _ 16 n)
 
-pub blocks-users : (k : ℕ) (b : List ℕ) → AreBytes b → length b ≤ 18 * k → 18 * k < length b + 16 → blocksOk k b ≡ true → blocks k (users k b) ≡ b
-unfolding blocksOk blocks users
+-- where none of some blocks is wrong, the first is right, and none of the others is wrong
+right-by : (t : Bool) (w k : ℕ) → suc k ≤ cond t (suc w) 0 → (t ≡ true) × (k ≤ w)
+right-by true w k h = (refl, omega arith)
+right-by false w k h = absurd (omega arith)
+
+pub blocks-users : (k : ℕ) (b : List ℕ) → AreBytes b → length b ≤ 18 * k → 18 * k < length b + 16 → k ≤ firstWrong k b → blocks k (users k b) ≡ b
+unfolding firstWrong blocks users
 blocks-users zero [] bytes h l t = refl
 blocks-users zero (x ∷ b) bytes h l t = absurd (omega arith)
 blocks-users (suc k) b bytes h l t =
     let s = first-user k b h l in
-    let p = both-true (crcOk (take 18 b)) (blocksOk k (drop 18 b)) t in
+    let p = right-by (crcOk (take 18 b)) (firstWrong k (drop 18 b)) k t in
     rw (
       s .0,
       s .1,
@@ -162,7 +170,7 @@ module _ (f : Parts) (rest : List ℕ) where
       let l : length (blocks k (f .user)) ≡ length (f .user) + 2 * k = length-blocks k (f .user) (omega arith) (omega arith) in
       ap (take (frameSize (length (f .user)) - 10)) (cut .1) ∙ take-at (blocks k (f .user)) rest (frameSize (length (f .user)) - 10) (omega arith)
 
-  pub decode-encode : (room : ℕ) → userMax ≤ room → f .destination < 65536 → f .source < 65536 → decode room (encode f ++ rest) ≡ accepted f
+  pub decode-encode : (room : ℕ) → userMax ≤ room → f .destination < 65536 → f .source < 65536 → decode room (encode f ++ rest) ≡ R.accepted f
   unfolding decode decodeBody
   decode-encode room h hd hs =
       let k : ℕ = blockCount (length (f .user)) in
@@ -182,6 +190,7 @@ module _ (f : Parts) (rest : List ℕ) where
         le-ltb (length (encode f ++ rest)) (frameSize (length (f .user))) whole,
         body,
         ok-blocks k (f .user) (omega arith) (omega arith),
+        le-ltb k k (omega arith),
         users-blocks k (f .user) (omega arith) (omega arith),
         field-control,
         field-destination hd,
@@ -214,7 +223,7 @@ without-crc-ten s h = rw (length-take-le 10 s h) (take-take 8 10 s (omega arith)
 
 -- a whole frame of n user bytes, with right checks
 encode-read : (n : ℕ) (s : List ℕ) → AreBytes s → frameSize n ≤ length s → getD s 0 0 ≡ 5 → getD s 1 0 ≡ 100 → 5 ≤ getD s 2 0 → n ≡ getD s 2 0 - 5
-    → crcOk (take 10 s) ≡ true → blocksOk (blockCount n) (bodyOf n s) ≡ true
+    → crcOk (take 10 s) ≡ true → blockCount n ≤ firstWrongOf n s
     → encode (parts (getD s 3 0) (valueAt 2 4 s) (valueAt 2 6 s) (users (blockCount n) (bodyOf n s))) ≡ take (frameSize n) s
 unfolding encode
 encode-read n s bytes whole e0 e1 h en ok oks =
@@ -231,6 +240,15 @@ encode-read n s bytes whole e0 e1 h en ok oks =
     let sum : 10 + (frameSize n - 10) ≡ frameSize n = omega arith in
     rw (u, hd, bl) (sym (take-add 10 (frameSize n - 10) s) ∙ ap (λ (k : ℕ). take k s) sum)
 
+-- what was accepted passed this test, which refuses where it is true
+passed-no : (t : Bool) (k : ℕ) (o : FrameOutcome Parts) (f : Parts) → cond t (R.refused k) o ≡ R.accepted f → (t ≡ false) × (o ≡ R.accepted f)
+passed-no true k o f e = (cc, cc)
+passed-no false k o f e = (refl, e)
+
+passed-block : (t : Bool) (k : ℕ) (o : FrameOutcome Parts) (f : Parts) → cond t (wrongBlock k) o ≡ R.accepted f → (t ≡ false) × (o ≡ R.accepted f)
+passed-block true k o f e = (cc, cc)
+passed-block false k o f e = (refl, e)
+
 -- what was accepted passed every test
 record Passed (room : ℕ) (s : List ℕ) (f : Parts) : Type 0 where
   lent : userMax ≤ room
@@ -238,10 +256,10 @@ record Passed (room : ℕ) (s : List ℕ) (f : Parts) : Type 0 where
   header : crcOk (take 10 s) ≡ true
   long : 5 ≤ getD s 2 0
   whole : frameSize (getD s 2 0 - 5) ≤ length s
-  checks : blocksOk (blockCount (getD s 2 0 - 5)) (bodyOf (getD s 2 0 - 5) s) ≡ true
+  checks : blockCount (getD s 2 0 - 5) ≤ firstWrongOf (getD s 2 0 - 5) s
   is : parts (getD s 3 0) (valueAt 2 4 s) (valueAt 2 6 s) (users (blockCount (getD s 2 0 - 5)) (bodyOf (getD s 2 0 - 5) s)) ≡ f
 
-passed : (room : ℕ) (s : List ℕ) (f : Parts) → decode room s ≡ accepted f → Passed room s f
+passed : (room : ℕ) (s : List ℕ) (f : Parts) → decode room s ≡ R.accepted f → Passed room s f
 unfolding decode decodeBody
 passed room s f e =
     let n : ℕ = getD s 2 0 - 5 in
@@ -252,18 +270,18 @@ passed room s f e =
     let a5 = passed-no (not (crcOk (take 10 s))) 13 _ f (a4 .1) in
     let a6 = passed-no (ltb (getD s 2 0) 5) 14 _ f (a5 .1) in
     let a7 = passed-no (ltb (length s) (frameSize n)) 11 _ f (a6 .1) in
-    let a8 = passed-no (not (blocksOk (blockCount n) (bodyOf n s))) 15 _ f (a7 .1) in
+    let a8 = passed-block (ltb (firstWrongOf n s) (blockCount n)) (firstWrongOf n s) _ f (a7 .1) in
     record {
       lent = ltb-false _ _ (a1 .0);
       start = (eqb-true _ _ (not-false _ (a3 .0)), eqb-true _ _ (not-false _ (a4 .0)));
       header = not-false _ (a5 .0);
       long = ltb-false _ _ (a6 .0);
       whole = ltb-false _ _ (a7 .0);
-      checks = not-false _ (a8 .0);
+      checks = ltb-false _ _ (a8 .0);
       is = cc (a8 .1);
     }
 
-pub encode-decode : (room : ℕ) (s : List ℕ) (f : Parts) → AreBytes s → decode room s ≡ accepted f → encode f ≡ take (frameSize (length (f .user))) s
+pub encode-decode : (room : ℕ) (s : List ℕ) (f : Parts) → AreBytes s → decode room s ≡ R.accepted f → encode f ≡ take (frameSize (length (f .user))) s
 encode-decode room s f bytes e =
     let p = passed room s f e in
     let n : ℕ = getD s 2 0 - 5 in
@@ -272,7 +290,7 @@ encode-decode room s f bytes e =
     ∙ ap (λ (k : ℕ). take (frameSize k) s) (sym (length-user n s (p .whole))))
 
 -- the length byte is a byte
-read-most : (room : ℕ) (s : List ℕ) (f : Parts) → AreBytes s → decode room s ≡ accepted f → length (f .user) ≤ userMax
+read-most : (room : ℕ) (s : List ℕ) (f : Parts) → AreBytes s → decode room s ≡ R.accepted f → length (f .user) ≤ userMax
 read-most room s f bytes e =
     let p = passed room s f e in
     let b : getD s 2 0 < 256 = bytes 2 in
@@ -288,9 +306,14 @@ size-is UserTooLong n e = cc
 size-is OutputTooSmall n e = cc
 
 -- the answer of a read that was accepted
-frame-is : (r : Read) (x : Fields) → readOf r ≡ accepted x → r ≡ Frame (x .control) (x .destination) (x .source) (x .len)
+frame-is : (r : Read) (x : Fields) → readOf r ≡ R.accepted x → r ≡ Frame (x .control) (x .destination) (x .source) (x .len)
 frame-is (Frame c d a n) x e = cc
-frame-is (Refused why) x e = cc
+frame-is (Refused F.TooShort) x e = cc
+frame-is (Refused F.Start) x e = cc
+frame-is (Refused F.HeaderCheck) x e = cc
+frame-is (Refused F.Length) x e = cc
+frame-is (Refused (F.BlockCheck b)) x e = cc
+frame-is (Refused F.OutputTooSmall) x e = cc
 
 fits-by : (a b : Bool) (x : List ℕ) (n : ℕ) → accepted n ≡ writtenSize (cond a (refused 33) (cond b (refused 16) (accepted x))) → (a ≡ false) × (b ≡ false)
 fits-by true b x n e = (cc, cc)
@@ -329,10 +352,11 @@ unfolding ReadIsWritten
 read-is-written r w s out user lent written c d a n bytes got is room wrote =
     go (decode (length out) s) refl (ap readOf (sym is) ∙ got .answer) (got .lent)
   where
-    go : (o : Outcome Parts) → decode (length out) s ≡ o → accepted (fields c d a n) ≡ fieldsOf o → user ≡ lentAfterRead out o
+    go : (o : FrameOutcome Parts) → decode (length out) s ≡ o → R.accepted (fields c d a n) ≡ fieldsOf o → user ≡ lentAfterRead out o
         → (n ≤ userMax) × (w ≡ Size (frameSize n)) × (take (frameSize n) written ≡ take (frameSize n) s)
-    go (refused k) e x l = let z : n ≡ suc n = cc in absurd (omega arith)
-    go (accepted f) e x l =
+    go (R.refused k) e x l = let z : n ≡ suc n = cc in absurd (omega arith)
+    go (wrongBlock k) e x l = let z : n ≡ suc n = cc in absurd (omega arith)
+    go (R.accepted f) e x l =
         let most : length (f .user) ≤ userMax = read-most (length out) s f bytes e in
         let h : userMax ≤ length out = passed (length out) s f e .lent in
         let y : fields c d a n ≡ fields (f .control) (f .destination) (f .source) (length (f .user)) = cc in

@@ -1,4 +1,4 @@
--- A link frame's bytes, written and read back (document 01, "Bytes on the line", rows 11 to 16 and 33).
+-- A link frame's bytes, written and read back (document 01, "Bytes on the line", rows 11 to 16 and 33; document 02, request 110).
 -- Assumes nothing.
 use Prim.Native.Nat.{ℕ, zero, suc, _+_, _-_, _*_, _/_, _≤_}
 use mathlib.Core.Path.{_≡_}
@@ -11,6 +11,8 @@ use Rattle.laws.specs.Limits.{userMax, frameMax}
 use Rattle.laws.specs.Outcome.{Outcome, accepted, refused}
 use Rattle.octets.specs.Bytes.{splice, le, valueAt}
 use Rattle.crc.specs.Check.{checkOf}
+use Rattle.frame.specs.FrameOutcome.{FrameOutcome, wrongBlock, refusalOf, blockOf}
+use Rattle.frame.specs.FrameOutcome as R
 use Rattle.frame.specs.declared.Read.{Read}
 use Rattle.frame.specs.declared.Read.the-variants.{Frame, Refused}
 use Rattle.frame.specs.declared.FrameRefusal.{FrameRefusal}
@@ -72,10 +74,10 @@ withoutCrc g = take (length g - 2) g
 unfoldable pub crcOk : List ℕ → Bool
 crcOk g = eqb (checkOf (withoutCrc g)) (valueAt 2 (length g - 2) g)
 
--- each of k blocks ends in its check
-unfoldable pub blocksOk : ℕ → List ℕ → Bool
-blocksOk zero b = true
-blocksOk (suc k) b = cond (crcOk (take 18 b)) (blocksOk k (drop 18 b)) false
+-- "the first wrong block", of k blocks: its number, "0 to 15", where block i is wrong and no earlier one is; k where none is wrong
+unfoldable pub firstWrong : ℕ → List ℕ → ℕ
+firstWrong zero b = 0
+firstWrong (suc k) b = cond (crcOk (take 18 b)) (suc (firstWrong k (drop 18 b))) 0
 
 -- the user bytes of k blocks
 unfoldable pub users : ℕ → List ℕ → List ℕ
@@ -89,23 +91,29 @@ bodyOf n s = take (frameSize n - 10) (drop 10 s)
 abbrev pub userOf : ℕ → List ℕ → List ℕ
 userOf n s = users (blockCount n) (bodyOf n s)
 
--- "11 for the frame's size comes after 14"; then 15, a block check wrong
-unfoldable pub decodeBody : ℕ → List ℕ → Outcome Parts
+abbrev pub firstWrongOf : ℕ → List ℕ → ℕ
+firstWrongOf n s = firstWrong (blockCount n) (bodyOf n s)
+
+-- "11 for the frame's size comes after 14"; then 15, a block check wrong, with the first such block
+unfoldable pub decodeBody : ℕ → List ℕ → FrameOutcome Parts
 decodeBody n s =
-    first (ltb (length s) (frameSize n) ⇒ refused 11 ∷ not (blocksOk (blockCount n) (bodyOf n s)) ⇒ refused 15 ∷ [])
-    (accepted (parts (getD s 3 0) (valueAt 2 4 s) (valueAt 2 6 s) (userOf n s)))
+    first (
+    ltb (length s) (frameSize n) ⇒ R.refused 11
+    ∷ ltb (firstWrongOf n s) (blockCount n) ⇒ wrongBlock (firstWrongOf n s)
+    ∷ [])
+    (R.accepted (parts (getD s 3 0) (valueAt 2 4 s) (valueAt 2 6 s) (userOf n s)))
 
 -- the frame at the front of the bytes s, to be read into so many lent bytes. In 01's order: 33, under 250 lent;
 -- 11, under 10 bytes; 12, not 05 64; 13, header check wrong; 14, length byte under 5; then the body
-unfoldable pub decode : ℕ → List ℕ → Outcome Parts
+unfoldable pub decode : ℕ → List ℕ → FrameOutcome Parts
 decode room s =
     first (
-    ltb room userMax ⇒ refused 33
-    ∷ ltb (length s) 10 ⇒ refused 11
-    ∷ not (eqb (getD s 0 0) 5) ⇒ refused 12
-    ∷ not (eqb (getD s 1 0) 100) ⇒ refused 12
-    ∷ not (crcOk (take 10 s)) ⇒ refused 13
-    ∷ ltb (getD s 2 0) 5 ⇒ refused 14
+    ltb room userMax ⇒ R.refused 33
+    ∷ ltb (length s) 10 ⇒ R.refused 11
+    ∷ not (eqb (getD s 0 0) 5) ⇒ R.refused 12
+    ∷ not (eqb (getD s 1 0) 100) ⇒ R.refused 12
+    ∷ not (crcOk (take 10 s)) ⇒ R.refused 13
+    ∷ ltb (getD s 2 0) 5 ⇒ R.refused 14
     ∷ [])
     (decodeBody (getD s 2 0 - 5) s)
 
@@ -141,27 +149,35 @@ pub record Fields : Type 0 where
 abbrev pub fields : ℕ → ℕ → ℕ → ℕ → Fields
 fields c d s n = record { control = c; destination = d; source = s; len = n }
 
-abbrev pub fieldsOf : Outcome Parts → Outcome Fields
-fieldsOf (accepted f) = accepted (fields (f .control) (f .destination) (f .source) (length (f .user)))
-fieldsOf (refused k) = refused k
+abbrev pub fieldsOf : FrameOutcome Parts → FrameOutcome Fields
+fieldsOf (R.accepted f) = R.accepted (fields (f .control) (f .destination) (f .source) (length (f .user)))
+fieldsOf (R.refused k) = R.refused k
+fieldsOf (wrongBlock b) = wrongBlock b
 
--- the number of each refusal
+-- the number of each refusal; 15 carries its block
+abbrev pub refusedAs : {A : Type 0} → FrameRefusal → FrameOutcome A
+refusedAs F.TooShort = R.refused 11
+refusedAs F.Start = R.refused 12
+refusedAs F.HeaderCheck = R.refused 13
+refusedAs F.Length = R.refused 14
+refusedAs (F.BlockCheck b) = wrongBlock b
+refusedAs F.OutputTooSmall = R.refused 33
+
+abbrev pub readOf : Read → FrameOutcome Fields
+readOf (Frame control destination source n) = R.accepted (fields control destination source n)
+readOf (Refused why) = refusedAs why
+
 abbrev pub refusalNumber : FrameRefusal → ℕ
-refusalNumber F.TooShort = 11
-refusalNumber F.Start = 12
-refusalNumber F.HeaderCheck = 13
-refusalNumber F.Length = 14
-refusalNumber F.BlockCheck = 15
-refusalNumber F.OutputTooSmall = 33
+refusalNumber why = refusalOf (readOf (Refused why))
 
-abbrev pub readOf : Read → Outcome Fields
-readOf (Frame control destination source n) = accepted (fields control destination source n)
-readOf (Refused why) = refused (refusalNumber why)
+abbrev pub refusalBlock : FrameRefusal → ℕ
+refusalBlock why = blockOf (readOf (Refused why))
 
 -- the user data goes to the front of the lent bytes
-abbrev pub lentAfterRead : List ℕ → Outcome Parts → List ℕ
-lentAfterRead d (accepted f) = splice d 0 (f .user)
-lentAfterRead d (refused k) = d
+abbrev pub lentAfterRead : List ℕ → FrameOutcome Parts → List ℕ
+lentAfterRead d (R.accepted f) = splice d 0 (f .user)
+lentAfterRead d (R.refused k) = d
+lentAfterRead d (wrongBlock b) = d
 
 -- a call that read the bytes s, with these lent bytes before and after it, answers r
 pub record FrameRead (r : Read) (s before after : List ℕ) : Type 0 where
@@ -170,9 +186,9 @@ pub record FrameRead (r : Read) (s before after : List ℕ) : Type 0 where
 
 -- ---- a frame that was checked and not yet copied: its user data is still in its blocks
 
-abbrev pub checkedOf : Read → List ℕ → Outcome Parts
-checkedOf (Frame control destination source n) s = accepted (parts control destination source (userOf n s))
-checkedOf (Refused why) s = refused (refusalNumber why)
+abbrev pub checkedOf : Read → List ℕ → FrameOutcome Parts
+checkedOf (Frame control destination source n) s = R.accepted (parts control destination source (userOf n s))
+checkedOf (Refused why) s = refusedAs why
 
 -- a frame that was found is there to its end
 abbrev pub Whole : Read → List ℕ → Type 0

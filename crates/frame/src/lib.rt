@@ -11,7 +11,7 @@ ghost use Rattle.frame.specs.Frame.{
   blocks,
   linkHeader,
   crcOk,
-  blocksOk,
+  firstWrong,
   users,
   decodeBody,
   decode,
@@ -20,6 +20,7 @@ ghost use Rattle.frame.specs.Frame.{
   frameSize,
   userOf,
   refusalNumber,
+  refusalBlock,
   wroteOf,
   checkedOf,
   Whole,
@@ -53,8 +54,8 @@ pub enum FrameRefusal {
     HeaderCheck,
     // 14: length byte under 5.
     Length,
-    // 15: a block check wrong.
-    BlockCheck,
+    // 15: a block check wrong, that of this block first.
+    BlockCheck(u8),
     // 33: under 250 lent bytes.
     OutputTooSmall,
 }
@@ -80,8 +81,18 @@ pub fn refusal_number(why: FrameRefusal) -> u8
         FrameRefusal::Start => 12,
         FrameRefusal::HeaderCheck => 13,
         FrameRefusal::Length => 14,
-        FrameRefusal::BlockCheck => 15,
+        FrameRefusal::BlockCheck(_) => 15,
         FrameRefusal::OutputTooSmall => 33,
+    }
+}
+
+// The block that refusal 15 carries, 0 to 15; 0 for the other refusals.
+pub fn refusal_block(why: FrameRefusal) -> u8
+    ensures { λ r. ⌜ r ≡ refusalBlock why ⌝ }
+{
+    match why {
+        FrameRefusal::BlockCheck(block) => block,
+        _ => 0,
     }
 }
 
@@ -165,22 +176,22 @@ fn crc_ok(s: &[u8]) -> bool
     crc::check(&s[..n]) == octets::take2(s, n)
 }
 
-// Each of so many blocks ends in its check.
-fn blocks_ok(b: &[u8], k: usize) -> bool
+// The first wrong one of so many blocks, counted from 0; so many where none is wrong.
+fn first_wrong(b: &[u8], k: usize) -> usize
     requires { ⌜ (length (now b) ≤ 18 * k) × (18 * k < length (now b) + 16) ⌝ }
-    ensures { λ r. ⌜ r ≡ blocksOk k (now (b .entry)) ⌝ }
+    ensures { λ r. ⌜ r ≡ firstWrong k (now (b .entry)) ⌝ }
 {
-    let mut at: usize = 0;
     let mut left = k;
     while 0 < left {
+        let i = k - left;
+        let at = 18 * i;
         let e = octets::least(at + 18, b.len());
         if !crc_ok(&b[at..e]) {
-            return false;
+            return i;
         }
-        at += 18;
         left -= 1;
     }
-    true
+    k
 }
 
 // Copies the user bytes of so many blocks to the front of the lent bytes.
@@ -210,8 +221,9 @@ fn check_body(s: &[u8], n: usize) -> Read
     if s.len() < size {
         return Read::Refused(FrameRefusal::TooShort);
     }
-    if !blocks_ok(&s[10..size], k) {
-        return Read::Refused(FrameRefusal::BlockCheck);
+    let wrong = first_wrong(&s[10..size], k);
+    if wrong < k {
+        return Read::Refused(FrameRefusal::BlockCheck(wrong as u8));
     }
     Read::Frame {
         control: s[3],
