@@ -16,13 +16,12 @@ use Rattle.crc.specs.Check.{checkOf}
 use Rattle.frame.specs.declared.Read.{Read}
 use Rattle.frame.specs.declared.Read.the-variants.{Frame, Refused}
 use Rattle.frame.specs.declared.FrameRefusal.{FrameRefusal}
-use Rattle.frame.specs.declared.FrameRefusal.the-variants as F
 use Rattle.frame.specs.declared.Wrote.{Wrote}
 use Rattle.laws.specs.Limits.{userMax, frameMax}
 use Rattle.laws.specs.Outcome.{Outcome, accepted, refused}
-use Rattle.frame.specs.FrameOutcome.{FrameOutcome}
+use Rattle.frame.specs.FrameOutcome.{FrameOutcome, refusedBy}
 use Rattle.frame.specs.FrameOutcome as R
-use Rattle.frame.specs.Frame.{wroteOf, writtenSize, lentAfterWrite, FrameWritten, readOf, fields, fieldsOf, refusedAs, checkedOf, lentAfterRead, FrameRead, Whole, bodyOf, decode, withoutCrc, crcOk, firstWrong, users, Parts, withCrc, blocks, blockCount, frameSize, linkHeader, encode, encodeInto}
+use Rattle.frame.specs.Frame.{wroteOf, writtenSize, lentAfterWrite, FrameWritten, readOf, fields, fieldsOf, checkedOf, lentAfterRead, FrameRead, Whole, bodyOf, decode, withoutCrc, crcOk, firstWrong, users, Parts, withCrc, blocks, blockCount, frameSize, linkHeader, encode, encodeInto}
 
 pub length-with-crc : (s : List ℕ) → length (withCrc s) ≡ length s + 2
 unfolding withCrc
@@ -166,7 +165,7 @@ module _ (n : ℕ) (s : List ℕ) (whole : frameSize n ≤ length s) where
 
 -- ---- checking first, copying after
 
-pub decode-lent : (room : ℕ) (s : List ℕ) → room < userMax → decode room s ≡ R.refused 33
+pub decode-lent : (room : ℕ) (s : List ℕ) → room < userMax → decode room s ≡ refusedBy 33
 unfolding decode
 decode-lent room s h = rw (lt-ltb room userMax h)
 
@@ -179,29 +178,12 @@ pub read-by : (r : Read) (s d d′ : List ℕ) (o : FrameOutcome Parts) → deco
     → FrameRead r s d d′
 read-by r s d d′ o e a l = record { answer = a ∙ ap fieldsOf (sym e); lent = l ∙ ap (lentAfterRead d) (sym e) }
 
--- a refusal has no fields, and leaves the lent bytes
-refused-fields : (why : FrameRefusal) → refusedAs why ≡ fieldsOf (refusedAs why)
-refused-fields F.TooShort = refl
-refused-fields F.Start = refl
-refused-fields F.HeaderCheck = refl
-refused-fields F.Length = refl
-refused-fields (F.BlockCheck b) = refl
-refused-fields F.OutputTooSmall = refl
-
-refused-leaves : (why : FrameRefusal) (d : List ℕ) → d ≡ lentAfterRead d (refusedAs why)
-refused-leaves F.TooShort d = refl
-refused-leaves F.Start d = refl
-refused-leaves F.HeaderCheck d = refl
-refused-leaves F.Length d = refl
-refused-leaves (F.BlockCheck b) d = refl
-refused-leaves F.OutputTooSmall d = refl
-
 -- a frame that was checked has its fields and so many user bytes
 pub fields-checked : (r : Read) (s : List ℕ) → Whole r s → readOf r ≡ fieldsOf (checkedOf r s)
 fields-checked (Frame control destination source n) s w =
     ap (λ (k : ℕ). R.accepted (fields control destination source k)) (sym (length-user n s (w .1)))
-fields-checked (Refused why) s w = refused-fields why
+fields-checked (Refused why) s w = refl
 
 -- a frame that was refused leaves the lent bytes
 pub refused-lent : (r : Read) (why : FrameRefusal) (s d : List ℕ) → r ≡ Refused why → d ≡ lentAfterRead d (checkedOf r s)
-refused-lent r why s d e = refused-leaves why d ∙ ap (λ (x : Read). lentAfterRead d (checkedOf x s)) (sym e)
+refused-lent r why s d e = ap (λ (x : Read). lentAfterRead d (checkedOf x s)) (sym e)

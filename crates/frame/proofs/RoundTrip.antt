@@ -15,9 +15,8 @@ use Rattle.octets.proofs.Le.{length-le, value-le, le-value, take-bytes, drop-by
 use Rattle.crc.specs.Check.{checkOf}
 use Rattle.laws.specs.Limits.{userMax, frameMax}
 use Rattle.laws.specs.Outcome.{Outcome, accepted, refused}
-use Rattle.frame.specs.FrameOutcome.{FrameOutcome, wrongBlock}
+use Rattle.frame.specs.FrameOutcome.{Refusal, by, wrongBlock, FrameOutcome}
 use Rattle.frame.specs.FrameOutcome as R
-use Rattle.frame.specs.declared.FrameRefusal.the-variants as F
 use Rattle.frame.specs.declared.Read.{Read}
 use Rattle.frame.specs.declared.Read.the-variants.{Frame, Refused}
 use Rattle.frame.specs.declared.Wrote.{Wrote}
@@ -241,13 +240,9 @@ encode-read n s bytes whole e0 e1 h en ok oks =
     rw (u, hd, bl) (sym (take-add 10 (frameSize n - 10) s) ∙ ap (λ (k : ℕ). take k s) sum)
 
 -- what was accepted passed this test, which refuses where it is true
-passed-no : (t : Bool) (k : ℕ) (o : FrameOutcome Parts) (f : Parts) → cond t (R.refused k) o ≡ R.accepted f → (t ≡ false) × (o ≡ R.accepted f)
-passed-no true k o f e = (cc, cc)
-passed-no false k o f e = (refl, e)
-
-passed-block : (t : Bool) (k : ℕ) (o : FrameOutcome Parts) (f : Parts) → cond t (wrongBlock k) o ≡ R.accepted f → (t ≡ false) × (o ≡ R.accepted f)
-passed-block true k o f e = (cc, cc)
-passed-block false k o f e = (refl, e)
+passed-no : (t : Bool) (why : Refusal) (o : FrameOutcome Parts) (f : Parts) → cond t (R.refused why) o ≡ R.accepted f → (t ≡ false) × (o ≡ R.accepted f)
+passed-no true why o f e = (cc, cc)
+passed-no false why o f e = (refl, e)
 
 -- what was accepted passed every test
 record Passed (room : ℕ) (s : List ℕ) (f : Parts) : Type 0 where
@@ -263,14 +258,14 @@ passed : (room : ℕ) (s : List ℕ) (f : Parts) → decode room s ≡ R.accepte
 unfolding decode decodeBody
 passed room s f e =
     let n : ℕ = getD s 2 0 - 5 in
-    let a1 = passed-no (ltb room userMax) 33 _ f e in
-    let a2 = passed-no (ltb (length s) 10) 11 _ f (a1 .1) in
-    let a3 = passed-no (not (eqb (getD s 0 0) 5)) 12 _ f (a2 .1) in
-    let a4 = passed-no (not (eqb (getD s 1 0) 100)) 12 _ f (a3 .1) in
-    let a5 = passed-no (not (crcOk (take 10 s))) 13 _ f (a4 .1) in
-    let a6 = passed-no (ltb (getD s 2 0) 5) 14 _ f (a5 .1) in
-    let a7 = passed-no (ltb (length s) (frameSize n)) 11 _ f (a6 .1) in
-    let a8 = passed-block (ltb (firstWrongOf n s) (blockCount n)) (firstWrongOf n s) _ f (a7 .1) in
+    let a1 = passed-no (ltb room userMax) (by 33) _ f e in
+    let a2 = passed-no (ltb (length s) 10) (by 11) _ f (a1 .1) in
+    let a3 = passed-no (not (eqb (getD s 0 0) 5)) (by 12) _ f (a2 .1) in
+    let a4 = passed-no (not (eqb (getD s 1 0) 100)) (by 12) _ f (a3 .1) in
+    let a5 = passed-no (not (crcOk (take 10 s))) (by 13) _ f (a4 .1) in
+    let a6 = passed-no (ltb (getD s 2 0) 5) (by 14) _ f (a5 .1) in
+    let a7 = passed-no (ltb (length s) (frameSize n)) (by 11) _ f (a6 .1) in
+    let a8 = passed-no (ltb (firstWrongOf n s) (blockCount n)) (wrongBlock (firstWrongOf n s)) _ f (a7 .1) in
     record {
       lent = ltb-false _ _ (a1 .0);
       start = (eqb-true _ _ (not-false _ (a3 .0)), eqb-true _ _ (not-false _ (a4 .0)));
@@ -308,12 +303,7 @@ size-is OutputTooSmall n e = cc
 -- the answer of a read that was accepted
 frame-is : (r : Read) (x : Fields) → readOf r ≡ R.accepted x → r ≡ Frame (x .control) (x .destination) (x .source) (x .len)
 frame-is (Frame c d a n) x e = cc
-frame-is (Refused F.TooShort) x e = cc
-frame-is (Refused F.Start) x e = cc
-frame-is (Refused F.HeaderCheck) x e = cc
-frame-is (Refused F.Length) x e = cc
-frame-is (Refused (F.BlockCheck b)) x e = cc
-frame-is (Refused F.OutputTooSmall) x e = cc
+frame-is (Refused why) x e = cc
 
 fits-by : (a b : Bool) (x : List ℕ) (n : ℕ) → accepted n ≡ writtenSize (cond a (refused 33) (cond b (refused 16) (accepted x))) → (a ≡ false) × (b ≡ false)
 fits-by true b x n e = (cc, cc)
@@ -354,8 +344,7 @@ read-is-written r w s out user lent written c d a n bytes got is room wrote =
   where
     go : (o : FrameOutcome Parts) → decode (length out) s ≡ o → R.accepted (fields c d a n) ≡ fieldsOf o → user ≡ lentAfterRead out o
         → (n ≤ userMax) × (w ≡ Size (frameSize n)) × (take (frameSize n) written ≡ take (frameSize n) s)
-    go (R.refused k) e x l = let z : n ≡ suc n = cc in absurd (omega arith)
-    go (wrongBlock k) e x l = let z : n ≡ suc n = cc in absurd (omega arith)
+    go (R.refused why) e x l = let z : n ≡ suc n = cc in absurd (omega arith)
     go (R.accepted f) e x l =
         let most : length (f .user) ≤ userMax = read-most (length out) s f bytes e in
         let h : userMax ≤ length out = passed (length out) s f e .lent in

@@ -11,7 +11,7 @@ use lib.ListN.{length, getD, take, drop}
 use lib.Seq.{drop-drop}
 use Rattle.laws.specs.Limits.{userMax}
 use Rattle.octets.specs.Bytes.{AreBytes}
-use Rattle.frame.specs.FrameOutcome.{FrameOutcome, accepted, refused, wrongBlock}
+use Rattle.frame.specs.FrameOutcome.{Refusal, wrongBlock, FrameOutcome, accepted, refused, refusedBy}
 use Rattle.frame.specs.declared.Read.{Read}
 use Rattle.frame.specs.declared.Read.the-variants.{Refused}
 use Rattle.frame.specs.declared.FrameRefusal.the-variants.{BlockCheck}
@@ -50,19 +50,19 @@ right-before (suc k) b j h = go (crcOk (take 18 b)) (firstWrong k (drop 18 b)) j
 -- ---- of a frame
 
 -- a test that refuses with another number was passed
-passed-no : (t : Bool) (m k : ℕ) (o : FrameOutcome Parts) → cond t (refused m) o ≡ wrongBlock k → o ≡ wrongBlock k
+passed-no : (t : Bool) (m k : ℕ) (o : FrameOutcome Parts) → cond t (refusedBy m) o ≡ refused (wrongBlock k) → o ≡ refused (wrongBlock k)
 passed-no true m k o e = cc
 passed-no false m k o e = e
 
 -- the test of the blocks was not, and its number is carried
-stopped : (w c k : ℕ) (f : Parts) → cond (ltb w c) (wrongBlock w) (accepted f) ≡ wrongBlock k → (w ≡ k) × (w < c)
+stopped : (w c k : ℕ) (f : Parts) → cond (ltb w c) (refused (wrongBlock w)) (accepted f) ≡ refused (wrongBlock k) → (w ≡ k) × (w < c)
 stopped w c k f e = go (ltb w c) refl e
   where
-    go : (t : Bool) → ltb w c ≡ t → cond t (wrongBlock w) (accepted f) ≡ wrongBlock k → (w ≡ k) × (w < c)
+    go : (t : Bool) → ltb w c ≡ t → cond t (refused (wrongBlock w)) (accepted f) ≡ refused (wrongBlock k) → (w ≡ k) × (w < c)
     go true h x = (cc, ltb-true _ _ h)
     go false h x = let z : _≡_ {A = ℕ} 0 1 = cc in absurd (omega arith)
 
-wrong-block : (room : ℕ) (s : List ℕ) (k : ℕ) → decode room s ≡ wrongBlock k → (firstWrongOf (userCount s) s ≡ k) × (firstWrongOf (userCount s) s < blockCount (userCount s))
+wrong-block : (room : ℕ) (s : List ℕ) (k : ℕ) → decode room s ≡ refused (wrongBlock k) → (firstWrongOf (userCount s) s ≡ k) × (firstWrongOf (userCount s) s < blockCount (userCount s))
 unfolding decode decodeBody
 wrong-block room s k e =
     let n : ℕ = userCount s in
@@ -75,16 +75,15 @@ wrong-block room s k e =
     let a7 = passed-no (ltb (length s) (frameSize n)) 11 k _ a6 in
     stopped (firstWrongOf n s) (blockCount n) k _ a7
 
-no-fields : (o : FrameOutcome Parts) (k : ℕ) → wrongBlock k ≡ fieldsOf o → o ≡ wrongBlock k
-no-fields (accepted f) k e = cc
-no-fields (refused m) k e = cc
-no-fields (wrongBlock b) k e = cc
+no-fields : (o : FrameOutcome Parts) (why : Refusal) → refused why ≡ fieldsOf o → o ≡ refused why
+no-fields (accepted f) why e = cc
+no-fields (refused w) why e = cc
 
 pub wrong-block-is-first : WrongBlockIsFirst
 unfolding WrongBlockIsFirst
 wrong-block-is-first r s out user k bytes got is =
     let n : ℕ = userCount s in
-    let p = wrong-block (length out) s k (no-fields _ k (ap readOf (sym is) ∙ got .answer)) in
+    let p = wrong-block (length out) s k (no-fields _ (wrongBlock k) (ap readOf (sym is) ∙ got .answer)) in
     let b : getD s 2 0 < 256 = bytes 2 in
     let l : k < blockCount n = subst (λ (w : ℕ). w < blockCount n) (p .0) (p .1) in (
       l,

@@ -11,7 +11,7 @@ use Rattle.laws.specs.Limits.{userMax, frameMax}
 use Rattle.laws.specs.Outcome.{Outcome, accepted, refused}
 use Rattle.octets.specs.Bytes.{splice, le, valueAt}
 use Rattle.crc.specs.Check.{checkOf}
-use Rattle.frame.specs.FrameOutcome.{FrameOutcome, wrongBlock, refusalOf, blockOf}
+use Rattle.frame.specs.FrameOutcome.{Refusal, by, wrongBlock, FrameOutcome, refusedBy}
 use Rattle.frame.specs.FrameOutcome as R
 use Rattle.frame.specs.declared.Read.{Read}
 use Rattle.frame.specs.declared.Read.the-variants.{Frame, Refused}
@@ -98,8 +98,8 @@ firstWrongOf n s = firstWrong (blockCount n) (bodyOf n s)
 unfoldable pub decodeBody : ℕ → List ℕ → FrameOutcome Parts
 decodeBody n s =
     first (
-    ltb (length s) (frameSize n) ⇒ R.refused 11
-    ∷ ltb (firstWrongOf n s) (blockCount n) ⇒ wrongBlock (firstWrongOf n s)
+    ltb (length s) (frameSize n) ⇒ refusedBy 11
+    ∷ ltb (firstWrongOf n s) (blockCount n) ⇒ R.refused (wrongBlock (firstWrongOf n s))
     ∷ [])
     (R.accepted (parts (getD s 3 0) (valueAt 2 4 s) (valueAt 2 6 s) (userOf n s)))
 
@@ -108,12 +108,12 @@ decodeBody n s =
 unfoldable pub decode : ℕ → List ℕ → FrameOutcome Parts
 decode room s =
     first (
-    ltb room userMax ⇒ R.refused 33
-    ∷ ltb (length s) 10 ⇒ R.refused 11
-    ∷ not (eqb (getD s 0 0) 5) ⇒ R.refused 12
-    ∷ not (eqb (getD s 1 0) 100) ⇒ R.refused 12
-    ∷ not (crcOk (take 10 s)) ⇒ R.refused 13
-    ∷ ltb (getD s 2 0) 5 ⇒ R.refused 14
+    ltb room userMax ⇒ refusedBy 33
+    ∷ ltb (length s) 10 ⇒ refusedBy 11
+    ∷ not (eqb (getD s 0 0) 5) ⇒ refusedBy 12
+    ∷ not (eqb (getD s 1 0) 100) ⇒ refusedBy 12
+    ∷ not (crcOk (take 10 s)) ⇒ refusedBy 13
+    ∷ ltb (getD s 2 0) 5 ⇒ refusedBy 14
     ∷ [])
     (decodeBody (getD s 2 0 - 5) s)
 
@@ -151,33 +151,25 @@ fields c d s n = record { control = c; destination = d; source = s; len = n }
 
 abbrev pub fieldsOf : FrameOutcome Parts → FrameOutcome Fields
 fieldsOf (R.accepted f) = R.accepted (fields (f .control) (f .destination) (f .source) (length (f .user)))
-fieldsOf (R.refused k) = R.refused k
-fieldsOf (wrongBlock b) = wrongBlock b
+fieldsOf (R.refused why) = R.refused why
 
 -- the number of each refusal; 15 carries its block
-abbrev pub refusedAs : {A : Type 0} → FrameRefusal → FrameOutcome A
-refusedAs F.TooShort = R.refused 11
-refusedAs F.Start = R.refused 12
-refusedAs F.HeaderCheck = R.refused 13
-refusedAs F.Length = R.refused 14
-refusedAs (F.BlockCheck b) = wrongBlock b
-refusedAs F.OutputTooSmall = R.refused 33
+abbrev pub refusalOf : FrameRefusal → Refusal
+refusalOf F.TooShort = by 11
+refusalOf F.Start = by 12
+refusalOf F.HeaderCheck = by 13
+refusalOf F.Length = by 14
+refusalOf (F.BlockCheck b) = wrongBlock b
+refusalOf F.OutputTooSmall = by 33
 
 abbrev pub readOf : Read → FrameOutcome Fields
 readOf (Frame control destination source n) = R.accepted (fields control destination source n)
-readOf (Refused why) = refusedAs why
-
-abbrev pub refusalNumber : FrameRefusal → ℕ
-refusalNumber why = refusalOf (readOf (Refused why))
-
-abbrev pub refusalBlock : FrameRefusal → ℕ
-refusalBlock why = blockOf (readOf (Refused why))
+readOf (Refused why) = R.refused (refusalOf why)
 
 -- the user data goes to the front of the lent bytes
 abbrev pub lentAfterRead : List ℕ → FrameOutcome Parts → List ℕ
 lentAfterRead d (R.accepted f) = splice d 0 (f .user)
-lentAfterRead d (R.refused k) = d
-lentAfterRead d (wrongBlock b) = d
+lentAfterRead d (R.refused why) = d
 
 -- a call that read the bytes s, with these lent bytes before and after it, answers r
 pub record FrameRead (r : Read) (s before after : List ℕ) : Type 0 where
@@ -188,7 +180,7 @@ pub record FrameRead (r : Read) (s before after : List ℕ) : Type 0 where
 
 abbrev pub checkedOf : Read → List ℕ → FrameOutcome Parts
 checkedOf (Frame control destination source n) s = R.accepted (parts control destination source (userOf n s))
-checkedOf (Refused why) s = refusedAs why
+checkedOf (Refused why) s = R.refused (refusalOf why)
 
 -- a frame that was found is there to its end
 abbrev pub Whole : Read → List ℕ → Type 0

@@ -5,6 +5,7 @@ ghost use lib.ListN.{length};
 ghost use Rattle.laws.specs.Limits.{userMax};
 ghost use Rattle.laws.specs.Outcome.{numberOf};
 ghost use Rattle.octets.specs.Bytes.{splice};
+ghost use Rattle.frame.specs.FrameOutcome.{refusalNumber, refusalBlock};
 ghost use Rattle.frame.specs.Frame.{
   parts,
   withCrc,
@@ -19,8 +20,7 @@ ghost use Rattle.frame.specs.Frame.{
   FrameRead,
   frameSize,
   userOf,
-  refusalNumber,
-  refusalBlock,
+  refusalOf,
   wroteOf,
   checkedOf,
   Whole,
@@ -74,7 +74,7 @@ pub enum Read {
 
 // Document 01's number of a refusal to read.
 pub fn refusal_number(why: FrameRefusal) -> u8
-    ensures { λ r. ⌜ r ≡ refusalNumber why ⌝ }
+    ensures { λ r. ⌜ r ≡ refusalNumber (refusalOf why) ⌝ }
 {
     match why {
         FrameRefusal::TooShort => 11,
@@ -88,7 +88,7 @@ pub fn refusal_number(why: FrameRefusal) -> u8
 
 // The block that refusal 15 carries, 0 to 15; 0 for the other refusals.
 pub fn refusal_block(why: FrameRefusal) -> u8
-    ensures { λ r. ⌜ r ≡ refusalBlock why ⌝ }
+    ensures { λ r. ⌜ r ≡ refusalBlock (refusalOf why) ⌝ }
 {
     match why {
         FrameRefusal::BlockCheck(block) => block,

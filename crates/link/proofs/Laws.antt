@@ -13,7 +13,7 @@ use types.Run.{OneOf}
 use Rattle.octets.specs.Bytes.{splice}
 use Rattle.laws.specs.First.{first, _⇒_}
 use Rattle.laws.specs.Limits.{userMax}
-use Rattle.laws.specs.Outcome.{Outcome, accepted, refused, numberOf}
+use Rattle.frame.specs.FrameOutcome.{Refusal, by, wrongBlock, refusalNumber, FrameOutcome, accepted, refused, refusedBy, numberOf, blockOf}
 use Rattle.frame.specs.Frame.{Parts, decode, checkedOf, Whole, userOf, frameSize}
 use Rattle.frame.proofs.Laws.{decode-lent, decode-room, length-user}
 use Rattle.frame.specs.declared.Read.{Read}
@@ -21,14 +21,15 @@ use Rattle.frame.specs.declared.Read.the-variants.{Frame, Refused}
 use Rattle.frame.specs.declared.FrameRefusal.{FrameRefusal}
 use Rattle.frame.specs.declared.FrameRefusal.the-variants as F
 use Rattle.link.specs.declared.Station.{Station}
+use Rattle.link.specs.declared.LineRecord.{LineRecord}
 use Rattle.link.specs.declared.Taken.{Taken}
 use Rattle.link.specs.declared.Taken.the-variants.{UserData, Reply, NotTaken}
 use Rattle.link.specs.declared.Taken.the-variants as Ts
-use Rattle.link.specs.Station.{LinkDecision, hands, replies, notTaken, withoutData, byFunction, addressed, Action, userData, reply, actionOf, takes, station, LinkAnswer, userBytes, replyWith, linkAnswer, takenOf, takenBy, afterCheck, lentAfterTake, FrameTaken, replyControl}
+use Rattle.link.specs.Station.{LinkDecision, hands, replies, notTaken, withoutData, byFunction, addressed, Action, userData, reply, actionOf, takes, station, LinkAnswer, userBytes, replyWith, linkAnswer, takenOf, takenBy, afterCheck, lentAfterTake, FrameTaken, blockCounted, blocksCounted, countedOf, replyControl}
 use Rattle.link.proofs.Taken as T
 
 module _ (room : ℕ) (st : Station) (s : List ℕ) where
-  pub station-lent : room < userMax → station room st s ≡ refused 33
+  pub station-lent : room < userMax → station room st s ≡ refusedBy 33
   unfolding station
   station-lent h = ap (takes st) (decode-lent room s h)
 
@@ -47,7 +48,7 @@ not-zero (inr (inl e)) = omega arith
 not-zero (inr (inr e)) = omega arith
 
 -- what the answer t promises of the outcome o, and of the lent bytes d before and d′ after
-abbrev pub Right : Taken → Outcome Action → List ℕ → List ℕ → Type 0
+abbrev pub Right : Taken → FrameOutcome Action → List ℕ → List ℕ → Type 0
 Right t o d d′ = (takenOf t ≡ linkAnswer o) × (d′ ≡ lentAfterTake d o)
 
 decided-other : (v : LinkDecision) (n : ℕ) (u d : List ℕ) → NoData (takenBy v n) → Right (takenBy v n) (actionOf v u) d d
@@ -61,7 +62,7 @@ after-check-other st (Frame c e f n) s d w h =
 after-check-other st (Refused why) s d w h = (refl, refl)
 
 -- user data is handed on: where it is, and what is right once it is copied
-abbrev pub Handed : Outcome Action → List ℕ → ℕ → Type 0
+abbrev pub Handed : FrameOutcome Action → List ℕ → ℕ → Type 0
 Handed o s n = (n ≤ userMax) × ((frameSize n ≤ length s) × (o ≡ accepted (userData (userOf n s))))
 
 decided-data : (v : LinkDecision) (n m : ℕ) (s : List ℕ) → n ≤ userMax → frameSize n ≤ length s → takenBy v n ≡ UserData m → Handed (actionOf v (userOf n s)) s m
@@ -79,29 +80,52 @@ pub handed-right : (n : ℕ) (s d : List ℕ) → frameSize n ≤ length s → R
 handed-right n s d w = (ap (λ (k : ℕ). accepted (userBytes k)) (sym (length-user n s w)), refl)
 
 -- the contract from the outcome
-pub taken-by : (t : Taken) (st : Station) (s d d′ : List ℕ) (o : Outcome Action) → station (length d) st s ≡ o → Right t o d d′ → FrameTaken t st s d d′
+pub taken-by : (t : Taken) (st : Station) (s d d′ : List ℕ) (o : FrameOutcome Action) → station (length d) st s ≡ o → Right t o d d′ → FrameTaken t st s d d′
 taken-by t st s d d′ o e r = record { answer = r .0 ∙ ap linkAnswer (sym e); lent = r .1 ∙ ap (lentAfterTake d) (sym e) }
 
-answer-number : (o : Outcome Action) → numberOf (linkAnswer o) ≡ numberOf o
-answer-number (accepted (userData u)) = refl
-answer-number (accepted (reply c)) = refl
-answer-number (refused k) = refl
+answer-counted : (l : LineRecord) (o : FrameOutcome Action) → countedOf l (linkAnswer o) ≡ countedOf l o
+answer-counted l (accepted (userData u)) = refl
+answer-counted l (accepted (reply c)) = refl
+answer-counted l (refused (by k)) = refl
+answer-counted l (refused (wrongBlock b)) = refl
 
--- the number of the answer is the outcome's
-pub taken-number-is : (t : Taken) (st : Station) (s d d′ : List ℕ) → FrameTaken t st s d d′ → numberOf (takenOf t) ≡ numberOf (station (length d) st s)
-taken-number-is t st s d d′ e = ap numberOf (e .answer) ∙ answer-number (station (length d) st s)
+-- what is counted of the answer is what is counted of the outcome
+pub taken-counted : (l : LineRecord) (t : Taken) (st : Station) (s d d′ : List ℕ) → FrameTaken t st s d d′ → countedOf l (takenOf t) ≡ countedOf l (station (length d) st s)
+taken-counted l t st s d d′ e = ap (countedOf l) (e .answer) ∙ answer-counted l (station (length d) st s)
+
+-- the counts by block, by the number of the answer
+pub blocks-15 : (counts : List ℕ) (t : Taken) → numberOf (takenOf t) ≡ 15 → blockCounted counts (blockOf (takenOf t)) ≡ blocksCounted counts (takenOf t)
+blocks-15 counts (UserData n) e = absurd (omega arith)
+blocks-15 counts (Reply c) e = absurd (omega arith)
+blocks-15 counts (Ts.Refused F.TooShort) e = absurd (omega arith)
+blocks-15 counts (Ts.Refused F.Start) e = absurd (omega arith)
+blocks-15 counts (Ts.Refused F.HeaderCheck) e = absurd (omega arith)
+blocks-15 counts (Ts.Refused F.Length) e = absurd (omega arith)
+blocks-15 counts (Ts.Refused (F.BlockCheck b)) e = refl
+blocks-15 counts (Ts.Refused F.OutputTooSmall) e = absurd (omega arith)
+blocks-15 counts NotTaken e = absurd (omega arith)
+
+pub blocks-other : (counts : List ℕ) (t : Taken) → (numberOf (takenOf t) ≡ 15 → ⊥) → counts ≡ blocksCounted counts (takenOf t)
+blocks-other counts (UserData n) h = refl
+blocks-other counts (Reply c) h = refl
+blocks-other counts (Ts.Refused F.TooShort) h = refl
+blocks-other counts (Ts.Refused F.Start) h = refl
+blocks-other counts (Ts.Refused F.HeaderCheck) h = refl
+blocks-other counts (Ts.Refused F.Length) h = refl
+blocks-other counts (Ts.Refused (F.BlockCheck b)) h = absurd (h refl)
+blocks-other counts (Ts.Refused F.OutputTooSmall) h = refl
+blocks-other counts NotTaken h = refl
 
 -- ---- what an answer means tells the answer: no two mean the same
 
-refusal-at : ℕ → FrameRefusal
-refusal-at k =
-    first (eqb k 11 ⇒ F.TooShort ∷ eqb k 12 ⇒ F.Start ∷ eqb k 13 ⇒ F.HeaderCheck ∷ eqb k 14 ⇒ F.Length ∷ eqb k 15 ⇒ F.BlockCheck ∷ [])
-    F.OutputTooSmall
+refusal-at : Refusal → FrameRefusal
+refusal-at (by k) = first (eqb k 11 ⇒ F.TooShort ∷ eqb k 12 ⇒ F.Start ∷ eqb k 13 ⇒ F.HeaderCheck ∷ eqb k 14 ⇒ F.Length ∷ []) F.OutputTooSmall
+refusal-at (wrongBlock b) = F.BlockCheck b
 
-answer-at : Outcome LinkAnswer → Taken
+answer-at : FrameOutcome LinkAnswer → Taken
 answer-at (accepted (userBytes n)) = UserData n
 answer-at (accepted (replyWith c)) = Reply c
-answer-at (refused k) = cond (eqb k 17) NotTaken (Ts.Refused (refusal-at k))
+answer-at (refused why) = cond (eqb (refusalNumber why) 17) NotTaken (Ts.Refused (refusal-at why))
 
 answer-back : (t : Taken) → answer-at (takenOf t) ≡ t
 unfolding answer-at refusal-at
@@ -111,7 +135,7 @@ answer-back (Ts.Refused F.TooShort) = refl
 answer-back (Ts.Refused F.Start) = refl
 answer-back (Ts.Refused F.HeaderCheck) = refl
 answer-back (Ts.Refused F.Length) = refl
-answer-back (Ts.Refused F.BlockCheck) = refl
+answer-back (Ts.Refused (F.BlockCheck b)) = refl
 answer-back (Ts.Refused F.OutputTooSmall) = refl
 answer-back NotTaken = refl
 
@@ -164,6 +188,6 @@ pub reply-kept : (room : ℕ) (st : Station) (s : List ℕ) (c : ℕ) → statio
 unfolding station
 reply-kept room st s c e = go (decode room s) e
   where
-    go : (o : Outcome Parts) → takes st o ≡ accepted (reply c) → replyControl c ≡ c
+    go : (o : FrameOutcome Parts) → takes st o ≡ accepted (reply c) → replyControl c ≡ c
     go (accepted f) x = action-kept (addressed st (f .control) (f .destination) (f .source) (length (f .user))) (f .user) c (addressed-kept st (f .control) (f .destination) (f .source) (length (f .user))) x
-    go (refused k) x = cc
+    go (refused why) x = cc

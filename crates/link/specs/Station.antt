@@ -1,16 +1,16 @@
--- The station on its link: which frames it takes, what it answers, and the line's record.
+-- The station on its link: which frames it takes, what it answers, and the line's record (document 02, request 110, for blocks).
 -- Assumes nothing.
 use Prim.Native.Nat.{ℕ, _+_, _/_, _%_}
 use mathlib.Core.Path.{_≡_}
 use mathlib.Core.Bool.{Bool, true, false, cond, not}
 use mathlib.Core.List.{List, [], _∷_}
-use lib.ListN.{length}
+use lib.ListN.{length, getD, set}
 use lib.Dec.{ltb, eqb}
 use Rattle.octets.specs.Bytes.{splice}
 use Rattle.laws.specs.First.{first, _⇒_}
 use Rattle.laws.specs.Limits.{countMax}
-use Rattle.laws.specs.Outcome.{Outcome, accepted, refused, numberOf}
-use Rattle.frame.specs.Frame.{Parts, parts, decode, refusalNumber}
+use Rattle.frame.specs.FrameOutcome.{by, wrongBlock, FrameOutcome, accepted, refused, refusedBy, numberOf}
+use Rattle.frame.specs.Frame.{Parts, parts, decode, refusalOf}
 use Rattle.frame.specs.declared.Read.{Read}
 use Rattle.frame.specs.declared.Read.the-variants.{Frame, Refused}
 use Rattle.link.specs.declared.Station.{Station}
@@ -61,24 +61,24 @@ pub data Action : Type 0 where
   userData : List ℕ → Action
   reply : ℕ → Action
 
-abbrev pub actionOf : LinkDecision → List ℕ → Outcome Action
+abbrev pub actionOf : LinkDecision → List ℕ → FrameOutcome Action
 actionOf hands u = accepted (userData u)
 actionOf (replies c) u = accepted (reply c)
-actionOf notTaken u = refused 17
+actionOf notTaken u = refusedBy 17
 
-abbrev pub takes : Station → Outcome Parts → Outcome Action
+abbrev pub takes : Station → FrameOutcome Parts → FrameOutcome Action
 takes st (accepted f) = actionOf (addressed st (f .control) (f .destination) (f .source) (length (f .user))) (f .user)
-takes st (refused k) = refused k
+takes st (refused why) = refused why
 
 -- the frame at the front of the bytes, so many bytes being lent
-unfoldable pub station : ℕ → Station → List ℕ → Outcome Action
+unfoldable pub station : ℕ → Station → List ℕ → FrameOutcome Action
 station room st s = takes st (decode room s)
 
 -- only user data changes the lent bytes
-abbrev pub lentAfterTake : List ℕ → Outcome Action → List ℕ
+abbrev pub lentAfterTake : List ℕ → FrameOutcome Action → List ℕ
 lentAfterTake d (accepted (userData u)) = splice d 0 u
 lentAfterTake d (accepted (reply c)) = d
-lentAfterTake d (refused k) = d
+lentAfterTake d (refused why) = d
 
 -- ---- what the answers mean
 
@@ -87,16 +87,16 @@ pub data LinkAnswer : Type 0 where
   userBytes : ℕ → LinkAnswer
   replyWith : ℕ → LinkAnswer
 
-abbrev pub linkAnswer : Outcome Action → Outcome LinkAnswer
+abbrev pub linkAnswer : FrameOutcome Action → FrameOutcome LinkAnswer
 linkAnswer (accepted (userData u)) = accepted (userBytes (length u))
 linkAnswer (accepted (reply c)) = accepted (replyWith c)
-linkAnswer (refused k) = refused k
+linkAnswer (refused why) = refused why
 
-abbrev pub takenOf : Taken → Outcome LinkAnswer
+abbrev pub takenOf : Taken → FrameOutcome LinkAnswer
 takenOf (UserData n) = accepted (userBytes n)
 takenOf (Reply c) = accepted (replyWith c)
-takenOf (T.Refused why) = refused (refusalNumber why)
-takenOf NotTaken = refused 17
+takenOf (T.Refused why) = refused (refusalOf why)
+takenOf NotTaken = refusedBy 17
 
 -- a call that took the frame at the front of the bytes s, with these lent bytes before and after it, answers t
 pub record FrameTaken (t : Taken) (st : Station) (s before after : List ℕ) : Type 0 where
@@ -120,23 +120,34 @@ abbrev pub countIf : Bool → ℕ → ℕ
 countIf true n = cond (ltb n countMax) (n + 1) n
 countIf false n = n
 
+-- one more for this block, which stops for itself
+abbrev pub blockCounted : List ℕ → ℕ → List ℕ
+blockCounted counts b = set counts b (countIf true (getD counts b 0))
+
+-- refusal 15 is counted by the block that it carries: "the line record keeps a count for each"
+abbrev pub blocksCounted : {A : Type 0} → List ℕ → FrameOutcome A → List ℕ
+blocksCounted counts (accepted a) = counts
+blocksCounted counts (refused (by k)) = counts
+blocksCounted counts (refused (wrongBlock b)) = blockCounted counts b
+
 -- accepted frames, and refusals 11 to 15 and 17
-abbrev pub countedOf : LineRecord → ℕ → LineRecord
-countedOf l k =
+abbrev pub countedOf : {A : Type 0} → LineRecord → FrameOutcome A → LineRecord
+countedOf l o =
     record {
-      accepted = countIf (eqb k 0) (l .accepted);
-      short = countIf (eqb k 11) (l .short);
-      start = countIf (eqb k 12) (l .start);
-      «header_check» = countIf (eqb k 13) (l .«header_check»);
-      length = countIf (eqb k 14) (l .length);
-      «block_check» = countIf (eqb k 15) (l .«block_check»);
-      «not_taken» = countIf (eqb k 17) (l .«not_taken»);
+      accepted = countIf (eqb (numberOf o) 0) (l .accepted);
+      short = countIf (eqb (numberOf o) 11) (l .short);
+      start = countIf (eqb (numberOf o) 12) (l .start);
+      «header_check» = countIf (eqb (numberOf o) 13) (l .«header_check»);
+      length = countIf (eqb (numberOf o) 14) (l .length);
+      «block_check» = countIf (eqb (numberOf o) 15) (l .«block_check»);
+      «not_taken» = countIf (eqb (numberOf o) 17) (l .«not_taken»);
+      blocks = blocksCounted (l .blocks) o;
     }
 
 -- a call that took a frame and counted it in the line record: l before it, and l₁ after
 pub record FrameCounted (t : Taken) (l l₁ : LineRecord) (st : Station) (s before after : List ℕ) : Type 0 where
   pub taken : FrameTaken t st s before after
-  pub line : l₁ ≡ countedOf l (numberOf (station (length before) st s))
+  pub line : l₁ ≡ countedOf l (station (length before) st s)
 
 -- ---- writing
 

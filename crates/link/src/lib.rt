@@ -2,9 +2,11 @@
 ghost use mathlib.Core.Path.{_≡_};
 ghost use mathlib.Core.List.{[]};
 ghost use Rattle.frame.specs.Frame.{FrameWritten};
-ghost use Rattle.laws.specs.Outcome.{numberOf};
+ghost use Rattle.frame.specs.FrameOutcome.{numberOf, blockOf};
 ghost use Rattle.link.specs.Station.{
   countIf,
+  blockCounted,
+  blocksCounted,
   countedOf,
   withData,
   withoutData,
@@ -29,6 +31,9 @@ pub struct Station {
 // Where a count of the line record stops.
 pub const COUNT_MAX: u16 = 65535;
 
+// The counts of the line record that are kept by block: a frame has at most so many.
+pub const BLOCK_COUNTS: usize = 16;
+
 // Control bytes: replies, and outgoing data.
 pub const ACK: u8 = 0x00;
 
@@ -38,7 +43,7 @@ pub const NOT_SUPPORTED: u8 = 0x0F;
 
 pub const USER_DATA: u8 = 0x44;
 
-// The line record, kept by the host: counts of accepted frames and of refusals 11 to 15 and 17.
+// The line record, kept by the host: counts of accepted frames and of refusals 11 to 15 and 17, and of refusals 15 by their block.
 #[repr(C)]
 pub struct LineRecord {
     pub accepted: u16,
@@ -48,6 +53,7 @@ pub struct LineRecord {
     pub length: u16,
     pub block_check: u16,
     pub not_taken: u16,
+    pub blocks: [u16; BLOCK_COUNTS],
 }
 
 // What a frame that came comes to.
@@ -87,11 +93,45 @@ pub fn taken_number(t: Taken) -> u8
     }
 }
 
+// The block that refusal 15 carries, 0 to 15; 0 for all else.
+pub fn taken_block(t: Taken) -> u8
+    ensures { λ r. ⌜ r ≡ blockOf (takenOf t) ⌝ }
+{
+    match t {
+        Taken::Refused(why) => frame::refusal_block(why),
+        _ => 0,
+    }
+}
+
+// The counts by block with one more for this block; one that no frame has is not counted.
+fn block_counted(counts: [u16; BLOCK_COUNTS], block: u8) -> [u16; BLOCK_COUNTS]
+    ensures { λ r. ⌜ r ≡ blockCounted counts block ⌝ }
+{
+    let i = block as usize;
+    let mut next = counts;
+    if i < BLOCK_COUNTS {
+        next[i] = count_if(true, next[i]);
+    }
+    next
+}
+
+// The counts by block with this frame counted.
+fn blocks_counted(counts: [u16; BLOCK_COUNTS], t: Taken) -> [u16; BLOCK_COUNTS]
+    ensures { λ r. ⌜ r ≡ blocksCounted counts (takenOf t) ⌝ }
+{
+    if taken_number(t) == 15 {
+        return block_counted(counts, taken_block(t));
+    }
+    counts
+}
+
 // The record with this frame counted.
 pub fn counted(l: LineRecord, t: Taken) -> LineRecord
-    ensures { λ r. ⌜ r ≡ countedOf l (numberOf (takenOf t)) ⌝ }
+    ensures { λ r. ⌜ r ≡ countedOf l (takenOf t) ⌝ }
 {
     let k = taken_number(t);
+    let counts = l.blocks;
+    let blocks = blocks_counted(counts, t);
     LineRecord {
         accepted: count_if(k == 0, l.accepted),
         short: count_if(k == 11, l.short),
@@ -100,6 +140,7 @@ pub fn counted(l: LineRecord, t: Taken) -> LineRecord
         length: count_if(k == 14, l.length),
         block_check: count_if(k == 15, l.block_check),
         not_taken: count_if(k == 17, l.not_taken),
+        blocks,
     }
 }
 

@@ -9,13 +9,14 @@ use denote.Enum.Declared.{tagOf}
 use types.Run.{OneOf}
 use Rattle.frame.specs.declared.FrameRefusal.{FrameRefusal}
 use Rattle.frame.specs.declared.FrameRefusal.the-variants as F
-use Rattle.frame.specs.Frame.{refusalBlock}
+use Rattle.frame.specs.FrameOutcome.{refusalBlock}
+use Rattle.frame.specs.Frame.{refusalOf}
 use Rattle.frame.proofs.FrameRefusal as T
 use Rattle.frame.proofs.refusal_block.Statement.{statement}
 use Rattle.frame.proofs.refusal_block.Tie as tie
 
 -- a refusal that is not 15 carries none
-none : (why : FrameRefusal) → OneOf (0 ∷ 1 ∷ 2 ∷ 3 ∷ 5 ∷ []) (tagOf T.the-type why) → 0 ≡ refusalBlock why
+none : (why : FrameRefusal) → OneOf (0 ∷ 1 ∷ 2 ∷ 3 ∷ 5 ∷ []) (tagOf T.the-type why) → 0 ≡ refusalBlock (refusalOf why)
 none F.TooShort h = refl
 none F.Start h = refl
 none F.HeaderCheck h = refl

@@ -1,7 +1,7 @@
 -- `link::receive` meets its contract: a walk of its MIR, by hand. The addresses and the two slices go to `take_frame`, `out` for good; then the borrow of the record is opened, the record is copied out and passed to `counted` with the answer, the record returned is stored in its place, and the borrow is closed at it.
 -- All that the proof knows of `take_frame` and of `counted` is that each meets its contract.
 -- Assumes nothing.
-use mathlib.Core.Path.{refl, ap}
+use mathlib.Core.Path.{refl}
 use Prim.Native.Nat.{ℕ}
 use mathlib.Core.List.{[], _∷_, List}
 use lib.ListN.{length}
@@ -42,9 +42,8 @@ use denote.Exit.{yes}
 use Rattle.link.specs.declared.LineRecord.{LineRecord}
 use Rattle.link.specs.declared.Taken.{Taken}
 use Rattle.link.specs.Station.{takenOf, countedOf, FrameTaken}
-use Rattle.laws.specs.Outcome.{numberOf}
 use Rattle.link.specs.declared.Station.{Station}
-use Rattle.link.proofs.Laws.{taken-number-is}
+use Rattle.link.proofs.Laws.{taken-counted}
 use Rattle.link.proofs.Station as S
 use Rattle.link.proofs.Station.Laws as S′
 use Rattle.link.proofs.LineLaws.{valL, tellsL, makesL, typedL, valS, IsS, tellsS, typedS, valA, IsA, tellsA, makesA, typedA}
@@ -80,7 +79,7 @@ module _ {M : Type 1} (𝓤 : URA M) (H : Heap 𝓤) (A : Atoms 𝓤) (W : Given
     (b o : ℕ) (γ : GName) (h : LineRecord) (st : Station) (x : RefT (List ℕ)) (z : RefT (List ℕ)) (st-is : IsS st) (x-room : Room u8 (length (x .now))) (z-room : Room u8 (length (z .now))) where
   -- the record after the answer a
   abbrev after : Taken → LineRecord
-  after a = countedOf h (numberOf (takenOf a))
+  after a = countedOf h (takenOf a)
 
   -- what is passed: the arguments, and their machine values
   abbrev args : RefT LineRecord × (Station × (RefT (List ℕ) × (RefT (List ℕ) × Unit {0})))
@@ -127,7 +126,7 @@ module _ {M : Type 1} (𝓤 : URA M) (H : Heap 𝓤) (A : Atoms 𝓤) (W : Given
       qed W (‵ (fobs γ (L.the-row .coded .code (after a))) ∷ ‵ (fbor κ₀ (Body (mem L.the-row) b o γ)) ∷ ‵ (flft κ₀ q₀) ∷ Said ws ∷ Tokens ∷ []) ∵
       move ! (3 ∷ []) $ fsplit ! $ drop ! $ fsplit ! $ drop ! $ fsplit ! $ fsplit ! $ move ! (1 ∷ []) $ feqL ! (λ l.
       -- [out's last list; true; obs; the borrow; the tokens]
-      suffices ! _ (ends-at 𝓤 H A receive.ended stayed (receive.clauses 𝓤 H A at-mem run) W (((κ₀, (κ₁, (κ₂, tt))), (q₀, (q₁, (q₂, tt))), tt, args, at), tt) (valA a) a (after a, (tt, (tt, (ws .1 .1 .0, tt)))) (tt, (tt, (tt, (l, tt))))) $ says ! (record { taken = e; line = ap (countedOf h) (taken-number-is a st (x .now) (z .now) (ws .1 .1 .0) e) }) $
+      suffices ! _ (ends-at 𝓤 H A receive.ended stayed (receive.clauses 𝓤 H A at-mem run) W (((κ₀, (κ₁, (κ₂, tt))), (q₀, (q₁, (q₂, tt))), tt, args, at), tt) (valA a) a (after a, (tt, (tt, (ws .1 .1 .0, tt)))) (tt, (tt, (tt, (l, tt))))) $ says ! (record { taken = e; line = taken-counted h a st (x .now) (z .now) (ws .1 .1 .0) e }) $
       move ! (4 ∷ 5 ∷ []) $ join ! $ frame ! $ fjoin ! $ nothing ! $ fjoin ! $ nothing ! $ fjoin ! $ move ! (1 ∷ 2 ∷ []) $ feqI ! (List Val) (vptr b o ∷ []) (vptr b o ∷ []) refl $ fjoin3 ! $ fjoin ! $ frame ! $
       owned ! N.the-row (Is N.the-row) (makesA 𝓤 H A) a _ is $ done !)
 
