@@ -20,9 +20,11 @@ pub struct Asked {
     pub next: text::Cursor,
 }
 
-// What a call came to: the refusal's number, 0 where it has none, and how many of the lent bytes are its answer.
+// What a call came to: the refusal's number, 0 where it has none, the block that refusal 15 carries, and how many of the lent bytes are its
+// answer.
 pub struct Outcome {
     pub refusal: u8,
+    pub block: u8,
     pub used: usize,
 }
 
@@ -41,12 +43,22 @@ pub fn asked_of(w: &[u8], c: text::Cursor, bytes: &mut [u8]) -> Asked
 }
 
 pub fn gave(used: usize) -> Outcome {
-    Outcome { refusal: 0, used }
+    Outcome {
+        refusal: 0,
+        block: 0,
+        used,
+    }
 }
 
 pub fn refused(n: u8) -> Outcome {
+    refused_at(n, 0)
+}
+
+// Refused, by 15 with this block.
+pub fn refused_at(n: u8, block: u8) -> Outcome {
     Outcome {
         refusal: n,
+        block,
         used: 0,
     }
 }
@@ -63,14 +75,23 @@ fn put_refusal(n: u8, out: &mut [u8], at: usize) -> usize {
     text::put_decimal(out, a, n as u64)
 }
 
-// The words and the bytes used, or `no N`.
+// `no N`, and `no 15 B`
+fn put_refused(o: Outcome, out: &mut [u8], at: usize) -> usize {
+    let a = put_refusal(o.refusal, out, at);
+    if o.refusal == 15 {
+        return number(out, a, 32, o.block as u16);
+    }
+    a
+}
+
+// The words and the bytes used, or why it was refused.
 pub fn put_outcome(o: Outcome, words: &[u8], lent: &[u8], out: &mut [u8], at: usize) -> usize {
     if o.refusal == 0 {
         let used = octets::least(o.used, lent.len());
         let a = text::put_bytes(out, at, words);
         return text::put_run(out, a, &lent[0..used]);
     }
-    put_refusal(o.refusal, out, at)
+    put_refused(o, out, at)
 }
 
 // The end of an answer: ` spoilt` where lent bytes were changed that should not be.

@@ -113,6 +113,8 @@ fn read_outcome(f: Read) -> Outcome {
             source: _,
             len,
         } => answers::gave(len),
-        Read::Refused(why) => answers::refused(frame::refusal_number(why)),
+        Read::Refused(why) => {
+            answers::refused_at(frame::refusal_number(why), frame::refusal_block(why))
+        }
     }
 }

@@ -14,6 +14,7 @@ pub struct LineSession {
 // Before the first call: no outstation, and a line record of zeros.
 pub fn fresh() -> LineSession {
     let addresses = link::Station { own: 0, master: 0 };
+    let blocks = [0u16; link::BLOCK_COUNTS];
     let record = link::LineRecord {
         accepted: 0,
         short: 0,
@@ -22,6 +23,7 @@ pub fn fresh() -> LineSession {
         length: 0,
         block_check: 0,
         not_taken: 0,
+        blocks,
     };
     let assembly = transport::nothing_begun();
     let sender = transport::nothing_sent();

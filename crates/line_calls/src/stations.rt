@@ -4,6 +4,7 @@ use crate::answers::Outcome;
 use crate::session;
 use crate::session::LineSession;
 use frame::FRAME_MAX;
+use link::BLOCK_COUNTS;
 use link::COUNT_MAX;
 use link::LineRecord;
 use link::Taken;
@@ -23,12 +24,43 @@ fn count_of(f: &[u8], c: text::Cursor) -> Count {
     }
 }
 
+// The counts by block.
+struct BlocksAt {
+    blocks: [u16; BLOCK_COUNTS],
+    next: text::Cursor,
+}
+
+// A count for each block.
+fn blocks_of(f: &[u8], c: text::Cursor) -> BlocksAt {
+    let mut blocks = [0u16; BLOCK_COUNTS];
+    let mut next = c;
+    let mut i = 0;
+    while i < BLOCK_COUNTS {
+        let n = count_of(f, next);
+        let after = n.next;
+        blocks[i] = n.value;
+        next = after;
+        i += 1;
+    }
+    BlocksAt { blocks, next }
+}
+
+// The same, or no more words: then each is 0.
+fn blocks_after(f: &[u8], c: text::Cursor) -> BlocksAt {
+    if text::finished(c) {
+        let blocks = [0u16; BLOCK_COUNTS];
+        let next = c;
+        return BlocksAt { blocks, next };
+    }
+    blocks_of(f, c)
+}
+
 struct RecordAt {
     record: LineRecord,
     next: text::Cursor,
 }
 
-// C,C,C,C,C,C,C
+// Seven counts, and one for each block or none of these.
 fn record_of(f: &[u8]) -> RecordAt {
     let accepted = count_of(f, text::start());
     let short = count_of(f, accepted.next);
@@ -37,7 +69,9 @@ fn record_of(f: &[u8]) -> RecordAt {
     let length = count_of(f, header_check.next);
     let block_check = count_of(f, length.next);
     let not_taken = count_of(f, block_check.next);
-    let next = not_taken.next;
+    let by_block = blocks_after(f, not_taken.next);
+    let blocks = by_block.blocks;
+    let next = by_block.next;
     let record = LineRecord {
         accepted: accepted.value,
         short: short.value,
@@ -46,11 +80,12 @@ fn record_of(f: &[u8]) -> RecordAt {
         length: length.value,
         block_check: block_check.value,
         not_taken: not_taken.value,
+        blocks,
     };
     RecordAt { record, next }
 }
 
-// record C,C,C,C,C,C,C
+// record C,…,C: 23 counts, or 7
 pub fn record(s: LineSession, w: &[u8], c: text::Cursor, out: &mut [u8], at: usize) -> LineSession {
     let p = text::word(w, c, 32);
     let from = p.from;
@@ -65,8 +100,8 @@ pub fn record(s: LineSession, w: &[u8], c: text::Cursor, out: &mut [u8], at: usi
     session::told(next, out, at, b"ok")
 }
 
-// ` rec A,B,C,D,E,F,G`
-fn put_record(l: LineRecord, out: &mut [u8], at: usize) -> usize {
+// ` rec C,…,C`, the first seven counts.
+fn put_counts(l: LineRecord, out: &mut [u8], at: usize) -> usize {
     let a = text::put_bytes(out, at, b" rec");
     let b = answers::number(out, a, 32, l.accepted);
     let c = answers::number(out, b, 44, l.short);
@@ -75,6 +110,24 @@ fn put_record(l: LineRecord, out: &mut [u8], at: usize) -> usize {
     let f = answers::number(out, e, 44, l.length);
     let g = answers::number(out, f, 44, l.block_check);
     answers::number(out, g, 44, l.not_taken)
+}
+
+// `,C` for each block.
+fn put_blocks(blocks: [u16; BLOCK_COUNTS], out: &mut [u8], at: usize) -> usize {
+    let mut to = at;
+    let mut i = 0;
+    while i < BLOCK_COUNTS {
+        to = answers::number(out, to, 44, blocks[i]);
+        i += 1;
+    }
+    to
+}
+
+// All 23.
+fn put_record(l: LineRecord, out: &mut [u8], at: usize) -> usize {
+    let a = put_counts(l, out, at);
+    let blocks = l.blocks;
+    put_blocks(blocks, out, a)
 }
 
 // station: a frame came; it is taken and counted, and the answer told.
@@ -103,7 +156,7 @@ fn taken_outcome(t: Taken) -> Outcome {
     match t {
         Taken::UserData(n) => answers::gave(n),
         Taken::Reply(_) => answers::gave(0),
-        _ => answers::refused(link::taken_number(t)),
+        _ => answers::refused_at(link::taken_number(t), link::taken_block(t)),
     }
 }
 
