@@ -422,15 +422,26 @@ static bool call_frag(const struct word *w, size_t n) {
 
 /* ---- the line */
 
+/* 23 counts; 7 are still taken, and set those of the blocks to 0. */
 static bool call_record(const struct word *w, size_t n) {
-    struct word p[7];
-    uint64_t c[7];
-    if (n != 2 || split(w[1], ',', p, 7) != 7) return false;
-    for (int i = 0; i < 7; i++)
+    enum { FIRST = 7, ALL = FIRST + POMARISCO_BLOCKS };
+    struct word p[ALL];
+    uint64_t c[ALL] = {0};
+    if (n != 2) return false;
+    const size_t counts = split(w[1], ',', p, ALL);
+    if (counts != FIRST && counts != ALL) return false;
+    for (size_t i = 0; i < counts; i++)
         if (!number(p[i], 65535, &c[i])) return false;
-    line_record = (struct pomarisco_line){(uint16_t)c[0], (uint16_t)c[1], (uint16_t)c[2], (uint16_t)c[3], (uint16_t)c[4], (uint16_t)c[5], (uint16_t)c[6]};
+    line_record = (struct pomarisco_line){.accepted = (uint16_t)c[0], .short_frame = (uint16_t)c[1], .start = (uint16_t)c[2], .header_check = (uint16_t)c[3], .length = (uint16_t)c[4], .block_check = (uint16_t)c[5], .not_taken = (uint16_t)c[6]};
+    for (size_t k = 0; k < POMARISCO_BLOCKS; k++) line_record.blocks[k] = (uint16_t)c[FIRST + k];
     fputs("ok", stdout);
     return true;
+}
+
+/* A frame's refusal; 15 with its block. Any other carries none. */
+static void put_frame_refusal(uint8_t refusal, uint8_t block) {
+    printf("no %u", refusal);
+    if (refusal == 15 || block != 0) printf(" %u", block);
 }
 
 static bool call_station(const struct word *w, size_t n) {
@@ -449,9 +460,10 @@ static bool call_station(const struct word *w, size_t n) {
         printf("reply %02X ", t.control);
         put_hex(reply, r.size);
     } else {
-        printf("no %u", t.refusal);
+        put_frame_refusal(t.refusal, t.block);
     }
     printf(" rec %u,%u,%u,%u,%u,%u,%u", l->accepted, l->short_frame, l->start, l->header_check, l->length, l->block_check, l->not_taken);
+    for (size_t k = 0; k < POMARISCO_BLOCKS; k++) printf(",%u", l->blocks[k]);
     spoilt(t.kind == 0 ? t.length : 0, len);
     return true;
 }
@@ -521,7 +533,9 @@ static bool call_frame_read(const struct word *w, size_t n) {
     if (n != 3 || !length(w[1], &len) || !hex(w[2], given, &size)) return false;
     lend(len);
     const struct pomarisco_frame f = pomarisco_frame_read(give(size), size, lent, len);
-    if (!refused(f.refusal)) {
+    if (f.refusal != 0) {
+        put_frame_refusal(f.refusal, f.block);
+    } else {
         printf("user %02X %u %u ", f.control, f.destination, f.source);
         put_hex(lent, f.length);
     }

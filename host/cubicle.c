@@ -134,6 +134,8 @@ int main(void) {
         length -= done;
         memmove(bytes, bytes + done, length);
     }
-    fprintf(stderr, "rec %u,%u,%u,%u,%u,%u,%u\n", line.accepted, line.short_frame, line.start, line.header_check, line.length, line.block_check, line.not_taken);
+    fprintf(stderr, "rec %u,%u,%u,%u,%u,%u,%u", line.accepted, line.short_frame, line.start, line.header_check, line.length, line.block_check, line.not_taken);
+    for (size_t k = 0; k < POMARISCO_BLOCKS; k++) fprintf(stderr, ",%u", line.blocks[k]);
+    fputc('\n', stderr);
     return 0;
 }

@@ -249,16 +249,19 @@ static void line_call(void) {
         const struct pomarisco_frame r = pomarisco_frame_read(bytes, n, to, lent);
         result.length = r.length;
         result.refusal = r.refusal;
-        result.more = r.control | (uint64_t)r.destination << 16 | (uint64_t)r.source << 32;
+        result.more = r.control | (uint64_t)r.block << 8 | (uint64_t)r.destination << 16 | (uint64_t)r.source << 32;
     } else if (call.kind == LINK_RECEIVE) {
         const struct pomarisco_taken r = pomarisco_link_receive(&line, station, bytes, n, to, lent);
         result.kind = r.kind;
         result.length = r.length;
         result.refusal = r.refusal;
         const uint16_t counted[] = {line.accepted, line.short_frame, line.start, line.header_check, line.length, line.block_check, line.not_taken};
-        result.more = folded(0, r.control);
+        result.more = folded(folded(0, r.control), r.block);
         for (size_t i = 0; i < LENGTH(counted); i++) {
             result.more = folded(result.more, counted[i]);
+        }
+        for (size_t k = 0; k < POMARISCO_BLOCKS; k++) {
+            result.more = folded(result.more, line.blocks[k]);
         }
     } else if (call.kind == SEGMENT) {
         const struct pomarisco_reception r = pomarisco_segment_receive(assembly, bytes, n, to, lent);
@@ -536,7 +539,7 @@ static void some_restart(int broken) {
     call.kind = RESTART;
     /* Each count of the line record. */
     const uint16_t n = (uint16_t)PICK(0, 65530);
-    line = (struct pomarisco_line){n, n, n, n, n, n, n};
+    line = (struct pomarisco_line){n, n, n, n, n, n, n, {n, n, n, n, n, n, n, n, n, n, n, n, n, n, n, n}};
     struct pomarisco_setup *s = &call.setup;
     s->arm_time = PICK(0, 1, 10, 1000, 64000);
     s->confirm_time = PICK(1, 10, 1000, 5000, 60000);
@@ -1063,8 +1066,11 @@ static void same_frame(void) {
     put_bytes(host.frame, host.frame_length);
     const uint32_t length = (uint32_t)call.length;
     if (length > 0 && chance(25)) {
-        const uint32_t place = below(length);
-        call.bytes[place] ^= (uint8_t)(1u << below(8));
+        /* One bit turned, or two: in two blocks the first decides. */
+        for (int turned = chance(20) ? 2 : 1; turned > 0; turned--) {
+            const uint32_t place = below(length);
+            call.bytes[place] ^= (uint8_t)(1u << below(8));
+        }
     }
     if (chance(8)) {
         call.length = below(length + 1);

@@ -46,7 +46,7 @@
  *   12   not 05 64                                                                   only the line record counts it
  *   13   header check wrong                                                          only the line record counts it
  *   14   length byte under 5                                                         only the line record counts it
- *   15   a block check wrong                                                         only the line record counts it
+ *   15   a block check wrong; carries the first wrong block                          only the line record counts it, also by that block
  *   16   to write: user data over 250, or a fragment of 0 or over 2,048 bytes        all as it was
  *   17   frame not one the station takes                                             only the line record counts it
  *   21   segment with no data, or over 249 bytes of it                               all as it was
@@ -72,6 +72,7 @@
 #define POMARISCO_FRAGMENT 2048    /* longest fragment; lend so much for an answer and for an assembly */
 #define POMARISCO_FRAME 292        /* longest frame; lend so much for a frame to be written */
 #define POMARISCO_USER 250         /* longest user data; lend so much for a frame read and a segment written */
+#define POMARISCO_BLOCKS 16        /* most blocks of a frame */
 #define POMARISCO_STACK 8192       /* recommended stack, bytes: twice the deepest call as measured */
 
 /* ---- the outstation's state */
@@ -213,12 +214,13 @@ struct pomarisco_wrote {           /* the frame is the first `size` lent bytes *
     uint8_t refusal;
 };
 
-struct pomarisco_frame {           /* the user data is the first `length` lent bytes */
+struct pomarisco_frame {           /* the user data is the first `length` lent bytes; block: the first wrong one, where refusal is 15, else 0 */
     size_t length;
     uint16_t destination;
     uint16_t source;
     uint8_t control;
     uint8_t refusal;
+    uint8_t block;
 };
 
 struct pomarisco_line {            /* the line record: accepted frames, then refusals 11, 12, 13, 14, 15, 17; a count stops at 65,535 */
@@ -229,13 +231,15 @@ struct pomarisco_line {            /* the line record: accepted frames, then ref
     uint16_t length;
     uint16_t block_check;
     uint16_t not_taken;
+    uint16_t blocks[POMARISCO_BLOCKS]; /* refusals 15 by the first wrong block, counted from 0; each stops at 65,535 for itself */
 };
 
-struct pomarisco_taken {           /* kind 0: user data, the first `length` lent bytes; 1: reply with `control`; 2: refused */
+struct pomarisco_taken {           /* kind 0: user data, the first `length` lent bytes; 1: reply with `control`; 2: refused, 15 with the first wrong block */
     size_t length;
     uint8_t control;
     uint8_t kind;
     uint8_t refusal;
+    uint8_t block;
 };
 
 struct pomarisco_assembly {        /* kept between segments received; all 0: nothing begun */
@@ -294,9 +298,9 @@ POMARISCO_SIZE(crobs, 136); POMARISCO_AT(crobs, items, 0); POMARISCO_AT(crobs, c
 POMARISCO_SIZE(fragment_answer, 16); POMARISCO_AT(fragment_answer, length, 0); POMARISCO_AT(fragment_answer, kind, 8); POMARISCO_AT(fragment_answer, refusal, 9);
 POMARISCO_SIZE(answer, 256); POMARISCO_AT(answer, head, 0); POMARISCO_AT(answer, operated, 104); POMARISCO_AT(answer, answer, 240);
 POMARISCO_SIZE(wrote, 16); POMARISCO_AT(wrote, size, 0); POMARISCO_AT(wrote, refusal, 8);
-POMARISCO_SIZE(frame, 16); POMARISCO_AT(frame, length, 0); POMARISCO_AT(frame, destination, 8); POMARISCO_AT(frame, source, 10); POMARISCO_AT(frame, control, 12); POMARISCO_AT(frame, refusal, 13);
-POMARISCO_SIZE(line, 14); POMARISCO_AT(line, accepted, 0); POMARISCO_AT(line, short_frame, 2); POMARISCO_AT(line, start, 4); POMARISCO_AT(line, header_check, 6); POMARISCO_AT(line, length, 8); POMARISCO_AT(line, block_check, 10); POMARISCO_AT(line, not_taken, 12);
-POMARISCO_SIZE(taken, 16); POMARISCO_AT(taken, length, 0); POMARISCO_AT(taken, control, 8); POMARISCO_AT(taken, kind, 9); POMARISCO_AT(taken, refusal, 10);
+POMARISCO_SIZE(frame, 16); POMARISCO_AT(frame, length, 0); POMARISCO_AT(frame, destination, 8); POMARISCO_AT(frame, source, 10); POMARISCO_AT(frame, control, 12); POMARISCO_AT(frame, refusal, 13); POMARISCO_AT(frame, block, 14);
+POMARISCO_SIZE(line, 46); POMARISCO_AT(line, accepted, 0); POMARISCO_AT(line, short_frame, 2); POMARISCO_AT(line, start, 4); POMARISCO_AT(line, header_check, 6); POMARISCO_AT(line, length, 8); POMARISCO_AT(line, block_check, 10); POMARISCO_AT(line, not_taken, 12); POMARISCO_AT(line, blocks, 14);
+POMARISCO_SIZE(taken, 16); POMARISCO_AT(taken, length, 0); POMARISCO_AT(taken, control, 8); POMARISCO_AT(taken, kind, 9); POMARISCO_AT(taken, refusal, 10); POMARISCO_AT(taken, block, 11);
 POMARISCO_SIZE(assembly, 16); POMARISCO_AT(assembly, length, 0); POMARISCO_AT(assembly, last, 8); POMARISCO_AT(assembly, begun, 9);
 POMARISCO_SIZE(segment, 16); POMARISCO_AT(segment, length, 0); POMARISCO_AT(segment, kind, 8); POMARISCO_AT(segment, refusal, 9);
 POMARISCO_SIZE(reception, 32); POMARISCO_AT(reception, assembly, 0); POMARISCO_AT(reception, segment, 16);
@@ -334,11 +338,13 @@ struct pomarisco_answer pomarisco_lent_fragment(struct pomarisco_head head, cons
 struct pomarisco_wrote pomarisco_frame_write(uint8_t *out, size_t out_length, uint8_t control, uint16_t destination, uint16_t source, const uint8_t *user, size_t user_length);
 
 /* Reads the frame at the front of the bytes, whoever it is for, and writes its user data; bytes after the frame are not read. Changes the
- * lent bytes only. Refusals 11 to 15, and 33 when out_length is under 250. */
+ * lent bytes only. Refusals 11 to 15, and 33 when out_length is under 250. 15 carries the first wrong block, 0 to 15: block k is user bytes
+ * 16k to 16k + 15. */
 struct pomarisco_frame pomarisco_frame_read(const uint8_t *bytes, size_t length, uint8_t *out, size_t out_length);
 
 /* Takes the frame at the front of the bytes for the station, and counts it in the line record. Writes its user data; for a reply the
- * lent bytes stay. Refusals 11 to 15, 17, and 33 when out_length is under 250 (not counted). */
+ * lent bytes stay. Refusals 11 to 15, 17, and 33 when out_length is under 250 (not counted). 15 carries the first wrong block, and is also
+ * counted by it. */
 struct pomarisco_taken pomarisco_link_receive(struct pomarisco_line *line, struct pomarisco_station station, const uint8_t *bytes, size_t length, uint8_t *out, size_t out_length);
 
 /* Writes the reply frame that link_receive asked for: control 00 and 0B hex are sent as they are, any other control as NOT_SUPPORTED, 0F hex.

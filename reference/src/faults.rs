@@ -15,11 +15,14 @@ macro_rules! faults {
 
 faults! {
     BlockCheckIgnored "block-check-ignored" "a wrong block check is not refused"
+    LastWrongBlock "last-wrong-block" "refusal 15 carries the last wrong block"
     HeaderCheckIgnored "header-check-ignored" "a wrong header check is not refused"
     LengthBeforeCheck "length-before-check" "14 is tested before 13"
     LentTestedLast "lent-tested-last" "frame reading tests 33 after 11 to 15"
     WriteLimit249 "write-limit-249" "frame writing refuses 250 user bytes"
     CountWraps "count-wraps" "a line count goes from 65,535 to 0"
+    BlockUncounted "block-uncounted" "a refusal 15 is not counted by its block"
+    BlockStopsEarly "block-stops-early" "a block's count stops when that of refusal 15 does"
     NotSupportedUncounted "not-supported-uncounted" "a frame answered NOT_SUPPORTED is not counted"
     FcvIgnored "fcv-ignored" "FCV 1 is taken"
     RefusalSpoils "refusal-spoils" "the station writes user data before it decides"

@@ -13,6 +13,26 @@ const USER_MAX: usize = 250;
 const HEADER: usize = 10;
 const BLOCK: usize = 16;
 
+/// Why a frame is refused.
+#[derive(Clone, Copy, Debug, PartialEq, Eq)]
+pub enum FrameRefusal {
+    /// By this number of 01's table.
+    By(Refusal),
+    /// By 15, which "is to carry the number of the first wrong block" (02, 110).
+    Block(usize),
+}
+
+impl FrameRefusal {
+    pub fn number(self) -> Refusal {
+        match self {
+            FrameRefusal::By(number) => number,
+            FrameRefusal::Block(_) => 15,
+        }
+    }
+}
+
+use FrameRefusal::{Block, By};
+
 #[derive(Clone, Debug, PartialEq, Eq)]
 pub struct Frame {
     pub control: u8,
@@ -27,38 +47,40 @@ pub fn size(n: usize) -> usize {
 }
 
 /// Looks a frame over, in the order 11, 12, 13, 14, 11 for its size, 15. Lent bytes play no part.
-pub fn look_over(bytes: &[u8]) -> Result<Frame, Refusal> {
+pub fn look_over(bytes: &[u8]) -> Result<Frame, FrameRefusal> {
     if bytes.len() < HEADER {
-        return Err(11);
+        return Err(By(11));
     }
     if bytes[0..2] != [0x05, 0x64] {
-        return Err(12);
+        return Err(By(12));
     }
     let length = usize::from(bytes[2]);
     if on(Fault::LengthBeforeCheck) && length < 5 {
-        return Err(14);
+        return Err(By(14));
     }
     if bytes[8..10] != check_bytes(&bytes[0..8]) && !on(Fault::HeaderCheckIgnored) {
-        return Err(13);
+        return Err(By(13));
     }
     if length < 5 {
-        return Err(14);
+        return Err(By(14));
     }
     let n = length - 5;
     if bytes.len() < size(n) {
-        return Err(11);
+        return Err(By(11));
     }
     let mut user = Vec::with_capacity(n);
+    let mut wrong = Vec::new();
     // "Bytes after the frame are not read."
-    let mut rest = &bytes[HEADER..size(n)];
-    while !rest.is_empty() {
-        let data = (rest.len() - 2).min(BLOCK);
-        let (block, check) = (&rest[..data], &rest[data..data + 2]);
-        if check != check_bytes(block) && !on(Fault::BlockCheckIgnored) {
-            return Err(15);
+    for (place, block) in bytes[HEADER..size(n)].chunks(BLOCK + 2).enumerate() {
+        let (data, check) = block.split_at(block.len() - 2);
+        if check != check_bytes(data) && !on(Fault::BlockCheckIgnored) {
+            wrong.push(place);
         }
-        user.extend_from_slice(block);
-        rest = &rest[data + 2..];
+        user.extend_from_slice(data);
+    }
+    let decides = if on(Fault::LastWrongBlock) { wrong.last() } else { wrong.first() };
+    if let Some(&place) = decides {
+        return Err(Block(place));
     }
     Ok(Frame {
         control: bytes[3],
@@ -69,14 +91,14 @@ pub fn look_over(bytes: &[u8]) -> Result<Frame, Refusal> {
 }
 
 /// Reads a frame; the user data goes to the front of the lent bytes.
-pub fn read(bytes: &[u8], lent: &mut [u8]) -> Result<Frame, Refusal> {
+pub fn read(bytes: &[u8], lent: &mut [u8]) -> Result<Frame, FrameRefusal> {
     // "Order: 1, 33, then by number", so 33 comes before the bytes are looked at.
     if lent.len() < USER_LENT && !on(Fault::LentTestedLast) {
-        return Err(33);
+        return Err(By(33));
     }
     let frame = look_over(bytes)?;
     if lent.len() < USER_LENT {
-        return Err(33);
+        return Err(By(33));
     }
     lent[..frame.user.len()].copy_from_slice(&frame.user);
     Ok(frame)
@@ -121,6 +143,21 @@ mod tests {
             let mut lent = [0xA5; FRAME_LENT];
             assert_eq!(write(0x44, 2, 1, &vec![0; n], &mut lent), Ok(bytes));
             assert!(lent[bytes..].iter().all(|&b| b == 0xA5));
+        }
+    }
+
+    #[test]
+    fn the_first_wrong_block_is_told() {
+        let mut lent = [0; FRAME_LENT];
+        let size = write(0xC4, 1, 2, &[7; 250], &mut lent).unwrap();
+        for first in 0..16 {
+            for second in first..16 {
+                let mut frame = lent;
+                for block in [first, second] {
+                    frame[HEADER + (BLOCK + 2) * block] = 0;
+                }
+                assert_eq!(look_over(&frame[..size]), Err(Block(first)));
+            }
         }
     }
 

@@ -20,7 +20,7 @@ use crate::application::Outcome;
 use crate::control::Control;
 use crate::crc::check_bytes;
 use crate::events::Event;
-use crate::frame;
+use crate::frame::{self, FrameRefusal};
 use crate::link::{self, Heard, LineRecord};
 use crate::outstation::{Outstation, Setup};
 use crate::points::{Form, Gate, Reading, Taken, Value};
@@ -139,7 +139,7 @@ impl Host {
                         );
                         put_hex(&lent[..size], out);
                     }
-                    Err(refusal) => no(refusal, out),
+                    Err(refusal) => no_frame(refusal, out),
                 }
                 spoilt(&lent[size..], out);
             }
@@ -217,11 +217,11 @@ impl Host {
                         out.extend_from_slice(format!("reply {control:02X} ").as_bytes());
                         put_hex(&reply[..written], out);
                     }
-                    Err(refusal) => no(refusal, out),
+                    Err(refusal) => no_frame(refusal, out),
                 }
                 out.extend_from_slice(b" rec ");
-                let counts: Vec<String> =
-                    self.record.counts.iter().map(|count| count.to_string()).collect();
+                let counts = self.record.counts.iter().chain(&self.record.blocks);
+                let counts: Vec<String> = counts.map(|count| count.to_string()).collect();
                 out.extend_from_slice(counts.join(",").as_bytes());
                 spoilt(&lent[size..], out);
             }
@@ -291,6 +291,14 @@ fn no(refusal: Refusal, out: &mut Vec<u8>) {
     out.extend_from_slice(format!("no {refusal}").as_bytes());
 }
 
+/// A frame's refusal: `no 15 B` where it carries a block.
+fn no_frame(refusal: FrameRefusal, out: &mut Vec<u8>) {
+    no(refusal.number(), out);
+    if let FrameRefusal::Block(block) = refusal {
+        out.extend_from_slice(format!(" {block}").as_bytes());
+    }
+}
+
 pub fn put_hex(bytes: &[u8], out: &mut Vec<u8>) {
     const DIGITS: &[u8; 16] = b"0123456789ABCDEF";
     if bytes.is_empty() {
@@ -353,7 +361,7 @@ pub fn parse(line: &[u8]) -> Option<Call> {
         (b"record", [counts]) => {
             let counts: Option<Vec<u16>> =
                 commas(counts).into_iter().map(|word| Some(number(word, 65_535)? as u16)).collect();
-            Some(Call::Record(LineRecord { counts: counts?.try_into().ok()? }))
+            Some(Call::Record(line_record(&counts?)?))
         }
         (b"seg", [len, bytes]) => Some(Call::Seg(lent_length(len)?, hex(bytes)?)),
         (b"send", [len, bytes]) => Some(Call::Send(lent_length(len)?, hex(bytes)?)),
@@ -439,6 +447,13 @@ fn gate_words<L>(gate: &[u8], limit: &[u8], read: impl Fn(&[u8]) -> Option<L>) -
 }
 
 /// `b,T,I,V,F`, `a,T,I,V,F` or `f,T,I,F32,F`.
+/// The record of 23 counts; "7 are still taken and set the blocks' counts to 0".
+fn line_record(counts: &[u16]) -> Option<LineRecord> {
+    let (counts, blocks) = counts.split_at_checked(7)?;
+    let blocks = if blocks.is_empty() { [0; 16] } else { blocks.try_into().ok()? };
+    Some(LineRecord { counts: counts.try_into().ok()?, blocks })
+}
+
 fn record_word(word: &[u8]) -> Option<Reading> {
     let [letter, time, index, value, flags] = commas(word)[..] else {
         return None;

@@ -12,6 +12,7 @@ pub const EVENTS: usize = 256;
 pub const CONTROLS: usize = 8;
 pub const FRAGMENT: usize = 2048;
 pub const FRAME: usize = 292;
+pub const BLOCKS: usize = 16;
 pub const USER: usize = 250;
 
 // Lent words and bytes of an outstation.
@@ -174,8 +175,9 @@ structs! {
         source: u16 = 10,
         control: u8 = 12,
         refusal: u8 = 13,
+        block: u8 = 14,
     }
-    Line "line" 14 {
+    Line "line" 46 {
         accepted: u16 = 0,
         short_frame: u16 = 2,
         start: u16 = 4,
@@ -183,8 +185,15 @@ structs! {
         length: u16 = 8,
         block_check: u16 = 10,
         not_taken: u16 = 12,
+        blocks: [u16; BLOCKS] = 14,
     }
-    Taken "taken" 16 { length: usize = 0, control: u8 = 8, kind: u8 = 9, refusal: u8 = 10 }
+    Taken "taken" 16 {
+        length: usize = 0,
+        control: u8 = 8,
+        kind: u8 = 9,
+        refusal: u8 = 10,
+        block: u8 = 11,
+    }
     Assembly "assembly" 16 { length: usize = 0, last: u8 = 8, begun: u8 = 9 }
     Segment "segment" 16 { length: usize = 0, kind: u8 = 8, refusal: u8 = 9 }
     Reception "reception" 32 { assembly: Assembly = 0, segment: Segment = 16 }

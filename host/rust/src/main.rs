@@ -227,6 +227,16 @@ fn lengths(pair: &mut Pair, call: &str) -> Result<(), String> {
                 let size = size.map_err(|refusal| format!("refusal {refusal}"))?;
                 frame.resize(size, 0);
                 frame.push(0);
+                // Each block wrong in turn, alone and with every later one.
+                for first in 0..n.div_ceil(16) {
+                    for second in first..n.div_ceil(16) {
+                        let mut wrong = frame.clone();
+                        wrong[10 + 18 * first] ^= 1;
+                        wrong[10 + 18 * second] ^= 2;
+                        let (len, again) = (header::USER, wrong.clone());
+                        calls(pair, [Call::FrameRead(len, wrong), Call::Station(len, again)])?;
+                    }
+                }
                 for cut in [0, 1, 2, 9, 10, 11, size - 1, size, size + 1] {
                     for len in both_sides(header::USER) {
                         let bytes = frame[..cut.min(frame.len())].to_vec();

@@ -17,6 +17,7 @@ use reference::transport::{Assembled, Unfinished};
 use crate::header;
 use crate::meaning;
 use crate::memory::Memory;
+use crate::run::block;
 use crate::state::{self, equal, gate_parts};
 
 /// What was reached, and how often.
@@ -435,12 +436,12 @@ impl Pair {
         same_bytes(&input, bytes, 0)?;
         lent.compare()?;
         let expected = match expected {
-            Ok(frame) => (frame.user.len(), frame.destination, frame.source, frame.control, 0),
-            Err(refusal) => (0, 0, 0, 0, refusal),
+            Ok(frame) => (frame.user.len(), frame.destination, frame.source, frame.control, 0, 0),
+            Err(refusal) => (0, 0, 0, 0, refusal.number(), block(refusal)),
         };
         equal(
-            "length, destination, source, control, refusal",
-            (read.length, read.destination, read.source, read.control, read.refusal),
+            "length, destination, source, control, refusal, block",
+            (read.length, read.destination, read.source, read.control, read.refusal, read.block),
             expected,
         )
     }
@@ -456,19 +457,19 @@ impl Pair {
         same_bytes(&input, bytes, 0)?;
         lent.compare()?;
         equal("line record", counts(&self.line), self.record.counts)?;
-        let given = (taken.kind, taken.length, taken.control, taken.refusal);
+        equal("line record's blocks", self.line.blocks, self.record.blocks)?;
+        let what = "kind, length, control, refusal, block";
+        let given = (taken.kind, taken.length, taken.control, taken.refusal, taken.block);
         match expected {
-            Ok(Heard::UserData(length)) => {
-                equal("kind, length, control, refusal", given, (0, length, 0, 0))
-            }
+            Ok(Heard::UserData(length)) => equal(what, given, (0, length, 0, 0, 0)),
             Ok(Heard::Reply(control)) => {
                 self.seen.note("reply", true);
-                equal("kind, length, control, refusal", given, (1, 0, control, 0))?;
+                equal(what, given, (1, 0, control, 0, 0))?;
                 let mut lent = Lent::new(header::FRAME, &mut self.random);
                 let wrote = header::link_reply(lent.library(), station, control);
                 self.same_wrote(wrote, control, master, own, &[], &mut lent)
             }
-            Err(refusal) => equal("kind, length, control, refusal", given, (2, 0, 0, refusal)),
+            Err(refusal) => equal(what, given, (2, 0, 0, refusal.number(), block(refusal))),
         }
     }
 
@@ -577,7 +578,17 @@ fn same_operated(library: &header::Crobs, second: &[Control]) -> Result<(), Stri
 fn line_image(record: &LineRecord) -> header::Line {
     let [accepted, short_frame, start, header_check, length, block_check, not_taken] =
         record.counts;
-    header::Line { accepted, short_frame, start, header_check, length, block_check, not_taken }
+    let blocks = record.blocks;
+    header::Line {
+        accepted,
+        short_frame,
+        start,
+        header_check,
+        length,
+        block_check,
+        not_taken,
+        blocks,
+    }
 }
 
 fn counts(line: &header::Line) -> [u16; 7] {

@@ -1,7 +1,7 @@
 //! The long run of `stress.rs`: both sides beside each other, or the second program alone.
 
 use reference::application::Outcome;
-use reference::frame;
+use reference::frame::{self, FrameRefusal};
 use reference::link::{self, Heard, LineRecord};
 use reference::outstation;
 use reference::points::{self, Form, Gate, Taken};
@@ -131,10 +131,15 @@ fn line(call: &Call, setup: &outstation::Setup, out: &mut [u8], result: &mut Ans
     let wrote = match call.kind {
         Kind::FrameRead => {
             let read = frame::read(&call.fragment, out);
-            result.refusal = read.as_ref().err().copied().unwrap_or(0);
-            if let Ok(frame) = read {
-                result.length = frame.user.len();
-                result.more = frame_sum(frame.control, frame.destination, frame.source);
+            match read {
+                Ok(frame) => {
+                    result.length = frame.user.len();
+                    result.more = frame_sum(frame.control, 0, frame.destination, frame.source);
+                }
+                Err(refusal) => {
+                    result.refusal = refusal.number();
+                    result.more = frame_sum(0, block(refusal), 0, 0);
+                }
             }
             return;
         }
@@ -147,14 +152,24 @@ fn line(call: &Call, setup: &outstation::Setup, out: &mut [u8], result: &mut Ans
 
 // ---- the other numbers of an answer
 
-fn frame_sum(control: u8, destination: u16, source: u16) -> u64 {
-    u64::from(control) | u64::from(destination) << 16 | u64::from(source) << 32
+fn frame_sum(control: u8, block: u8, destination: u16, source: u16) -> u64 {
+    let head = u64::from(control) | u64::from(block) << 8;
+    head | u64::from(destination) << 16 | u64::from(source) << 32
 }
 
-fn link_sum(control: u8, counts: [u16; 7]) -> u64 {
+/// The block that refusal 15 carries; 0 for the others.
+pub fn block(refusal: FrameRefusal) -> u8 {
+    match refusal {
+        FrameRefusal::By(_) => 0,
+        FrameRefusal::Block(block) => block as u8,
+    }
+}
+
+fn link_sum(control: u8, block: u8, counts: [u16; 7], blocks: [u16; BLOCKS]) -> u64 {
     let mut sum = Sum(0);
     sum.fold(u64::from(control));
-    counts.iter().for_each(|&count| sum.fold(u64::from(count)));
+    sum.fold(u64::from(block));
+    counts.iter().chain(&blocks).for_each(|&count| sum.fold(u64::from(count)));
     sum.0
 }
 
@@ -172,7 +187,7 @@ impl Second {
     fn call(&mut self, call: &Call) -> Answered {
         let mut result = Answered::zero();
         if let Some(count) = call.record {
-            self.record.counts = [count; 7];
+            self.record = LineRecord { counts: [count; 7], blocks: [count; BLOCKS] };
         }
         if call.again {
             self.outstation.as_mut().expect("made before").restart();
@@ -200,13 +215,16 @@ impl Second {
             Kind::LinkReceive => {
                 let (own, master) = (outstation.setup.own, outstation.setup.master);
                 let heard = link::station(own, master, &mut self.record, &call.fragment, out);
-                let mut control = 0;
+                let (mut control, mut wrong) = (0, 0);
                 match heard {
                     Ok(Heard::UserData(length)) => result.length = length,
                     Ok(Heard::Reply(reply)) => (result.kind, control) = (1, reply),
-                    Err(refusal) => (result.kind, result.refusal) = (2, refusal),
+                    Err(refusal) => {
+                        (result.kind, result.refusal) = (2, refusal.number());
+                        wrong = block(refusal);
+                    }
                 }
-                result.more = link_sum(control, self.record.counts);
+                result.more = link_sum(control, wrong, self.record.counts, self.record.blocks);
             }
             Kind::Segment => {
                 match outstation.transport.hear(&call.fragment, out) {
@@ -257,6 +275,7 @@ fn line_of(count: u16) -> Line {
         length: count,
         block_check: count,
         not_taken: count,
+        blocks: [count; BLOCKS],
     }
 }
 
@@ -312,7 +331,7 @@ impl Library {
             Kind::FrameRead => {
                 let read = frame_read(bytes, out);
                 (result.length, result.refusal) = (read.length, read.refusal);
-                result.more = frame_sum(read.control, read.destination, read.source);
+                result.more = frame_sum(read.control, read.block, read.destination, read.source);
             }
             Kind::LinkReceive => {
                 let taken = link_receive(&mut self.line, self.station, bytes, out);
@@ -328,7 +347,7 @@ impl Library {
                     line.block_check,
                     line.not_taken,
                 ];
-                result.more = link_sum(taken.control, counts);
+                result.more = link_sum(taken.control, taken.block, counts, line.blocks);
             }
             Kind::Segment => {
                 let reception = segment_receive(self.assembly, bytes, out);

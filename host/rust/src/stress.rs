@@ -1069,8 +1069,11 @@ impl Generator {
         call.fragment.extend_from_slice(&self.frame);
         let length = call.fragment.len() as u32;
         if length > 0 && self.source.chance(25) {
-            let place = self.source.below(length) as usize;
-            call.fragment[place] ^= 1 << self.source.below(8);
+            // One bit turned, or two: in two blocks the first decides.
+            for _ in 0..1 + u32::from(self.source.chance(20)) {
+                let place = self.source.below(length) as usize;
+                call.fragment[place] ^= 1 << self.source.below(8);
+            }
         }
         if self.source.chance(8) {
             let place = self.source.below(length + 1) as usize;

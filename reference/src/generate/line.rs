@@ -38,7 +38,7 @@ impl Generator {
     }
 
     pub fn damaged(&mut self, mut frame: Vec<u8>) -> Vec<u8> {
-        match self.random.below(12) {
+        match self.random.below(14) {
             0..=3 => {
                 let bit = self.random.below(8 * frame.len());
                 frame[bit / 8] ^= 1 << (bit % 8);
@@ -69,6 +69,13 @@ impl Generator {
             10 => {
                 let n = self.random.below(14);
                 frame = self.random.bytes(n);
+            }
+            11 | 12 if frame.len() > 10 => {
+                // One to three blocks wrong, by one bit each.
+                for _ in 0..self.random.between(1, 3) {
+                    let bit = 80 + self.random.below(8 * (frame.len() - 10));
+                    frame[bit / 8] ^= 1 << (bit % 8);
+                }
             }
             _ => {
                 // Another byte in the header, under a right check.
@@ -111,7 +118,13 @@ impl Generator {
     }
 
     pub fn record_step(&mut self) {
-        let counts: Vec<String> = (0..7)
+        // 23 counts, or the first 7; any other number is a fault.
+        let n = match self.random.below(20) {
+            0 => self.random.between(1, 30),
+            1..=4 => 7,
+            _ => 23,
+        };
+        let counts: Vec<String> = (0..n)
             .map(|_| match self.random.below(4) {
                 0 => 65_535.to_string(),
                 1 => 65_534.to_string(),

@@ -6,8 +6,8 @@
 //! own calls. Counts of the answers are kept with the script.
 //!
 //! The reference runs along, so that the script knows the state. It aims at these deep states:
-//! - frames right but for one flipped bit anywhere, one cut or lengthened, a changed length byte
-//!   with a right header check, line counts next to 65,535;
+//! - frames right but for one flipped bit anywhere or one in each of some blocks, one cut or
+//!   lengthened, a changed length byte with a right header check, line counts next to 65,535;
 //! - assemblies that end at 2,047, 2,048 and 2,049 bytes, segments one out of sequence and 16 out;
 //! - distances and sums at a limit and next to it, whole and float extremes, both zeros;
 //! - 256 held events and drops, then READ and CONFIRM, with drops before and after the READ, with
