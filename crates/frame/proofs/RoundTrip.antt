@@ -9,13 +9,14 @@ use lib.Dec.{ltb, eqb}
 use borrow.Author.Tests.{le-ltb, ltb-false, eq-eqb, eqb-true, not-false}
 use lib.ListN.{length, getD, take, drop, length-append, length-take, length-drop, take-append-drop, drop-of-length-le}
 use lib.Seq.{length-take-le, take-take, take-all, take-at, drop-at, take-add, drop-append-seam}
+use Rattle.laws.proofs.Tests.{passed-no}
 use Rattle.octets.specs.Bytes.{splice, le, value, valueAt, AreBytes}
 use Rattle.octets.proofs.Splice.{drop-splice, stored-splice}
 use Rattle.octets.proofs.Le.{length-le, value-le, le-value, take-bytes, drop-bytes}
 use Rattle.crc.specs.Check.{checkOf}
 use Rattle.laws.specs.Limits.{userMax, frameMax}
-use Rattle.laws.specs.Outcome.{Outcome, accepted, refused}
-use Rattle.frame.specs.FrameOutcome.{Refusal, by, wrongBlock, FrameOutcome}
+use Rattle.laws.specs.Outcome.{accepted, refused}
+use Rattle.frame.specs.FrameOutcome.{Refusal, wrongBlock, FrameOutcome, refusedBy}
 use Rattle.frame.specs.FrameOutcome as R
 use Rattle.frame.specs.declared.Read.{Read}
 use Rattle.frame.specs.declared.Read.the-variants.{Frame, Refused}
@@ -239,10 +240,8 @@ encode-read n s bytes whole e0 e1 h en ok oks =
     let sum : 10 + (frameSize n - 10) ≡ frameSize n = omega arith in
     rw (u, hd, bl) (sym (take-add 10 (frameSize n - 10) s) ∙ ap (λ (k : ℕ). take k s) sum)
 
--- what was accepted passed this test, which refuses where it is true
-passed-no : (t : Bool) (why : Refusal) (o : FrameOutcome Parts) (f : Parts) → cond t (R.refused why) o ≡ R.accepted f → (t ≡ false) × (o ≡ R.accepted f)
-passed-no true why o f e = (cc, cc)
-passed-no false why o f e = (refl, e)
+not-accepted : (why : Refusal) (f : Parts) → R.refused why ≡ R.accepted f → ⊥
+not-accepted why f e = let z : _≡_ {A = ℕ} 0 1 = cc in omega arith
 
 -- what was accepted passed every test
 record Passed (room : ℕ) (s : List ℕ) (f : Parts) : Type 0 where
@@ -258,14 +257,14 @@ passed : (room : ℕ) (s : List ℕ) (f : Parts) → decode room s ≡ R.accepte
 unfolding decode decodeBody
 passed room s f e =
     let n : ℕ = getD s 2 0 - 5 in
-    let a1 = passed-no (ltb room userMax) (by 33) _ f e in
-    let a2 = passed-no (ltb (length s) 10) (by 11) _ f (a1 .1) in
-    let a3 = passed-no (not (eqb (getD s 0 0) 5)) (by 12) _ f (a2 .1) in
-    let a4 = passed-no (not (eqb (getD s 1 0) 100)) (by 12) _ f (a3 .1) in
-    let a5 = passed-no (not (crcOk (take 10 s))) (by 13) _ f (a4 .1) in
-    let a6 = passed-no (ltb (getD s 2 0) 5) (by 14) _ f (a5 .1) in
-    let a7 = passed-no (ltb (length s) (frameSize n)) (by 11) _ f (a6 .1) in
-    let a8 = passed-no (ltb (firstWrongOf n s) (blockCount n)) (wrongBlock (firstWrongOf n s)) _ f (a7 .1) in
+    let a1 = passed-no (ltb room userMax) (refusedBy 33) _ _ (not-accepted _ f) e in
+    let a2 = passed-no (ltb (length s) 10) (refusedBy 11) _ _ (not-accepted _ f) (a1 .1) in
+    let a3 = passed-no (not (eqb (getD s 0 0) 5)) (refusedBy 12) _ _ (not-accepted _ f) (a2 .1) in
+    let a4 = passed-no (not (eqb (getD s 1 0) 100)) (refusedBy 12) _ _ (not-accepted _ f) (a3 .1) in
+    let a5 = passed-no (not (crcOk (take 10 s))) (refusedBy 13) _ _ (not-accepted _ f) (a4 .1) in
+    let a6 = passed-no (ltb (getD s 2 0) 5) (refusedBy 14) _ _ (not-accepted _ f) (a5 .1) in
+    let a7 = passed-no (ltb (length s) (frameSize n)) (refusedBy 11) _ _ (not-accepted _ f) (a6 .1) in
+    let a8 = passed-no (ltb (firstWrongOf n s) (blockCount n)) (R.refused (wrongBlock (firstWrongOf n s))) _ _ (not-accepted _ f) (a7 .1) in
     record {
       lent = ltb-false _ _ (a1 .0);
       start = (eqb-true _ _ (not-false _ (a3 .0)), eqb-true _ _ (not-false _ (a4 .0)));

@@ -1,22 +1,23 @@
--- The block that refusal 15 carries is wrong, and no earlier one is.
+-- The block that refusal 15 carries is wrong, and no earlier one is; and such a block is carried.
 -- Assumes nothing.
 use mathlib.Core.Path.{_≡_, refl, sym, ap, _∙_, subst}
 use mathlib.Core.Bool.{Bool, true, false, cond, not}
-use Prim.Native.Nat.{ℕ, zero, suc, _+_, _-_, _*_, _≤_, _<_}
+use Prim.Native.Nat.{ℕ, zero, suc, _+_, _*_, _<_}
 use native.Mathlib.Omega.{arith}
 use mathlib.Core.List.{List}
 use lib.Dec.{ltb, eqb}
-use borrow.Author.Tests.{ltb-true}
+use borrow.Author.Tests.{ltb-true, ltb-false, le-ltb, lt-ltb, eq-eqb}
 use lib.ListN.{length, getD, take, drop}
 use lib.Seq.{drop-drop}
 use Rattle.laws.specs.Limits.{userMax}
-use Rattle.octets.specs.Bytes.{AreBytes}
+use Rattle.laws.proofs.Tests.{passed-no}
 use Rattle.frame.specs.FrameOutcome.{Refusal, wrongBlock, FrameOutcome, accepted, refused, refusedBy}
 use Rattle.frame.specs.declared.Read.{Read}
-use Rattle.frame.specs.declared.Read.the-variants.{Refused}
+use Rattle.frame.specs.declared.Read.the-variants.{Frame, Refused}
 use Rattle.frame.specs.declared.FrameRefusal.the-variants.{BlockCheck}
+use Rattle.frame.specs.declared.FrameRefusal.the-variants as F
 use Rattle.frame.specs.Frame.{Parts, crcOk, firstWrong, firstWrongOf, blockCount, frameSize, bodyOf, decodeBody, decode, fieldsOf, readOf}
-use Rattle.frame.specs.WrongBlock.{userCount, blockAt, WrongBlockIsFirst}
+use Rattle.frame.specs.WrongBlock.{userCount, blockAt, FirstWrong, CarriedIsFirst, FirstIsCarried}
 
 -- ---- of some blocks
 
@@ -49,10 +50,8 @@ right-before (suc k) b j h = go (crcOk (take 18 b)) (firstWrong k (drop 18 b)) j
 
 -- ---- of a frame
 
--- a test that refuses with another number was passed
-passed-no : (t : Bool) (m k : ℕ) (o : FrameOutcome Parts) → cond t (refusedBy m) o ≡ refused (wrongBlock k) → o ≡ refused (wrongBlock k)
-passed-no true m k o e = cc
-passed-no false m k o e = e
+not-by : (m k : ℕ) → _≡_ {A = FrameOutcome Parts} (refusedBy m) (refused (wrongBlock k)) → ⊥
+not-by m k e = let z : _≡_ {A = ℕ} 0 1 = cc in omega arith
 
 -- the test of the blocks was not, and its number is carried
 stopped : (w c k : ℕ) (f : Parts) → cond (ltb w c) (refused (wrongBlock w)) (accepted f) ≡ refused (wrongBlock k) → (w ≡ k) × (w < c)
@@ -66,28 +65,78 @@ wrong-block : (room : ℕ) (s : List ℕ) (k : ℕ) → decode room s ≡ refuse
 unfolding decode decodeBody
 wrong-block room s k e =
     let n : ℕ = userCount s in
-    let a1 = passed-no (ltb room userMax) 33 k _ e in
-    let a2 = passed-no (ltb (length s) 10) 11 k _ a1 in
-    let a3 = passed-no (not (eqb (getD s 0 0) 5)) 12 k _ a2 in
-    let a4 = passed-no (not (eqb (getD s 1 0) 100)) 12 k _ a3 in
-    let a5 = passed-no (not (crcOk (take 10 s))) 13 k _ a4 in
-    let a6 = passed-no (ltb (getD s 2 0) 5) 14 k _ a5 in
-    let a7 = passed-no (ltb (length s) (frameSize n)) 11 k _ a6 in
-    stopped (firstWrongOf n s) (blockCount n) k _ a7
+    let a1 = passed-no (ltb room userMax) (refusedBy 33) _ _ (not-by 33 k) e in
+    let a2 = passed-no (ltb (length s) 10) (refusedBy 11) _ _ (not-by 11 k) (a1 .1) in
+    let a3 = passed-no (not (eqb (getD s 0 0) 5)) (refusedBy 12) _ _ (not-by 12 k) (a2 .1) in
+    let a4 = passed-no (not (eqb (getD s 1 0) 100)) (refusedBy 12) _ _ (not-by 12 k) (a3 .1) in
+    let a5 = passed-no (not (crcOk (take 10 s))) (refusedBy 13) _ _ (not-by 13 k) (a4 .1) in
+    let a6 = passed-no (ltb (getD s 2 0) 5) (refusedBy 14) _ _ (not-by 14 k) (a5 .1) in
+    let a7 = passed-no (ltb (length s) (frameSize n)) (refusedBy 11) _ _ (not-by 11 k) (a6 .1) in
+    stopped (firstWrongOf n s) (blockCount n) k _ (a7 .1)
 
 no-fields : (o : FrameOutcome Parts) (why : Refusal) → refused why ≡ fieldsOf o → o ≡ refused why
 no-fields (accepted f) why e = cc
 no-fields (refused w) why e = cc
 
-pub wrong-block-is-first : WrongBlockIsFirst
-unfolding WrongBlockIsFirst
-wrong-block-is-first r s out user k bytes got is =
+pub carried-is-first : CarriedIsFirst
+unfolding CarriedIsFirst
+carried-is-first r s out user k bytes got is =
     let n : ℕ = userCount s in
     let p = wrong-block (length out) s k (no-fields _ (wrongBlock k) (ap readOf (sym is) ∙ got .answer)) in
     let b : getD s 2 0 < 256 = bytes 2 in
     let l : k < blockCount n = subst (λ (w : ℕ). w < blockCount n) (p .0) (p .1) in (
-      l,
+      record {
+        there = l;
+        wrong = subst (λ (w : ℕ). crcOk (blockAt w s) ≡ false) (p .0) (wrong-is (blockCount n) (bodyOf n s) (p .1));
+        before = λ j h. right-before (blockCount n) (bodyOf n s) j (subst (λ (w : ℕ). j < w) (sym (p .0)) h);
+      },
       omega arith,
-      subst (λ (w : ℕ). crcOk (blockAt w s) ≡ false) (p .0) (wrong-is (blockCount n) (bodyOf n s) (p .1)),
-      λ j h. right-before (blockCount n) (bodyOf n s) j (subst (λ (w : ℕ). j < w) (sym (p .0)) h),
     )
+
+-- ---- and back
+
+both-ways : (t : Bool) → t ≡ true → t ≡ false → ⊥
+both-ways true e h = let z : _≡_ {A = ℕ} 0 1 = ap (λ (x : Bool). cond x 0 1) h in omega arith
+both-ways false e h = let z : _≡_ {A = ℕ} 1 0 = ap (λ (x : Bool). cond x 0 1) e in omega arith
+
+-- there is only one first wrong block
+only-first : (k : ℕ) (s : List ℕ) → FirstWrong k s → firstWrongOf (userCount s) s ≡ k
+only-first k s h = go (ltb (firstWrongOf (userCount s) s) k) (ltb k (firstWrongOf (userCount s) s)) refl refl
+  where
+    go : (a b : Bool) → ltb (firstWrongOf (userCount s) s) k ≡ a → ltb k (firstWrongOf (userCount s) s) ≡ b → firstWrongOf (userCount s) s ≡ k
+    go true b e f =
+        let l = ltb-true _ _ e in
+        absurd (both-ways _ (h .before (firstWrongOf (userCount s) s) l) (wrong-is (blockCount (userCount s)) (bodyOf (userCount s) s) (omega (arith, l, h .there))))
+    go false true e f = absurd (both-ways _ (right-before (blockCount (userCount s)) (bodyOf (userCount s) s) k (ltb-true _ _ f)) (h .wrong))
+    go false false e f =
+        let l = ltb-false (firstWrongOf (userCount s) s) k e in
+        let m = ltb-false k (firstWrongOf (userCount s) s) f in
+        omega (arith, l, m)
+
+the-answer : (r : Read) (k : ℕ) → readOf r ≡ refused (wrongBlock k) → r ≡ Refused (BlockCheck k)
+the-answer (Frame c d a n) k e = cc
+the-answer (Refused F.TooShort) k e = cc
+the-answer (Refused F.Start) k e = cc
+the-answer (Refused F.HeaderCheck) k e = cc
+the-answer (Refused F.Length) k e = cc
+the-answer (Refused (F.BlockCheck b)) k e = cc
+the-answer (Refused F.OutputTooSmall) k e = cc
+
+pub first-is-carried : FirstIsCarried
+unfolding FirstIsCarried decode decodeBody
+first-is-carried r s out user k right h got =
+    let n : ℕ = userCount s in
+    let w : firstWrongOf n s ≡ k = only-first k s h in
+    let d : decode (length out) s ≡ refused (wrongBlock k) =
+    rw (
+      le-ltb (length out) userMax (right .lent),
+      le-ltb (length s) 10 (omega (arith, right .whole)),
+      eq-eqb _ _ (right .start .0),
+      eq-eqb _ _ (right .start .1),
+      right .header,
+      le-ltb (getD s 2 0) 5 (right .long),
+      le-ltb (length s) (frameSize n) (right .whole),
+      w,
+      lt-ltb k (blockCount n) (h .there),
+    ) in
+    the-answer r k (got .answer ∙ ap fieldsOf d)

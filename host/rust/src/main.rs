@@ -543,6 +543,8 @@ fn all(cases: &[Case]) -> ExitCode {
         .map(|refusal| format!("{refusal}: {}", seen.refusals.get(refusal).unwrap_or(&0)))
         .collect();
     println!("refusals reached  {}", counts.join(", "));
+    let blocks: Vec<String> = seen.blocks.iter().map(|count| count.to_string()).collect();
+    println!("first wrong blocks reached, from 0  {}", blocks.join(", "));
     for (what, count) in &seen.events {
         println!("reached {count:8}  {what}");
     }
@@ -551,6 +553,7 @@ fn all(cases: &[Case]) -> ExitCode {
     let unreached = seen.events.is_empty() || seen.events.values().any(|&count| count == 0);
     for (what, wrong) in [
         ("each refusal reached, and no other", missing || strange),
+        ("each block reached as the first wrong one", seen.blocks.contains(&0)),
         ("each of these reached", unreached),
     ] {
         if wrong {

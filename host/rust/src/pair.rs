@@ -24,6 +24,8 @@ use crate::state::{self, equal, gate_parts};
 #[derive(Default)]
 pub struct Seen {
     pub refusals: BTreeMap<u8, u64>,
+    /// Refusals 15 by their block.
+    pub blocks: [u64; header::BLOCKS],
     pub events: BTreeMap<&'static str, u64>,
 }
 
@@ -34,6 +36,16 @@ impl Seen {
         }
     }
 
+    /// The refusal of a frame, and the block that it carries.
+    pub fn frame_refusal(&mut self, refusal: u8, block: u8) {
+        self.refusal(refusal);
+        if refusal == 15 {
+            if let Some(count) = self.blocks.get_mut(usize::from(block)) {
+                *count += 1;
+            }
+        }
+    }
+
     pub fn note(&mut self, what: &'static str, happened: bool) {
         *self.events.entry(what).or_insert(0) += u64::from(happened);
     }
@@ -41,6 +53,9 @@ impl Seen {
     pub fn add(&mut self, other: &Seen) {
         for (&refusal, count) in &other.refusals {
             *self.refusals.entry(refusal).or_insert(0) += count;
+        }
+        for (sum, count) in self.blocks.iter_mut().zip(&other.blocks) {
+            *sum += count;
         }
         for (&what, count) in &other.events {
             *self.events.entry(what).or_insert(0) += count;
@@ -432,7 +447,7 @@ impl Pair {
         let mut lent = Lent::new(len, &mut self.random);
         let read = header::frame_read(&input, lent.library());
         let expected = frame::read(bytes, lent.second());
-        self.seen.refusal(read.refusal);
+        self.seen.frame_refusal(read.refusal, read.block);
         same_bytes(&input, bytes, 0)?;
         lent.compare()?;
         let expected = match expected {
@@ -453,7 +468,7 @@ impl Pair {
         let station = header::Station { own, master };
         let taken = header::link_receive(&mut self.line, station, &input, lent.library());
         let expected = link::station(own, master, &mut self.record, bytes, lent.second());
-        self.seen.refusal(taken.refusal);
+        self.seen.frame_refusal(taken.refusal, taken.block);
         same_bytes(&input, bytes, 0)?;
         lent.compare()?;
         equal("line record", counts(&self.line), self.record.counts)?;
