@@ -7,7 +7,7 @@ use mathlib.Core.List.{List, [], _++_}
 use lib.ListN.{length, take, drop, length-append, length-take, length-drop}
 use borrow.Author.Tests.{lt-ltb, le-ltb}
 use lib.Seq.{length-take-le, drop-drop, take-take}
-use mathlib.Core.Bool.{true, false, cond}
+use mathlib.Core.Bool.{Bool, true, false, cond}
 use Rattle.laws.proofs.Parts.{part-is, part-length}
 use Rattle.octets.specs.Bytes.{splice, le}
 use Rattle.octets.proofs.Splice.{splice-append}
@@ -172,6 +172,11 @@ decode-lent room s h = rw (lt-ltb room userMax h)
 pub decode-room : (room : ℕ) (s : List ℕ) → userMax ≤ room → decode room s ≡ decode userMax s
 unfolding decode
 decode-room room s h = rw (le-ltb room userMax h)
+
+-- something else was given than what this test gives where it is true: the test was passed
+pub passed-by : (t : Bool) (x o y : FrameOutcome Parts) → (x ≡ y → ⊥) → cond t x o ≡ y → (t ≡ false) × (o ≡ y)
+passed-by true x o y h e = absurd (h e)
+passed-by false x o y h e = (refl, e)
 
 -- the contract from the outcome
 pub read-by : (r : Read) (s d d′ : List ℕ) (o : FrameOutcome Parts) → decode (length d) s ≡ o → readOf r ≡ fieldsOf o → d′ ≡ lentAfterRead d o

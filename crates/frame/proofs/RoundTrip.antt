@@ -9,7 +9,6 @@ use lib.Dec.{ltb, eqb}
 use borrow.Author.Tests.{le-ltb, ltb-false, eq-eqb, eqb-true, not-false}
 use lib.ListN.{length, getD, take, drop, length-append, length-take, length-drop, take-append-drop, drop-of-length-le}
 use lib.Seq.{length-take-le, take-take, take-all, take-at, drop-at, take-add, drop-append-seam}
-use Rattle.laws.proofs.Tests.{passed-no}
 use Rattle.octets.specs.Bytes.{splice, le, value, valueAt, AreBytes}
 use Rattle.octets.proofs.Splice.{drop-splice, stored-splice}
 use Rattle.octets.proofs.Le.{length-le, value-le, le-value, take-bytes, drop-bytes}
@@ -24,7 +23,7 @@ use Rattle.frame.specs.declared.Wrote.{Wrote}
 use Rattle.frame.specs.declared.Wrote.the-variants.{Size, UserTooLong, OutputTooSmall}
 use Rattle.frame.specs.Frame.{Parts, parts, withCrc, blocks, blockCount, frameSize, linkHeader, encode, withoutCrc, crcOk, firstWrong, firstWrongOf, users, bodyOf, decodeBody, decode, encodeInto, wroteOf, writtenSize, lentAfterWrite, Fields, fields, fieldsOf, readOf, lentAfterRead}
 use Rattle.frame.specs.RoundTrip.{WrittenIsRead, ReadIsWritten}
-use Rattle.frame.proofs.Laws.{length-with-crc, length-blocks, length-header, length-encode, length-body, length-user, into}
+use Rattle.frame.proofs.Laws.{length-with-crc, length-blocks, length-header, length-encode, length-body, length-user, into, passed-by}
 
 check-lt : (bs : List ℕ) → checkOf bs < 65536
 unfolding checkOf
@@ -257,14 +256,14 @@ passed : (room : ℕ) (s : List ℕ) (f : Parts) → decode room s ≡ R.accepte
 unfolding decode decodeBody
 passed room s f e =
     let n : ℕ = getD s 2 0 - 5 in
-    let a1 = passed-no (ltb room userMax) (refusedBy 33) _ _ (not-accepted _ f) e in
-    let a2 = passed-no (ltb (length s) 10) (refusedBy 11) _ _ (not-accepted _ f) (a1 .1) in
-    let a3 = passed-no (not (eqb (getD s 0 0) 5)) (refusedBy 12) _ _ (not-accepted _ f) (a2 .1) in
-    let a4 = passed-no (not (eqb (getD s 1 0) 100)) (refusedBy 12) _ _ (not-accepted _ f) (a3 .1) in
-    let a5 = passed-no (not (crcOk (take 10 s))) (refusedBy 13) _ _ (not-accepted _ f) (a4 .1) in
-    let a6 = passed-no (ltb (getD s 2 0) 5) (refusedBy 14) _ _ (not-accepted _ f) (a5 .1) in
-    let a7 = passed-no (ltb (length s) (frameSize n)) (refusedBy 11) _ _ (not-accepted _ f) (a6 .1) in
-    let a8 = passed-no (ltb (firstWrongOf n s) (blockCount n)) (R.refused (wrongBlock (firstWrongOf n s))) _ _ (not-accepted _ f) (a7 .1) in
+    let a1 = passed-by (ltb room userMax) (refusedBy 33) _ _ (not-accepted _ f) e in
+    let a2 = passed-by (ltb (length s) 10) (refusedBy 11) _ _ (not-accepted _ f) (a1 .1) in
+    let a3 = passed-by (not (eqb (getD s 0 0) 5)) (refusedBy 12) _ _ (not-accepted _ f) (a2 .1) in
+    let a4 = passed-by (not (eqb (getD s 1 0) 100)) (refusedBy 12) _ _ (not-accepted _ f) (a3 .1) in
+    let a5 = passed-by (not (crcOk (take 10 s))) (refusedBy 13) _ _ (not-accepted _ f) (a4 .1) in
+    let a6 = passed-by (ltb (getD s 2 0) 5) (refusedBy 14) _ _ (not-accepted _ f) (a5 .1) in
+    let a7 = passed-by (ltb (length s) (frameSize n)) (refusedBy 11) _ _ (not-accepted _ f) (a6 .1) in
+    let a8 = passed-by (ltb (firstWrongOf n s) (blockCount n)) (R.refused (wrongBlock (firstWrongOf n s))) _ _ (not-accepted _ f) (a7 .1) in
     record {
       lent = ltb-false _ _ (a1 .0);
       start = (eqb-true _ _ (not-false _ (a3 .0)), eqb-true _ _ (not-false _ (a4 .0)));

@@ -10,13 +10,13 @@ use borrow.Author.Tests.{ltb-true, ltb-false, le-ltb, lt-ltb, eq-eqb}
 use lib.ListN.{length, getD, take, drop}
 use lib.Seq.{drop-drop}
 use Rattle.laws.specs.Limits.{userMax}
-use Rattle.laws.proofs.Tests.{passed-no}
 use Rattle.frame.specs.FrameOutcome.{Refusal, wrongBlock, FrameOutcome, accepted, refused, refusedBy}
 use Rattle.frame.specs.declared.Read.{Read}
 use Rattle.frame.specs.declared.Read.the-variants.{Frame, Refused}
 use Rattle.frame.specs.declared.FrameRefusal.the-variants.{BlockCheck}
 use Rattle.frame.specs.declared.FrameRefusal.the-variants as F
 use Rattle.frame.specs.Frame.{Parts, crcOk, firstWrong, firstWrongOf, blockCount, frameSize, bodyOf, decodeBody, decode, fieldsOf, readOf}
+use Rattle.frame.proofs.Laws.{passed-by}
 use Rattle.frame.specs.WrongBlock.{userCount, blockAt, FirstWrong, CarriedIsFirst, FirstIsCarried}
 
 -- ---- of some blocks
@@ -65,13 +65,13 @@ wrong-block : (room : ℕ) (s : List ℕ) (k : ℕ) → decode room s ≡ refuse
 unfolding decode decodeBody
 wrong-block room s k e =
     let n : ℕ = userCount s in
-    let a1 = passed-no (ltb room userMax) (refusedBy 33) _ _ (not-by 33 k) e in
-    let a2 = passed-no (ltb (length s) 10) (refusedBy 11) _ _ (not-by 11 k) (a1 .1) in
-    let a3 = passed-no (not (eqb (getD s 0 0) 5)) (refusedBy 12) _ _ (not-by 12 k) (a2 .1) in
-    let a4 = passed-no (not (eqb (getD s 1 0) 100)) (refusedBy 12) _ _ (not-by 12 k) (a3 .1) in
-    let a5 = passed-no (not (crcOk (take 10 s))) (refusedBy 13) _ _ (not-by 13 k) (a4 .1) in
-    let a6 = passed-no (ltb (getD s 2 0) 5) (refusedBy 14) _ _ (not-by 14 k) (a5 .1) in
-    let a7 = passed-no (ltb (length s) (frameSize n)) (refusedBy 11) _ _ (not-by 11 k) (a6 .1) in
+    let a1 = passed-by (ltb room userMax) (refusedBy 33) _ _ (not-by 33 k) e in
+    let a2 = passed-by (ltb (length s) 10) (refusedBy 11) _ _ (not-by 11 k) (a1 .1) in
+    let a3 = passed-by (not (eqb (getD s 0 0) 5)) (refusedBy 12) _ _ (not-by 12 k) (a2 .1) in
+    let a4 = passed-by (not (eqb (getD s 1 0) 100)) (refusedBy 12) _ _ (not-by 12 k) (a3 .1) in
+    let a5 = passed-by (not (crcOk (take 10 s))) (refusedBy 13) _ _ (not-by 13 k) (a4 .1) in
+    let a6 = passed-by (ltb (getD s 2 0) 5) (refusedBy 14) _ _ (not-by 14 k) (a5 .1) in
+    let a7 = passed-by (ltb (length s) (frameSize n)) (refusedBy 11) _ _ (not-by 11 k) (a6 .1) in
     stopped (firstWrongOf n s) (blockCount n) k _ (a7 .1)
 
 no-fields : (o : FrameOutcome Parts) (why : Refusal) → refused why ≡ fieldsOf o → o ≡ refused why
