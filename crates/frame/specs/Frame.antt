@@ -74,7 +74,7 @@ withoutCrc g = take (length g - 2) g
 unfoldable pub crcOk : List ℕ → Bool
 crcOk g = eqb (checkOf (withoutCrc g)) (valueAt 2 (length g - 2) g)
 
--- "the first wrong block", of k blocks: its number, "0 to 15", where block i is wrong and no earlier one is; k where none is wrong
+-- "the number of the first wrong block", of k blocks: i where block i is wrong and no earlier one is; k where none is wrong. Counted from 0
 unfoldable pub firstWrong : ℕ → List ℕ → ℕ
 firstWrong zero b = 0
 firstWrong (suc k) b = cond (crcOk (take 18 b)) (suc (firstWrong k (drop 18 b))) 0

@@ -120,7 +120,7 @@ abbrev pub countIf : Bool → ℕ → ℕ
 countIf true n = cond (ltb n countMax) (n + 1) n
 countIf false n = n
 
--- one more for this block, which stops for itself
+-- one more for this block; each count stops for itself
 abbrev pub blockCounted : List ℕ → ℕ → List ℕ
 blockCounted counts b = set counts b (countIf true (getD counts b 0))
 
@@ -130,7 +130,7 @@ blocksCounted counts (accepted a) = counts
 blocksCounted counts (refused (by k)) = counts
 blocksCounted counts (refused (wrongBlock b)) = blockCounted counts b
 
--- accepted frames, and refusals 11 to 15 and 17
+-- accepted frames, and refusals 11 to 15 and 17; 15 also by its block
 abbrev pub countedOf : {A : Type 0} → LineRecord → FrameOutcome A → LineRecord
 countedOf l o =
     record {
