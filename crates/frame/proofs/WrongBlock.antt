@@ -2,7 +2,7 @@
 -- Assumes nothing.
 use mathlib.Core.Path.{_≡_, refl, sym, ap, _∙_, subst}
 use mathlib.Core.Bool.{Bool, true, false, cond, not}
-use Prim.Native.Nat.{ℕ, zero, suc, _+_, _*_, _<_}
+use Prim.Native.Nat.{ℕ, zero, suc, _+_, _*_, _≤_, _<_}
 use native.Mathlib.Omega.{arith}
 use mathlib.Core.List.{List}
 use lib.Dec.{ltb, eqb}
@@ -10,6 +10,7 @@ use borrow.Author.Tests.{ltb-true, ltb-false, le-ltb, lt-ltb, eq-eqb}
 use lib.ListN.{length, getD, take, drop}
 use lib.Seq.{drop-drop}
 use Rattle.laws.specs.Limits.{userMax}
+use Rattle.octets.specs.Bytes.{AreBytes}
 use Rattle.frame.specs.FrameOutcome.{Refusal, wrongBlock, FrameOutcome, accepted, refused, refusedBy}
 use Rattle.frame.specs.declared.Read.{Read}
 use Rattle.frame.specs.declared.Read.the-variants.{Frame, Refused}
@@ -17,7 +18,7 @@ use Rattle.frame.specs.declared.FrameRefusal.the-variants.{BlockCheck}
 use Rattle.frame.specs.declared.FrameRefusal.the-variants as F
 use Rattle.frame.specs.Frame.{Parts, crcOk, firstWrong, firstWrongOf, blockCount, frameSize, bodyOf, decodeBody, decode, fieldsOf, readOf}
 use Rattle.frame.proofs.Laws.{passed-by}
-use Rattle.frame.specs.WrongBlock.{userCount, blockAt, FirstWrong, CarriedIsFirst, FirstIsCarried}
+use Rattle.frame.specs.WrongBlock.{userCount, blockAt, FirstWrong, RightBefore15, CarriedIsFirst, FirstIsCarried}
 
 -- ---- of some blocks
 
@@ -74,15 +75,11 @@ wrong-block room s k e =
     let a7 = passed-by (ltb (length s) (frameSize n)) (refusedBy 11) _ _ (not-by 11 k) (a6 .1) in
     stopped (firstWrongOf n s) (blockCount n) k _ (a7 .1)
 
-no-fields : (o : FrameOutcome Parts) (why : Refusal) → refused why ≡ fieldsOf o → o ≡ refused why
-no-fields (accepted f) why e = cc
-no-fields (refused w) why e = cc
-
-pub carried-is-first : CarriedIsFirst
-unfolding CarriedIsFirst
-carried-is-first r s out user k bytes got is =
+-- what is refused by 15 with k has k as its first wrong block; the length byte is a byte, so k is at most 15
+pub decoded-first : (room : ℕ) (s : List ℕ) (k : ℕ) → AreBytes s → decode room s ≡ refused (wrongBlock k) → FirstWrong k s × (k ≤ 15)
+decoded-first room s k bytes e =
     let n : ℕ = userCount s in
-    let p = wrong-block (length out) s k (no-fields _ (wrongBlock k) (ap readOf (sym is) ∙ got .answer)) in
+    let p = wrong-block room s k e in
     let b : getD s 2 0 < 256 = bytes 2 in
     let l : k < blockCount n = subst (λ (w : ℕ). w < blockCount n) (p .0) (p .1) in (
       record {
@@ -113,6 +110,29 @@ only-first k s h = go (ltb (firstWrongOf (userCount s) s) k) (ltb k (firstWrongO
         let m = ltb-false k (firstWrongOf (userCount s) s) f in
         omega (arith, l, m)
 
+-- and such a block is carried
+pub first-decoded : (room : ℕ) (s : List ℕ) (k : ℕ) → RightBefore15 room s → FirstWrong k s → decode room s ≡ refused (wrongBlock k)
+unfolding decode decodeBody
+first-decoded room s k right h =
+    let n : ℕ = userCount s in
+    rw (
+      le-ltb room userMax (right .lent),
+      le-ltb (length s) 10 (omega (arith, right .whole)),
+      eq-eqb _ _ (right .start .0),
+      eq-eqb _ _ (right .start .1),
+      right .header,
+      le-ltb (getD s 2 0) 5 (right .long),
+      le-ltb (length s) (frameSize n) (right .whole),
+      only-first k s h,
+      lt-ltb k (blockCount n) (h .there),
+    )
+
+-- ---- about the call
+
+no-fields : (o : FrameOutcome Parts) (why : Refusal) → refused why ≡ fieldsOf o → o ≡ refused why
+no-fields (accepted f) why e = cc
+no-fields (refused w) why e = cc
+
 the-answer : (r : Read) (k : ℕ) → readOf r ≡ refused (wrongBlock k) → r ≡ Refused (BlockCheck k)
 the-answer (Frame c d a n) k e = cc
 the-answer (Refused F.TooShort) k e = cc
@@ -122,21 +142,11 @@ the-answer (Refused F.Length) k e = cc
 the-answer (Refused (F.BlockCheck b)) k e = cc
 the-answer (Refused F.OutputTooSmall) k e = cc
 
+pub carried-is-first : CarriedIsFirst
+unfolding CarriedIsFirst
+carried-is-first r s out user k bytes got is =
+    decoded-first (length out) s k bytes (no-fields _ (wrongBlock k) (ap readOf (sym is) ∙ got .answer))
+
 pub first-is-carried : FirstIsCarried
-unfolding FirstIsCarried decode decodeBody
-first-is-carried r s out user k right h got =
-    let n : ℕ = userCount s in
-    let w : firstWrongOf n s ≡ k = only-first k s h in
-    let d : decode (length out) s ≡ refused (wrongBlock k) =
-    rw (
-      le-ltb (length out) userMax (right .lent),
-      le-ltb (length s) 10 (omega (arith, right .whole)),
-      eq-eqb _ _ (right .start .0),
-      eq-eqb _ _ (right .start .1),
-      right .header,
-      le-ltb (getD s 2 0) 5 (right .long),
-      le-ltb (length s) (frameSize n) (right .whole),
-      w,
-      lt-ltb k (blockCount n) (h .there),
-    ) in
-    the-answer r k (got .answer ∙ ap fieldsOf d)
+unfolding FirstIsCarried
+first-is-carried r s out user k right h got = the-answer r k (got .answer ∙ ap fieldsOf (first-decoded (length out) s k right h))
