@@ -446,7 +446,6 @@ fn gate_words<L>(gate: &[u8], limit: &[u8], read: impl Fn(&[u8]) -> Option<L>) -
     }
 }
 
-/// `b,T,I,V,F`, `a,T,I,V,F` or `f,T,I,F32,F`.
 /// The record of 23 counts; "7 are still taken and set the blocks' counts to 0".
 fn line_record(counts: &[u16]) -> Option<LineRecord> {
     let (counts, blocks) = counts.split_at_checked(7)?;
@@ -454,6 +453,7 @@ fn line_record(counts: &[u16]) -> Option<LineRecord> {
     Some(LineRecord { counts: counts.try_into().ok()?, blocks })
 }
 
+/// `b,T,I,V,F`, `a,T,I,V,F` or `f,T,I,F32,F`.
 fn record_word(word: &[u8]) -> Option<Reading> {
     let [letter, time, index, value, flags] = commas(word)[..] else {
         return None;
