@@ -34,7 +34,7 @@ no-answer (accepted (reply c)) k e = cc
 no-answer (refused why) k e = cc
 
 -- what the answer carries is what the station's rule gives
-pub taken-wrong : (t : Taken) (st : Station) (s d d′ : List ℕ) (k : ℕ) → FrameTaken t st s d d′ → t ≡ Refused (BlockCheck k) → station (length d) st s ≡ refused (wrongBlock k)
+taken-wrong : (t : Taken) (st : Station) (s d d′ : List ℕ) (k : ℕ) → FrameTaken t st s d d′ → t ≡ Refused (BlockCheck k) → station (length d) st s ≡ refused (wrongBlock k)
 taken-wrong t st s d d′ k got is = no-answer _ k (ap takenOf (sym is) ∙ got .answer)
 
 counted-alone : (counts : List ℕ) (k : ℕ) → k < length counts → CountedAlone k counts (blockCounted counts k)
