@@ -283,7 +283,7 @@ encode-decode room s f bytes e =
     ∙ ap (λ (k : ℕ). take (frameSize k) s) (sym (length-user n s (p .whole))))
 
 -- the length byte is a byte
-read-most : (room : ℕ) (s : List ℕ) (f : Parts) → AreBytes s → decode room s ≡ R.accepted f → length (f .user) ≤ userMax
+pub read-most : (room : ℕ) (s : List ℕ) (f : Parts) → AreBytes s → decode room s ≡ R.accepted f → length (f .user) ≤ userMax
 read-most room s f bytes e =
     let p = passed room s f e in
     let b : getD s 2 0 < 256 = bytes 2 in
