@@ -32,7 +32,7 @@
  *  - the stack is deep enough: give the thread POMARISCO_STACK bytes (host/README.md has what each call was measured to use). The
  *    proofs know of no stack;
  *  - the structs are laid out as here: the assertions below hold this file to the library's layout;
- *  - it keeps setup, outstation, line record, assembly and sender of one station together, and carries out the objects it is handed.
+ *  - it keeps setup, outstation, line record, receiver, assembly and sender of one station together, and carries out the objects it is handed.
  *
  * REFUSALS. 0 is none. Order of the tests: 1, 33, then by number; 11 for the frame's size comes after 14.
  *
@@ -70,8 +70,8 @@
 #define POMARISCO_EVENTS 256       /* most events held */
 #define POMARISCO_CONTROLS 8       /* most objects handed over by one fragment */
 #define POMARISCO_FRAGMENT 2048    /* longest fragment; lend so much for an answer and for an assembly */
-#define POMARISCO_FRAME 292        /* longest frame; lend so much for a frame to be written */
-#define POMARISCO_USER 250         /* longest user data; lend so much for a frame read and a segment written */
+#define POMARISCO_FRAME 292        /* longest frame; lend so much for a frame to be written, and to a receiver */
+#define POMARISCO_USER 250         /* longest user data; lend so much for a frame read or received, and a segment written */
 #define POMARISCO_BLOCKS 16        /* most blocks of a frame */
 #define POMARISCO_STACK 8192       /* recommended stack, bytes: twice the deepest call as measured */
 
@@ -223,6 +223,18 @@ struct pomarisco_frame {           /* the user data is the first `length` lent b
     uint8_t block;
 };
 
+struct pomarisco_receiver {        /* kept between pieces off the wire: the first `kept` bytes, at most 291; all 0: nothing kept */
+    size_t kept;
+    uint8_t bytes[POMARISCO_FRAME];
+};
+
+struct pomarisco_piece {           /* taken: how many bytes of the piece were taken, up to the one that decided; kept: how many bytes are kept after it */
+    size_t taken;
+    size_t kept;
+    struct pomarisco_frame frame;  /* as frame_read gives it, never refused by 11; all 0 where the receiver waits */
+    uint8_t waits;                 /* 1: the piece is used up and nothing is decided; else 0 */
+};
+
 struct pomarisco_line {            /* the line record: accepted frames, then refusals 11, 12, 13, 14, 15, 17; a count stops at 65,535 */
     uint16_t accepted;
     uint16_t short_frame;
@@ -299,6 +311,8 @@ POMARISCO_SIZE(fragment_answer, 16); POMARISCO_AT(fragment_answer, length, 0); P
 POMARISCO_SIZE(answer, 256); POMARISCO_AT(answer, head, 0); POMARISCO_AT(answer, operated, 104); POMARISCO_AT(answer, answer, 240);
 POMARISCO_SIZE(wrote, 16); POMARISCO_AT(wrote, size, 0); POMARISCO_AT(wrote, refusal, 8);
 POMARISCO_SIZE(frame, 16); POMARISCO_AT(frame, length, 0); POMARISCO_AT(frame, destination, 8); POMARISCO_AT(frame, source, 10); POMARISCO_AT(frame, control, 12); POMARISCO_AT(frame, refusal, 13); POMARISCO_AT(frame, block, 14);
+POMARISCO_SIZE(receiver, 304); POMARISCO_AT(receiver, kept, 0); POMARISCO_AT(receiver, bytes, 8);
+POMARISCO_SIZE(piece, 40); POMARISCO_AT(piece, taken, 0); POMARISCO_AT(piece, kept, 8); POMARISCO_AT(piece, frame, 16); POMARISCO_AT(piece, waits, 32);
 POMARISCO_SIZE(line, 46); POMARISCO_AT(line, accepted, 0); POMARISCO_AT(line, short_frame, 2); POMARISCO_AT(line, start, 4); POMARISCO_AT(line, header_check, 6); POMARISCO_AT(line, length, 8); POMARISCO_AT(line, block_check, 10); POMARISCO_AT(line, not_taken, 12); POMARISCO_AT(line, blocks, 14);
 POMARISCO_SIZE(taken, 16); POMARISCO_AT(taken, length, 0); POMARISCO_AT(taken, control, 8); POMARISCO_AT(taken, kind, 9); POMARISCO_AT(taken, refusal, 10); POMARISCO_AT(taken, block, 11);
 POMARISCO_SIZE(assembly, 16); POMARISCO_AT(assembly, length, 0); POMARISCO_AT(assembly, last, 8); POMARISCO_AT(assembly, begun, 9);
@@ -319,7 +333,7 @@ extern "C" {
 
 /* A fresh outstation: a restart keeps only the setup, so the host keeps that. Binary i has the class classes[i], analog i is set up by
  * analogs[i]. Writes the points' words, and leaves the other arrays: the head says that they are empty. Refusal 5: the head then has no points
- * and no outputs, and some points' words may be stored. The host also sets its assembly and its sender to all 0; the line record stays. */
+ * and no outputs, and some points' words may be stored. The host also sets its receiver, its assembly and its sender to all 0; the line record stays. */
 struct pomarisco_restarted pomarisco_lent_restart(struct pomarisco_setup setup, const uint8_t *classes, size_t class_count, const struct pomarisco_analog_setup *setups, size_t setup_count, uint32_t *binaries, uint32_t *analogs);
 
 /* One reading. Changes the point, the held events with overflow, dropped_since, the clock. Refusals 1 to 4. */
@@ -341,6 +355,13 @@ struct pomarisco_wrote pomarisco_frame_write(uint8_t *out, size_t out_length, ui
  * lent bytes only. Refusals 11 to 15, and 33 when out_length is under 250. 15 carries the first wrong block, 0 to 15: block k is user bytes
  * 16k to 16k + 15. */
 struct pomarisco_frame pomarisco_frame_read(const uint8_t *bytes, size_t length, uint8_t *out, size_t out_length);
+
+/* Takes a piece off the wire, of any size, up to its first frame or refusal: finds frames in what comes, whoever they are for. `memory` is 292
+ * bytes, the same for each piece, as they were left; `kept` is what the call before gave, 0 at the start. `taken` bytes of the piece are done with:
+ * give the rest again. Where it waits, all of the piece is taken. After 12, 13 or 14 it moves on one byte, after 15 and after a frame past the frame.
+ * Writes a frame's user data; changes the memory. Refusals 12 to 15, and 33 when out_length is under 250: then nothing is taken and the memory
+ * stays. The line record is left alone. Memory that holds no frame's beginning, as no call leaves it, is as nothing kept. */
+struct pomarisco_piece pomarisco_piece_receive(uint8_t *memory, size_t kept, const uint8_t *piece, size_t piece_length, uint8_t *out, size_t out_length);
 
 /* Takes the frame at the front of the bytes for the station, and counts it in the line record. Writes its user data; for a reply the
  * lent bytes stay. Refusals 11 to 15, 17, and 33 when out_length is under 250 (not counted). 15 carries the first wrong block, and is also
@@ -565,10 +586,17 @@ static inline struct pomarisco_fragment_answer pomarisco_fragment(struct pomaris
     return r.answer;
 }
 
-/* The calls of the line that may be lent nothing; assembly and sender in place. */
+/* The calls of the line that may be lent nothing; receiver, assembly and sender in place. */
 static inline struct pomarisco_taken pomarisco_link_receive_at(struct pomarisco_line *line, struct pomarisco_station station, const uint8_t *bytes, size_t length, uint8_t *out, size_t out_length) {
     uint8_t none[2] = {0, 0};
     return pomarisco_link_receive(line, station, (const uint8_t *)pomarisco_from(bytes, length, none), length, pomarisco_to(out, out_length, none + 1), out_length);
+}
+
+static inline struct pomarisco_piece pomarisco_piece_receive_at(struct pomarisco_receiver *receiver, const uint8_t *piece, size_t piece_length, uint8_t *out, size_t out_length) {
+    uint8_t none[2] = {0, 0};
+    const struct pomarisco_piece r = pomarisco_piece_receive(receiver->bytes, receiver->kept, (const uint8_t *)pomarisco_from(piece, piece_length, none), piece_length, pomarisco_to(out, out_length, none + 1), out_length);
+    receiver->kept = r.kept;
+    return r;
 }
 
 static inline struct pomarisco_segment pomarisco_segment_receive_at(struct pomarisco_assembly *assembly, const uint8_t *segment, size_t segment_length, uint8_t *out, size_t out_length) {

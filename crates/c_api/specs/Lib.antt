@@ -1,2 +1,3 @@
 pub mod Line
+pub mod Pieces
 pub mod Fragments
