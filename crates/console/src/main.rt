@@ -12,6 +12,7 @@ use application::FRAGMENT_MAX;
 use control::ANSWER_MAX;
 use control::ECHO_MAX;
 use event_store::EVENT_WORDS;
+use frame::FRAME_MAX;
 use libc::STDOUT_FILENO;
 use line_calls::answers;
 use line_calls::answers::BYTES_MAX;
@@ -255,6 +256,7 @@ fn call(
     bytes: &mut [u8; BYTES_MAX],
     lent: &mut [u8; ROOM_MAX],
     gathered: &mut [u8; ROOM_MAX],
+    memory: &mut [u8; FRAME_MAX],
     out: &mut [u8; OUT_MAX],
     at: usize,
 ) -> Unit {
@@ -283,7 +285,18 @@ fn call(
         Command::Restart => { calls::restart(u, c, binaries, analogs, setup, out, at) }
         Command::Line(l) => {
             let mut next = u;
-            next.session = lines::line_call(l, u.session, w, c, bytes, lent, gathered, out, at);
+            next.session = lines::line_call(
+                l,
+                u.session,
+                w,
+                c,
+                bytes,
+                lent,
+                gathered,
+                memory,
+                out,
+                at,
+            );
             next
         }
     }
@@ -302,6 +315,7 @@ fn serve(
     bytes: &mut [u8; BYTES_MAX],
     lent: &mut [u8; ROOM_MAX],
     gathered: &mut [u8; ROOM_MAX],
+    memory: &mut [u8; FRAME_MAX],
     out: &mut [u8; OUT_MAX],
 ) {
     let mut u = unit::fresh();
@@ -336,6 +350,7 @@ fn serve(
             bytes,
             lent,
             gathered,
+            memory,
             out,
             p.at,
         );
@@ -348,7 +363,7 @@ fn serve(
 }
 
 // The text read; the state that the outstation is lent, and the line that set it up; a call's bytes, its lent bytes, those that segments are
-// put together in, and the answers.
+// put together in, those that the receiver keeps, and the answers.
 fn main() {
     let mut t = [0u8; TEXT_MAX];
     let mut binaries = [0u32; BINARY_WORDS];
@@ -361,6 +376,7 @@ fn main() {
     let mut bytes = [0u8; BYTES_MAX];
     let mut lent = [0u8; ROOM_MAX];
     let mut gathered = [0u8; ROOM_MAX];
+    let mut memory = [0u8; FRAME_MAX];
     let mut out = [0u8; OUT_MAX];
     serve(
         &mut t,
@@ -374,6 +390,7 @@ fn main() {
         &mut bytes,
         &mut lent,
         &mut gathered,
+        &mut memory,
         &mut out,
     );
 }

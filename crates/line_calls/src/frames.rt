@@ -88,7 +88,7 @@ pub fn frame_read(frame: &[u8], lent: &mut [u8], out: &mut [u8], at: usize) -> u
 }
 
 // `user CC DEST SRC ` of a frame that was read.
-fn put_heading(f: Read, out: &mut [u8], at: usize) -> usize {
+pub fn put_heading(f: Read, out: &mut [u8], at: usize) -> usize {
     if let Read::Frame {
         control,
         destination,
@@ -105,7 +105,7 @@ fn put_heading(f: Read, out: &mut [u8], at: usize) -> usize {
     }
 }
 
-fn read_outcome(f: Read) -> Outcome {
+pub fn read_outcome(f: Read) -> Outcome {
     match f {
         Read::Frame {
             control: _,

@@ -1,10 +1,12 @@
 // The calls that need no outstation, or only its addresses and segments.
 use crate::answers;
 use crate::frames;
+use crate::pieces;
 use crate::segments;
 use crate::session;
 use crate::session::LineSession;
 use crate::stations;
+use frame::FRAME_MAX;
 
 // The calls with LEN HEX.
 pub enum LentCall {
@@ -12,6 +14,7 @@ pub enum LentCall {
     Seg,
     Send,
     FrameRead,
+    Piece,
 }
 
 // The calls that need no outstation, or only its addresses and segments; Nothing where none is made.
@@ -44,6 +47,9 @@ pub fn line_call_of(w: &[u8]) -> LineCall {
     if octets::equal(w, b"frame-read") {
         return LineCall::Lent(LentCall::FrameRead);
     }
+    if octets::equal(w, b"piece") {
+        return LineCall::Lent(LentCall::Piece);
+    }
     if octets::equal(w, b"crc") {
         return LineCall::Crc;
     }
@@ -54,6 +60,7 @@ pub fn line_call_of(w: &[u8]) -> LineCall {
 fn needs_station(k: LentCall) -> bool {
     match k {
         LentCall::FrameRead => false,
+        LentCall::Piece => false,
         _ => true,
     }
 }
@@ -65,6 +72,7 @@ fn given_call(
     given: &[u8],
     lent: &mut [u8],
     gathered: &mut [u8],
+    memory: &mut [u8; FRAME_MAX],
     out: &mut [u8],
     at: usize,
 ) -> LineSession {
@@ -73,7 +81,24 @@ fn given_call(
         LentCall::Seg => segments::seg(s, given, lent, gathered, out, at),
         LentCall::Send => segments::send(s, given, lent, out, at),
         LentCall::FrameRead => session::moved(s, frames::frame_read(given, lent, out, at)),
+        LentCall::Piece => pieces::piece(s, given, memory, lent, out, at),
     }
+}
+
+// The same, with so many of the bytes lent.
+fn call_within(
+    k: LentCall,
+    s: LineSession,
+    given: &[u8],
+    size: usize,
+    lent: &mut [u8],
+    gathered: &mut [u8],
+    memory: &mut [u8; FRAME_MAX],
+    out: &mut [u8],
+    at: usize,
+) -> LineSession {
+    let room = octets::least(size, lent.len());
+    given_call(k, s, given, &mut lent[0..room], gathered, memory, out, at)
 }
 
 fn lent_call(
@@ -84,6 +109,7 @@ fn lent_call(
     bytes: &mut [u8],
     lent: &mut [u8],
     gathered: &mut [u8],
+    memory: &mut [u8; FRAME_MAX],
     out: &mut [u8],
     at: usize,
 ) -> LineSession {
@@ -95,8 +121,7 @@ fn lent_call(
         return session::told(s, out, at, b"none");
     }
     let n = a.len;
-    let room = octets::least(a.size, lent.len());
-    given_call(k, s, &bytes[0..n], &mut lent[0..room], gathered, out, at)
+    call_within(k, s, &bytes[0..n], a.size, lent, gathered, memory, out, at)
 }
 
 // One of these calls.
@@ -108,11 +133,12 @@ pub fn line_call(
     bytes: &mut [u8],
     lent: &mut [u8],
     gathered: &mut [u8],
+    memory: &mut [u8; FRAME_MAX],
     out: &mut [u8],
     at: usize,
 ) -> LineSession {
     match k {
-        LineCall::Lent(l) => lent_call(l, s, w, c, bytes, lent, gathered, out, at),
+        LineCall::Lent(l) => lent_call(l, s, w, c, bytes, lent, gathered, memory, out, at),
         LineCall::Record => stations::record(s, w, c, out, at),
         LineCall::FrameWrite => session::moved(s, frames::frame_write(w, c, bytes, lent, out, at)),
         LineCall::Crc => session::moved(s, frames::crc(w, c, bytes, out, at)),

@@ -9,6 +9,8 @@ pub struct LineSession {
     pub record: link::LineRecord,
     pub assembly: transport::Assembly,
     pub sender: transport::Sender,
+    // How many bytes the receiver keeps.
+    pub kept: usize,
 }
 
 // Before the first call: no outstation, and a line record of zeros.
@@ -34,6 +36,7 @@ pub fn fresh() -> LineSession {
         record,
         assembly,
         sender,
+        kept: 0,
     }
 }
 
@@ -49,7 +52,7 @@ pub fn told(s: LineSession, out: &mut [u8], at: usize, words: &[u8]) -> LineSess
     moved(s, crate::answers::answer(out, at, words))
 }
 
-// There is an outstation; nothing is heard, nothing sent.
+// There is an outstation; nothing is heard, nothing sent, and the receiver is empty.
 pub fn begun(s: LineSession, own: u16, master: u16) -> LineSession {
     let addresses = link::Station { own, master };
     let assembly = transport::nothing_begun();
@@ -62,12 +65,14 @@ pub fn begun(s: LineSession, own: u16, master: u16) -> LineSession {
         record,
         assembly,
         sender,
+        kept: 0,
     }
 }
 
-// There is none.
+// There is none; the receiver is empty.
 pub fn none(s: LineSession) -> LineSession {
     let mut next = s;
     next.have = false;
+    next.kept = 0;
     next
 }
