@@ -16,7 +16,7 @@ GROUPS = ["line", "station", "readings", "fragments"]
 # Random scripts for each group: seeds and lines. `all` mixes the calls of every group and is run
 # only when every group is.
 SEEDS = {
-    "line": (range(1, 21), 4000),
+    "line": (range(1, 31), 4000),
     "station": (range(1, 41), 4000),
     "readings": (range(1, 81), 4000),
     "fragments": (range(1, 161), 4000),

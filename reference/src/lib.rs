@@ -1,11 +1,11 @@
 //! The outstation of document 01, written a second time, for comparison only.
 //!
 //! One module for each layer of 01: `crc`, `frame` and `link` are "Bytes on the line", with
-//! `transport` for segments; `points` and `events` are "Readings"; `application` and `control`
-//! are "What the control room is told"; `outstation` is the setup and the state; `script` is the
-//! text interface; `generate` writes random scripts. `faults` makes the program wrong on purpose,
-//! in one named way at a time. Where 01 leaves room, the reading taken is cited as R and its
-//! number (R3.9).
+//! `receiver` for bytes off the wire (02, 101) and `transport` for segments; `points` and `events`
+//! are "Readings"; `application` and `control` are "What the control room is told"; `outstation` is
+//! the setup and the state; `script` is the text interface; `generate` writes random scripts.
+//! `faults` makes the program wrong on purpose, in one named way at a time. Where 01 leaves room,
+//! the reading taken is cited as R and its number (R3.9).
 
 pub mod application;
 pub mod control;
@@ -17,6 +17,7 @@ pub mod generate;
 pub mod link;
 pub mod outstation;
 pub mod points;
+pub mod receiver;
 pub mod script;
 pub mod transport;
 

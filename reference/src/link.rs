@@ -33,7 +33,7 @@ fn one_more(count: &mut u16) {
 impl LineRecord {
     /// Every frame call but one refused 33 adds to exactly one of the seven counts (R7.3, R7.4), and
     /// a refusal 15 to its block's (110.2).
-    fn note<T>(&mut self, result: &Result<T, FrameRefusal>) {
+    pub fn note<T>(&mut self, result: &Result<T, FrameRefusal>) {
         let stopped = on(Fault::BlockStopsEarly) && self.counts[5] == u16::MAX;
         match result.as_ref().map_err(|refusal| refusal.number()) {
             Ok(_) => one_more(&mut self.counts[0]),

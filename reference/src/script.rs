@@ -20,10 +20,12 @@ use crate::application::Outcome;
 use crate::control::Control;
 use crate::crc::check_bytes;
 use crate::events::Event;
-use crate::frame::{self, FrameRefusal};
+use crate::faults::{on, Fault};
+use crate::frame::{self, Frame, FrameRefusal};
 use crate::link::{self, Heard, LineRecord};
 use crate::outstation::{Outstation, Setup};
 use crate::points::{Form, Gate, Reading, Taken, Value};
+use crate::receiver::Receiver;
 use crate::transport::Assembled;
 use crate::Refusal;
 
@@ -53,6 +55,7 @@ pub enum Call {
     Send(usize, Vec<u8>),
     FrameWrite(usize, u8, u16, u16, Vec<u8>),
     FrameRead(usize, Vec<u8>),
+    Piece(usize, Vec<u8>),
     Crc(Vec<u8>),
 }
 
@@ -60,6 +63,7 @@ pub enum Call {
 pub struct Host {
     pub outstation: Option<Outstation>,
     pub record: LineRecord,
+    pub receiver: Receiver,
     lent: Vec<u8>,
     /// `seg` calls lend the front of this one buffer throughout; filled at `setup`.
     assembly: Vec<u8>,
@@ -71,6 +75,7 @@ impl Default for Host {
         Host {
             outstation: None,
             record: LineRecord::default(),
+            receiver: Receiver::default(),
             lent: vec![FILL; LENT],
             assembly: vec![FILL; LENT],
             before: vec![FILL; LENT],
@@ -96,7 +101,11 @@ impl Host {
         match call {
             Call::Setup(setup) => {
                 self.assembly.fill(FILL);
-                match Outstation::new(setup) {
+                let made = Outstation::new(setup);
+                if made.is_ok() || !on(Fault::PieceKeptByRefused) {
+                    self.receiver = Receiver::default();
+                }
+                match made {
                     Ok(outstation) => {
                         self.outstation = Some(outstation);
                         out.extend_from_slice(b"ok");
@@ -130,17 +139,28 @@ impl Host {
                 match read {
                     Ok(frame) => {
                         size = frame.user.len();
-                        out.extend_from_slice(
-                            format!(
-                                "user {:02X} {} {} ",
-                                frame.control, frame.destination, frame.source
-                            )
-                            .as_bytes(),
-                        );
-                        put_hex(&lent[..size], out);
+                        put_user(&frame, &lent[..size], out);
                     }
                     Err(refusal) => no_frame(refusal, out),
                 }
+                spoilt(&lent[size..], out);
+            }
+            Call::Piece(len, bytes) => {
+                let lent = lend(&mut self.lent, len);
+                let (taken, told) = self.receiver.take(&bytes, lent);
+                if let (true, Some(told)) = (on(Fault::PieceCounted), &told) {
+                    self.record.note(told);
+                }
+                let mut size = 0;
+                match told {
+                    Some(Ok(frame)) => {
+                        size = frame.user.len();
+                        put_user(&frame, &lent[..size], out);
+                    }
+                    Some(Err(refusal)) => no_frame(refusal, out),
+                    None => out.extend_from_slice(b"waits"),
+                }
+                out.extend_from_slice(format!(" taken {taken}").as_bytes());
                 spoilt(&lent[size..], out);
             }
             Call::Crc(bytes) => {
@@ -160,6 +180,9 @@ impl Host {
         match call {
             Call::Restart => {
                 outstation.restart();
+                if !on(Fault::PieceKeptByRestart) {
+                    self.receiver = Receiver::default();
+                }
                 out.extend_from_slice(b"ok");
             }
             Call::Reading(reading) => match outstation.reading(reading) {
@@ -299,6 +322,13 @@ fn no_frame(refusal: FrameRefusal, out: &mut Vec<u8>) {
     }
 }
 
+/// `user CC DEST SRC HEX`, the user data as it stands in the lent bytes.
+fn put_user(frame: &Frame, user: &[u8], out: &mut Vec<u8>) {
+    let Frame { control, destination, source, .. } = frame;
+    out.extend_from_slice(format!("user {control:02X} {destination} {source} ").as_bytes());
+    put_hex(user, out);
+}
+
 pub fn put_hex(bytes: &[u8], out: &mut Vec<u8>) {
     const DIGITS: &[u8; 16] = b"0123456789ABCDEF";
     if bytes.is_empty() {
@@ -373,6 +403,7 @@ pub fn parse(line: &[u8]) -> Option<Call> {
             hex(user)?,
         )),
         (b"frame-read", [len, bytes]) => Some(Call::FrameRead(lent_length(len)?, hex(bytes)?)),
+        (b"piece", [len, bytes]) => Some(Call::Piece(lent_length(len)?, hex(bytes)?)),
         (b"crc", [bytes]) => Some(Call::Crc(hex(bytes)?)),
         _ => None,
     }

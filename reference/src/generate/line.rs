@@ -1,4 +1,4 @@
-//! Frames, checks and the line record; the station and segments.
+//! Frames, checks and the line record; the station and segments. Pieces are in `pieces`.
 
 use crate::frame;
 
@@ -89,7 +89,7 @@ impl Generator {
     }
 
     pub fn line_step(&mut self) {
-        match self.random.below(20) {
+        match self.random.below(21) {
             0..=2 => {
                 let n = if self.random.chance(5) { 600 } else { self.size() };
                 let bytes = self.random.bytes(n);
@@ -104,6 +104,7 @@ impl Generator {
                 self.call(format!("frame-write {lent} {control:02X} {to} {from} {}", hex(&user)));
             }
             9 => self.record_step(),
+            20 => self.pieces_step(),
             _ => {
                 let (control, n) = (self.random.byte(), self.size());
                 let (to, from) = (self.random.next() as u16, self.random.next() as u16);
@@ -143,7 +144,7 @@ impl Generator {
             self.call(format!("setup {own} {master} 5000 5000 0 0 0"));
             return;
         }
-        match self.random.below(200) {
+        match self.random.below(204) {
             0 => {
                 let (own, master) = (self.address(), self.address());
                 self.call(format!("setup {own} {master} 5000 5000 0 0 0"));
@@ -152,7 +153,8 @@ impl Generator {
             3..=8 => self.record_step(),
             9..=89 => self.station_call(),
             90..=179 => self.seg_call(),
-            _ => self.send_call(),
+            180..=199 => self.send_call(),
+            _ => self.pieces_step(),
         }
     }
 

@@ -1,13 +1,15 @@
 //! Random call scripts, the same for the same kind, seed and number of lines.
 //!
-//! The kind says which calls occur: `line` (crc, frame-write, frame-read, record), `station` (setup
-//! without points, restart, record, station, seg, send), `readings` (setup, restart, bin, ana, flt,
-//! table, held), `fragments` (those and frag) or `all`. Each kind has some malformed lines of its
-//! own calls. Counts of the answers are kept with the script.
+//! The kind says which calls occur: `line` (crc, frame-write, frame-read, piece, record), `station`
+//! (setup without points, restart, record, station, seg, send, piece), `readings` (setup, restart,
+//! bin, ana, flt, table, held), `fragments` (those and frag) or `all`. Each kind has some malformed
+//! lines of its own calls. Counts of the answers are kept with the script.
 //!
 //! The reference runs along, so that the script knows the state. It aims at these deep states:
 //! - frames right but for one flipped bit anywhere or one in each of some blocks, one cut or
 //!   lengthened, a changed length byte with a right header check, line counts next to 65,535;
+//! - lines of right and wrong frames, of noise and of false starts, cut into pieces anywhere, the
+//!   rest given again, and sometimes lost or given twice; a setup or restart in their middle;
 //! - assemblies that end at 2,047, 2,048 and 2,049 bytes, segments one out of sequence and 16 out;
 //! - distances and sums at a limit and next to it, whole and float extremes, both zeros;
 //! - 256 held events and drops, then READ and CONFIRM, with drops before and after the READ, with
@@ -19,6 +21,7 @@
 
 mod fragments;
 mod line;
+mod pieces;
 mod random;
 mod readings;
 mod stats;
@@ -48,6 +51,8 @@ struct Generator {
     stats: BTreeMap<String, u64>,
     /// Last readings given for each analog, as bits.
     given: Vec<u32>,
+    /// Bytes that the modem has still to hand over.
+    wire: Vec<u8>,
 }
 
 impl Generator {
@@ -69,11 +74,15 @@ impl Generator {
 
     /// Writes the line, sometimes a broken one before it.
     fn call(&mut self, line: String) {
+        self.sometimes_broken(&line);
+        self.emit(line);
+    }
+
+    fn sometimes_broken(&mut self, line: &str) {
         if self.random.chance(1) {
-            let broken = self.broken(&line);
+            let broken = self.broken(line);
             self.emit(broken);
         }
-        self.emit(line);
     }
 
     /// One small change; it may still be a call.
@@ -141,6 +150,7 @@ pub fn script(kind: Kind, seed: u64, lines: usize) -> (Vec<u8>, BTreeMap<String,
         kind,
         stats: BTreeMap::new(),
         given: vec![0; 64],
+        wire: Vec::new(),
     };
     while generator.left > 0 {
         generator.step();
