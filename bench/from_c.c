@@ -9,6 +9,7 @@
 
 static struct pomarisco_outstation o;
 static struct pomarisco_crobs operated;
+static struct pomarisco_receiver receiver;
 static uint8_t out[POMARISCO_FRAGMENT];
 
 /* ---- checksums */
@@ -242,16 +243,94 @@ static uint64_t table_128(uint64_t count) {
     return digest(sum);
 }
 
+/* ---- bytes off the wire */
+
+enum { LINE = 16384 };
+
+static uint8_t wire[LINE];
+static uint64_t source; /* xorshift64 */
+
+static uint8_t any_byte(void) {
+    source ^= source << 13;
+    source ^= source >> 7;
+    source ^= source << 17;
+    return (uint8_t)(source >> 32);
+}
+
+/* Frames back to back, of 250 user bytes or of 0 to 26; the last one is cut. */
+static void line_of_frames(bool small) {
+    uint8_t user[POMARISCO_USER], one[POMARISCO_FRAME];
+    for (size_t at = 0; at < LINE;) {
+        const size_t n = small ? any_byte() % 27 : POMARISCO_USER;
+        for (size_t i = 0; i < n; i++) user[i] = any_byte();
+        const size_t size = pomarisco_frame_write(one, sizeof one, 196, 10, 1, user, n).size;
+        memcpy(wire + at, one, size < LINE - at ? size : LINE - at);
+        at += size;
+    }
+}
+
+/* What a call told, with all user bytes or one of them. */
+static uint64_t fold_piece(uint64_t sum, const struct pomarisco_piece *p, const uint8_t *user, bool all) {
+    const struct pomarisco_frame *f = &p->frame;
+    sum = fold(sum, p->taken);
+    if (p->waits) return fold(sum, 1);
+    if (f->refusal != 0) return fold(sum, f->refusal | (uint64_t)f->block << 8);
+    sum = fold(sum, f->control | (uint64_t)f->destination << 8 | (uint64_t)f->source << 24 | (uint64_t)f->length << 40);
+    return all ? fold_all(sum, user, f->length) : fold(sum, user[sum % 250]);
+}
+
+/* The line in pieces of so many bytes, again and again; the first time all user bytes count. */
+static uint64_t receive(uint64_t count, size_t piece_length) {
+    uint8_t user[POMARISCO_USER] = {0};
+    uint64_t sum = 1;
+    if (piece_length == 0) piece_length = 1;
+    for (uint64_t left = count; left > 0; left--) {
+        memset(&receiver, 0, sizeof receiver);
+        for (size_t at = 0; at < LINE; at += piece_length) {
+            const size_t end = at + piece_length < LINE ? at + piece_length : LINE;
+            for (size_t from = at; from < end;) {
+                const struct pomarisco_piece p = pomarisco_piece_receive_at(&receiver, wire + from, end - from, user, sizeof user);
+                sum = fold_piece(sum, &p, user, left == count);
+                from += p.taken;
+            }
+        }
+    }
+    return fold_all(sum, user, sizeof user);
+}
+
+static uint64_t receive_frames(uint64_t count, size_t piece_length, bool small) {
+    source = 0x9E3779B97F4A7C15u;
+    line_of_frames(small);
+    return receive(count, piece_length);
+}
+
+static uint64_t receive_clean(uint64_t count, size_t n) { return receive_frames(count, n, false); }
+static uint64_t receive_small(uint64_t count, size_t n) { return receive_frames(count, n, true); }
+static uint64_t receive_bytes(uint64_t count, size_t n) { return (void)n, receive_frames(count, 1, false); }
+
+static uint64_t receive_noise(uint64_t count, size_t n) {
+    source = 0x9E3779B97F4A7C15u;
+    for (size_t i = 0; i < LINE; i++) wire[i] = any_byte();
+    return receive(count, n);
+}
+
+static uint64_t receive_starts(uint64_t count, size_t n) {
+    for (size_t i = 0; i < LINE; i++) wire[i] = i % 2 == 0 ? 0x05 : 0x64;
+    return receive(count, n);
+}
+
 /* ---- lines */
 
 static uint64_t nothing_sized(uint64_t count, size_t n) { return (void)n, nothing(count); }
 static uint64_t table_sized(uint64_t count, size_t n) { return (void)n, table_128(count); }
 
-/* The works, and the most points or held events of each. */
+/* The works, and the most points or held events of each, or bytes of a piece. */
 static const struct { const char *name; size_t most; uint64_t (*run)(uint64_t, size_t); } works[] = {
     {"nothing", 0, nothing_sized}, {"outstation-reading", 64, outstation_reading}, {"held-reading", 255, held_reading}, {"class-0", 64, class_0},
     {"class-0-fragment", 64, class_0_fragment},
-    {"event-read", 256, event_read}, {"confirm", 226, confirm}, {"select", 256, selects}, {"repeat", 256, repeat}, {"table-128", 0, table_sized}};
+    {"event-read", 256, event_read}, {"confirm", 226, confirm}, {"select", 256, selects}, {"repeat", 256, repeat}, {"table-128", 0, table_sized},
+    {"receive-clean", LINE, receive_clean}, {"receive-small", LINE, receive_small}, {"receive-noise", LINE, receive_noise},
+    {"receive-starts", LINE, receive_starts}, {"receive-bytes", 0, receive_bytes}};
 
 int main(void) {
     char line[256], name[64];

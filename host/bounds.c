@@ -1,6 +1,6 @@
 /* What pomarisco.h says at its edges, from C: nothing lent as NULL, memory at any address up to the end of a page, a stack of POMARISCO_STACK
- * bytes, any content of the outstation, two threads, and that the functions on an outstation do what the exported calls do. Ends with
- * `N passed, M failed`. */
+ * bytes, any content of the outstation and of the receiver, a line cut into any pieces, two threads, and that the functions on an outstation do
+ * what the exported calls do. Ends with `N passed, M failed`. */
 #define _GNU_SOURCE
 #include <pthread.h>
 #include <stdio.h>
@@ -30,6 +30,7 @@ static struct pomarisco_analog_setup analogs[POMARISCO_ANALOGS];
 static struct pomarisco_outstation full;
 static struct pomarisco_reading table[TABLE];
 static const uint8_t events[] = {0xC3, 0x01, 60, 2, 6, 60, 3, 6, 60, 4, 6, 60, 1, 6};
+static uint8_t longest_frame[POMARISCO_FRAME];
 static const uint8_t operate[] = {0xC4, 5, 12, 1, 0x17, 1, 5, 3, 1, 0, 0, 0, 0, 0, 0, 0, 0, 0};
 
 /* The same numbers throughout: the bytes between a struct's fields are nobody's. */
@@ -52,6 +53,8 @@ static int prepare(void) {
         classes[i] = (uint8_t)(1 + i % 3);
         analogs[i] = i % 3 == 0 ? pomarisco_point_32(1, POMARISCO_SUMMED, 5) : i % 3 == 1 ? pomarisco_point_16(1, POMARISCO_SUMMED, 5) : pomarisco_point_float(1, 2.5f, 0.25f, POMARISCO_SUMMED, 1.5f);
     }
+    static const uint8_t user[POMARISCO_USER] = {0xC0, 0xC1, 0x17};
+    if (pomarisco_frame_write(longest_frame, sizeof longest_frame, 0xC4, 1, 2, user, sizeof user).size != POMARISCO_FRAME) return 0;
     if (pomarisco_restart(&full, setup, classes, 64, analogs, 64) != 0) return 0;
     for (int round = 0; round < 6; round++) {
         size_t taken;
@@ -72,6 +75,7 @@ static void null_pointers(void) {
     static struct pomarisco_outstation s, empty;
     struct pomarisco_crobs operated;
     struct pomarisco_line line = {0};
+    struct pomarisco_receiver receiver = {0}, begun = {0};
     struct pomarisco_assembly assembly = {0};
     struct pomarisco_sender sender = {0};
     size_t taken = 7;
@@ -87,6 +91,17 @@ static void null_pointers(void) {
     expect(pomarisco_table(&s, NULL, 0, &taken) == 0 && taken == 0, "table: NULL for the readings");
     expect(pomarisco_link_receive_at(&line, station, NULL, 0, NULL, 0).refusal == 33 && line.short_frame == 0, "link_receive: NULL twice");
     expect(pomarisco_link_receive_at(&line, station, NULL, 0, out, sizeof out).refusal == 11 && line.short_frame == 1, "link_receive: NULL for the bytes");
+    struct pomarisco_piece p = pomarisco_piece_receive_at(&receiver, NULL, 0, NULL, 0);
+    expect(p.frame.refusal == 33 && p.taken == 0 && p.kept == 0 && p.waits == 0, "piece_receive: NULL twice");
+    p = pomarisco_piece_receive_at(&receiver, NULL, 0, out, sizeof out);
+    expect(p.frame.refusal == 0 && p.taken == 0 && p.kept == 0 && p.waits == 1 && p.frame.length == 0, "piece_receive: NULL for the piece");
+    p = pomarisco_piece_receive_at(&begun, longest_frame, 12, out, sizeof out);
+    receiver = begun;
+    expect(p.waits == 1 && p.taken == 12 && begun.kept == 12, "piece_receive: a frame's beginning");
+    p = pomarisco_piece_receive_at(&begun, longest_frame + 12, 280, NULL, 0);
+    expect(p.frame.refusal == 33 && p.taken == 0 && p.kept == 12 && begun.kept == 12 && memcmp(begun.bytes, receiver.bytes, sizeof begun.bytes) == 0, "piece_receive: NULL for the user data");
+    p = pomarisco_piece_receive_at(&begun, NULL, 0, out, sizeof out);
+    expect(p.waits == 1 && p.taken == 0 && p.kept == 12 && memcmp(begun.bytes, longest_frame, 12) == 0, "piece_receive: NULL for the piece, 12 bytes kept");
     expect(pomarisco_segment_receive_at(&assembly, NULL, 0, NULL, 0).refusal == 33, "segment_receive: NULL twice");
     expect(pomarisco_segment_receive_at(&assembly, NULL, 0, out, sizeof out).refusal == 21, "segment_receive: NULL for the segment");
     expect(pomarisco_segment_send_at(&sender, NULL, 0, NULL, 0).refusal == 33, "segment_send: NULL twice");
@@ -102,7 +117,7 @@ static void null_pointers(void) {
 /* The same results at eight addresses in a row. All that is lent ends where a page begins that may not be touched. */
 static void addresses(void) {
     static uint8_t first[3][POMARISCO_FRAGMENT];
-    uint8_t *room = at_end(4 * PAGE) + 4 * PAGE, *input = at_end(4 * PAGE) + 4 * PAGE;
+    uint8_t *room = at_end(4 * PAGE) + 4 * PAGE, *input = at_end(4 * PAGE) + 4 * PAGE, *kept_at = at_end(PAGE) + PAGE;
     struct pomarisco_outstation *s = (struct pomarisco_outstation *)at_end(sizeof *s);
     struct pomarisco_reading *readings = (struct pomarisco_reading *)at_end(sizeof table);
     int same = 1;
@@ -136,6 +151,14 @@ static void addresses(void) {
         same &= t.kind == 0 && t.length == POMARISCO_USER && line.accepted == 1;
         if (shift == 0) memcpy(first[2], data, t.length);
         same &= memcmp(first[2], data, t.length) == 0;
+
+        /* In two pieces, cut in another place each time. */
+        uint8_t *memory = kept_at - POMARISCO_FRAME - shift;
+        memset(data, 0x5C, POMARISCO_USER);
+        struct pomarisco_piece p = pomarisco_piece_receive(memory, 0, bytes, 100 + shift, data, POMARISCO_USER + shift);
+        same &= p.waits == 1 && p.taken == 100 + shift && p.kept == 100 + shift && memcmp(memory, bytes, p.kept) == 0 && data[0] == 0x5C;
+        p = pomarisco_piece_receive(memory, p.kept, bytes + p.taken, POMARISCO_FRAME - p.taken, data, POMARISCO_USER + shift);
+        same &= p.waits == 0 && p.taken == POMARISCO_FRAME - 100 - shift && p.kept == 0 && p.frame.refusal == 0 && p.frame.length == POMARISCO_USER && memcmp(first[2], data, p.frame.length) == 0;
 
         memcpy(user, first[2], POMARISCO_USER);
         user[0] = 0xC0;
@@ -236,6 +259,119 @@ static void any_content(void) {
     expect(good && answered > 100, "any content of the outstation");
 }
 
+/* ---- the receiver */
+
+/* A byte at a time by the single-frame rule, 11 being more to come. */
+static struct pomarisco_piece by_frame_read(uint8_t *memory, size_t kept, const uint8_t *piece, size_t n, uint8_t *out, size_t length) {
+    uint8_t user[POMARISCO_USER];
+    struct pomarisco_piece p = {.kept = kept, .frame = {.refusal = 33}};
+    if (length < POMARISCO_USER) return p;
+    p.kept = kept < POMARISCO_FRAME ? kept : POMARISCO_FRAME;
+    if (pomarisco_frame_read(memory, p.kept, user, sizeof user).refusal != 11) p.kept = 0;
+    while (p.taken < n) {
+        memory[p.kept++] = piece[p.taken++];
+        p.frame = pomarisco_frame_read(memory, p.kept, user, sizeof user);
+        if (p.frame.refusal == 11) continue;
+        if (p.frame.refusal == 0) memcpy(out, user, p.frame.length);
+        p.kept = p.frame.refusal >= 12 && p.frame.refusal <= 14 ? p.kept - 1 : 0;
+        memmove(memory, memory + 1, p.kept);
+        return p;
+    }
+    memset(&p.frame, 0, sizeof p.frame);
+    p.waits = 1;
+    return p;
+}
+
+static int same_frame(const struct pomarisco_frame *a, const struct pomarisco_frame *b) {
+    return a->length == b->length && a->destination == b->destination && a->source == b->source && a->control == b->control && a->refusal == b->refusal && a->block == b->block;
+}
+
+/* A frame of up to 250 bytes, one bit in ten of them turned, and up to 11 bytes of noise that may look like a start. Sometimes a header with a right
+ * check and a length byte under 5: a block of a frame is sealed as a header is. */
+static size_t some_line(uint8_t *to) {
+    uint8_t user[POMARISCO_USER] = {0x05, 0x64, (uint8_t)(any() % 5)}, frame[POMARISCO_FRAME];
+    if (any() % 20 == 0) {
+        pomarisco_frame_write(frame, sizeof frame, 0xC4, 1, 2, user, 8);
+        memcpy(to, frame + 10, 10);
+        return 10;
+    }
+    static const uint8_t likely[] = {0x05, 0x64, 0x05, 0x64, 0x00, 0xFF};
+    const size_t n = any() % 3 == 0 ? any() % (POMARISCO_USER + 1) : any() % 20, noise = any() % 2 == 0 ? any() % 12 : 0;
+    for (size_t i = 0; i < n; i++) user[i] = (uint8_t)any();
+    const size_t size = pomarisco_frame_write(frame, sizeof frame, (uint8_t)any(), (uint16_t)any(), (uint16_t)any(), user, n).size;
+    if (any() % 10 == 0) frame[any() % size] ^= (uint8_t)(1u << any() % 8);
+    memcpy(to, frame, size);
+    for (size_t i = 0; i < noise; i++) to[size + i] = likely[any() % sizeof likely];
+    return size + noise;
+}
+
+/* Any memory and any count, any piece, any length lent: as the single-frame rule says. The memory, the piece and what is lent end where a page begins. */
+static void any_receiver(void) {
+    enum { LENT = 300, PIECE = 700 };
+    static uint8_t line[2 * PIECE], memory_too[POMARISCO_FRAME + PIECE], out_too[LENT], before[POMARISCO_FRAME];
+    uint8_t *memory = at_end(POMARISCO_FRAME), *pieces = at_end(PIECE) + PIECE, *lent = at_end(LENT) + LENT;
+    int good = 1, frames = 0, waits = 0, lent_less = 0, refusals[4] = {0};
+    for (int round = 0; round < 40000; round++) {
+        for (size_t i = 0; i < POMARISCO_FRAME; i++) memory[i] = (uint8_t)any();
+        size_t n = some_line(line);
+        n += some_line(line + n);
+        /* A frame's beginning is kept, and what comes goes on with it; or anything. */
+        const size_t begun = any() % (POMARISCO_FRAME < n ? POMARISCO_FRAME : n);
+        size_t kept = begun;
+        if (round % 4 != 0) memcpy(memory, line, begun);
+        if (round % 8 == 1 || round % 8 == 5) kept = (size_t)any() >> any() % 64;
+        if (n - begun > PIECE) n = begun + PIECE;
+        const size_t given = round % 16 == 2 ? 0 : n - begun, length = round % 8 == 3 || round % 8 == 5 ? any() % LENT : POMARISCO_USER + any() % 3;
+        uint8_t *piece = pieces - given, *out = lent - length;
+        memcpy(piece, line + begun, given);
+        memset(out, 0x5C, length);
+        memset(out_too, 0x5C, length);
+        memcpy(before, memory, sizeof before);
+        memcpy(memory_too, memory, POMARISCO_FRAME);
+        const struct pomarisco_piece p = pomarisco_piece_receive(memory, kept, piece, given, out, length), q = by_frame_read(memory_too, kept, piece, given, out_too, length);
+        good &= p.taken == q.taken && p.kept == q.kept && p.waits == q.waits && same_frame(&p.frame, &q.frame) && memcmp(out, out_too, length) == 0;
+        good &= p.frame.refusal == 33 ? memcmp(memory, before, sizeof before) == 0 : p.kept < POMARISCO_FRAME && memcmp(memory, memory_too, p.kept) == 0;
+        frames += !p.waits && p.frame.refusal == 0;
+        waits += p.waits;
+        if (p.frame.refusal >= 12 && p.frame.refusal <= 15) refusals[p.frame.refusal - 12]++;
+        lent_less += p.frame.refusal == 33;
+    }
+    expect(good, "any content of the receiver");
+    expect(frames > 1000 && waits > 1000 && lent_less > 1000 && refusals[0] > 1000 && refusals[1] > 100 && refusals[2] > 100 && refusals[3] > 100, "any content of the receiver: each outcome reached");
+}
+
+/* What the receiver told of a line cut into pieces of 1 to `most` bytes, 0 for the whole line, and its end state, in one number. */
+static uint64_t told(const uint8_t *line, size_t n, size_t most) {
+    struct pomarisco_receiver receiver = {0};
+    uint8_t user[POMARISCO_USER];
+    uint64_t sum = 1;
+    for (size_t at = 0; at < n;) {
+        const size_t some = most == 0 ? n : 1 + any() % most, end = at + some < n ? at + some : n;
+        while (at < end) {
+            const struct pomarisco_piece p = pomarisco_piece_receive_at(&receiver, line + at, end - at, user, sizeof user);
+            at += p.taken;
+            if (p.waits) continue;
+            sum = sum * 31 + p.frame.refusal;
+            sum = sum * 31 + (p.frame.block | (uint64_t)p.frame.control << 8 | (uint64_t)p.frame.destination << 16 | (uint64_t)p.frame.source << 32);
+            for (size_t i = 0; i < p.frame.length; i++) sum = sum * 31 + user[i];
+        }
+    }
+    for (size_t i = 0; i < receiver.kept; i++) sum = sum * 31 + receiver.bytes[i];
+    return sum * 31 + receiver.kept;
+}
+
+static void cuts(void) {
+    static uint8_t line[64 * (POMARISCO_FRAME + 12)];
+    int same = 1;
+    for (int round = 0; round < 100; round++) {
+        size_t n = 0;
+        for (int i = 0; i < 40; i++) n += some_line(line + n);
+        const uint64_t whole = told(line, n, 0);
+        same &= whole == told(line, n, 1) && whole == told(line, n, 20) && whole == told(line, n, 600);
+    }
+    expect(same, "a line cut into any pieces is told the same");
+}
+
 /* ---- two threads, each with its own */
 
 static void *many_calls(void *where) {
@@ -267,10 +403,11 @@ static int deep_good;
 static void deep(void) {
     static uint8_t out[POMARISCO_FRAGMENT];
     static struct pomarisco_outstation s;
+    static struct pomarisco_receiver receiver;
     struct pomarisco_crobs operated;
     size_t taken;
     s = full;
-    deep_good = pomarisco_table(&s, table, TABLE, &taken) == 0 && pomarisco_reading(&s, table[3]) == 0 && pomarisco_fragment(&s, 4000, events, sizeof events, out, sizeof out, &operated).kind == 0 && pomarisco_fragment(&s, 4000, operate, sizeof operate, out, sizeof out, &operated).kind == 0 && pomarisco_restart(&s, setup, classes, 64, analogs, 64) == 0;
+    deep_good = pomarisco_piece_receive_at(&receiver, longest_frame, sizeof longest_frame, out, sizeof out).frame.length == POMARISCO_USER && pomarisco_table(&s, table, TABLE, &taken) == 0 && pomarisco_reading(&s, table[3]) == 0 && pomarisco_fragment(&s, 4000, events, sizeof events, out, sizeof out, &operated).kind == 0 && pomarisco_fragment(&s, 4000, operate, sizeof operate, out, sizeof out, &operated).kind == 0 && pomarisco_restart(&s, setup, classes, 64, analogs, 64) == 0;
 }
 
 /* Just so much, with a page below that may not be touched: a deeper call would end the program by a signal. */
@@ -293,6 +430,8 @@ int main(void) {
     in_place();
     refused_setups();
     any_content();
+    any_receiver();
+    cuts();
     threads();
     stack();
     printf("%d passed, %d failed\n", passed, failed);

@@ -21,7 +21,7 @@ enum { LINE = 65536, LENT = 65536, FILL = 0xA5, MOST = 64, WORDS = 8 + MOST + MO
 
 /* ---- places */
 
-enum place { GIVEN, OUTPUT, CLASSES, SETUPS, READINGS, EVENTS, BINARIES, ANALOGS, REQUEST, ANSWER, OBJECTS, PLACES };
+enum place { GIVEN, OUTPUT, CLASSES, SETUPS, READINGS, EVENTS, BINARIES, ANALOGS, REQUEST, ANSWER, OBJECTS, KEPT, PLACES };
 
 /* Memory for so many bytes, until the next for the same use. Aligned for what is kept there: sizes are whole structs. */
 static void *place(enum place which, size_t n) {
@@ -61,6 +61,7 @@ static struct pomarisco_analog_setup setups[256];
 static struct pomarisco_station addresses;
 static struct pomarisco_outstation outstation;
 static struct pomarisco_line line_record;
+static struct pomarisco_receiver receiver;
 static struct pomarisco_assembly assembly;
 static struct pomarisco_sender sender;
 static uint8_t together[LENT];
@@ -116,6 +117,14 @@ static struct pomarisco_fragment_answer take_fragment(uint64_t time, const uint8
     return a.answer;
 }
 
+static struct pomarisco_piece take_piece(const uint8_t *piece, size_t size, uint8_t *out, size_t length) {
+    uint8_t *memory = copied(KEPT, receiver.bytes, sizeof receiver.bytes);
+    const struct pomarisco_piece p = pomarisco_piece_receive(memory, receiver.kept, piece, size, out, length);
+    memcpy(receiver.bytes, memory, sizeof receiver.bytes);
+    receiver.kept = p.kept;
+    return p;
+}
+
 static const struct pomarisco_outstation *seen(void) {
     memcpy(outstation.events, events, sizeof outstation.events);
     return &outstation;
@@ -133,6 +142,10 @@ static uint8_t take_table(const struct pomarisco_reading *readings, size_t n, si
 
 static struct pomarisco_fragment_answer take_fragment(uint64_t time, const uint8_t *bytes, size_t size, uint8_t *out, size_t length, struct pomarisco_crobs *operated) {
     return pomarisco_fragment(&outstation, time, bytes, size, out, length, operated);
+}
+
+static struct pomarisco_piece take_piece(const uint8_t *piece, size_t size, uint8_t *out, size_t length) {
+    return pomarisco_piece_receive_at(&receiver, piece, size, out, length);
 }
 
 static const struct pomarisco_outstation *seen(void) { return &outstation; }
@@ -256,6 +269,13 @@ static bool none(void) {
 
 /* ---- setup */
 
+/* What a restart forgets beside the outstation; the line record stays. */
+static void forget_line(void) {
+    memset(&receiver, 0, sizeof receiver);
+    memset(&assembly, 0, sizeof assembly);
+    memset(&sender, 0, sizeof sender);
+}
+
 static bool whole_limit(struct word w, uint32_t *limit, bool *fits) {
     bool minus;
     uint64_t n;
@@ -310,8 +330,7 @@ static bool call_setup(const struct word *w, size_t n) {
     memcpy(classes, cs, b);
     memcpy(setups, as, a * sizeof *as);
     memset(together, FILL, sizeof together);
-    memset(&assembly, 0, sizeof assembly);
-    memset(&sender, 0, sizeof sender);
+    forget_line();
     forget();
     const uint8_t refusal = fits ? restart() : 5;
     there = refusal == 0;
@@ -528,18 +547,34 @@ static bool call_frame_write(const struct word *w, size_t n) {
     return true;
 }
 
+static void put_frame(const struct pomarisco_frame *f) {
+    if (f->refusal != 0) {
+        put_frame_refusal(f->refusal, f->block);
+    } else {
+        printf("user %02X %u %u ", f->control, f->destination, f->source);
+        put_hex(lent, f->length);
+    }
+}
+
 static bool call_frame_read(const struct word *w, size_t n) {
     size_t len, size;
     if (n != 3 || !length(w[1], &len) || !hex(w[2], given, &size)) return false;
     lend(len);
     const struct pomarisco_frame f = pomarisco_frame_read(give(size), size, lent, len);
-    if (f.refusal != 0) {
-        put_frame_refusal(f.refusal, f.block);
-    } else {
-        printf("user %02X %u %u ", f.control, f.destination, f.source);
-        put_hex(lent, f.length);
-    }
+    put_frame(&f);
     spoilt(f.refusal == 0 ? f.length : 0, len);
+    return true;
+}
+
+static bool call_piece(const struct word *w, size_t n) {
+    size_t len, size;
+    if (n != 3 || !length(w[1], &len) || !hex(w[2], given, &size)) return false;
+    lend(len);
+    const struct pomarisco_piece p = take_piece(give(size), size, lent, len);
+    if (p.waits) fputs("waits", stdout);
+    else put_frame(&p.frame);
+    printf(" taken %zu", p.taken);
+    spoilt(p.frame.refusal == 0 ? p.frame.length : 0, len);
     return true;
 }
 
@@ -569,8 +604,7 @@ static bool call(struct word line) {
         if (n != 1) return false;
         if (none()) return true;
         outcome(restart());
-        memset(&assembly, 0, sizeof assembly);
-        memset(&sender, 0, sizeof sender);
+        forget_line();
         return true;
     }
     if (is(w[0], "bin")) return call_reading('b', w, n);
@@ -585,6 +619,7 @@ static bool call(struct word line) {
     if (is(w[0], "send")) return call_send(w, n);
     if (is(w[0], "frame-write")) return call_frame_write(w, n);
     if (is(w[0], "frame-read")) return call_frame_read(w, n);
+    if (is(w[0], "piece")) return call_piece(w, n);
     if (is(w[0], "crc")) return call_crc(w, n);
     return false;
 }

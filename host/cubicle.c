@@ -1,22 +1,24 @@
-/* A cubicle as firmware would have it: link frames from the master on standard input (raw bytes), link frames to the master on
- * standard output, nothing else on either. On standard error, at the end, the line record.
+/* A cubicle as firmware would have it: raw bytes from the master on standard input, in pieces as they come, link frames to the master on
+ * standard output, nothing else on either. On standard error, at the end, the line record, then what the receiver refused.
  *
  * The cubicle is simulated. Feeder i (0 to 3) is worked by control output i; breaker i (binary input i) follows it and is read back
  * with the next readings. Codes 01, 03 and 41 close it, 04 and 81 open it. Analog inputs 0 and 1 are the voltages of feeders 0 and 1 (float, in
  * kV by the scale), 2 that of feeder 2 (32-bit), 3 that of feeder 3 (16-bit): about 25,000 V, drifting, 0 while open.
  * The clock is simulated too: every frame with good checks moves it on by STEP ms, and all inputs are then read at that time.
  *
- * Each frame goes the whole way: link_receive, segment_receive, the readings (one table), fragment, the feeders, then segment_send and link_data.
- * Bytes that begin no good frame (refusals 11 to 15) are skipped up to the next start bytes, and counted once.
+ * The receiver finds the frames in what comes (piece_receive); the rest of a piece is given again. Each frame then goes the whole way: link_receive,
+ * segment_receive, the readings (one table), fragment, the feeders, then segment_send and link_data. The link takes a frame's bytes: the frame
+ * is written again, to the same bytes. The line record has what the link took and refused; the receiver's refusals (12 to 15) are counted here.
  *
  * Stack: POMARISCO_STACK. The state below is all there is. */
+#define _POSIX_C_SOURCE 200809L
 #include <stdbool.h>
 #include <stdio.h>
-#include <string.h>
+#include <unistd.h>
 
 #include "pomarisco.h"
 
-enum { OWN = 1, MASTER = 2, FEEDERS = 4, STEP = 100, ONLINE = 1 };
+enum { OWN = 1, MASTER = 2, FEEDERS = 4, STEP = 100, ONLINE = 1, PIECE = 1024 };
 
 static const struct pomarisco_setup setup = {.arm_time = 300, .confirm_time = 400, .own = OWN, .master = MASTER, .outputs = FEEDERS};
 static const struct pomarisco_station station = {.own = OWN, .master = MASTER};
@@ -24,11 +26,12 @@ static const uint8_t classes[FEEDERS] = {1, 1, 1, 2};
 
 static struct pomarisco_outstation outstation;
 static struct pomarisco_line line;
+static struct pomarisco_receiver receiver;
 static struct pomarisco_assembly assembly;
 static struct pomarisco_sender sender;
 static uint8_t fragment[POMARISCO_FRAGMENT];
 static uint64_t clock_ms;
-static bool hunting; /* bytes are skipped up to the next 05 64 */
+static unsigned long off_the_wire[4]; /* refusals 12, 13, 14, 15 of the receiver */
 static bool closed[FEEDERS] = {true, true, true, true};
 
 /* ---- the simulated cubicle */
@@ -96,46 +99,38 @@ static void take_segment(const uint8_t *bytes, size_t length) {
     if (a.kind == 0) send_fragment(answer, a.length);
 }
 
-/* Takes the frame at the front of the bytes; gives how many bytes are done with. */
-static size_t take_frame(const uint8_t *bytes, size_t length) {
+/* A frame that the receiver delivered. */
+static void take_frame(const struct pomarisco_frame *f, const uint8_t *bytes) {
     uint8_t user[POMARISCO_USER], frame[POMARISCO_FRAME];
-    const struct pomarisco_taken t = pomarisco_link_receive_at(&line, station, bytes, length, user, sizeof user);
-    hunting = t.refusal >= 11 && t.refusal <= 15;
-    if (hunting) return 1;
+    const struct pomarisco_wrote w = pomarisco_frame_write(frame, sizeof frame, f->control, f->destination, f->source, bytes, f->length);
+    const struct pomarisco_taken t = pomarisco_link_receive_at(&line, station, frame, w.size, user, sizeof user);
     clock_ms += STEP;
-    if (!read_inputs()) return length;
+    if (!read_inputs()) return;
     if (t.kind == 0) take_segment(user, t.length);
     if (t.kind == 1) put(frame, pomarisco_link_reply(frame, sizeof frame, station, t.control));
-    const size_t n = (size_t)bytes[2] - 5;
-    return 10 + n + 2 * ((n + 15) / 16);
+}
+
+/* A piece off the wire: what a call leaves of it is given again. */
+static void take_piece(const uint8_t *piece, size_t length) {
+    uint8_t user[POMARISCO_USER];
+    for (size_t at = 0; at < length;) {
+        const struct pomarisco_piece p = pomarisco_piece_receive_at(&receiver, piece + at, length - at, user, sizeof user);
+        at += p.taken;
+        if (p.waits) continue;
+        if (p.frame.refusal == 0) take_frame(&p.frame, user);
+        else off_the_wire[p.frame.refusal - 12]++;
+    }
 }
 
 int main(void) {
-    uint8_t bytes[POMARISCO_FRAME], user[POMARISCO_USER];
-    size_t length = 0;
-    bool ended = false;
+    uint8_t piece[PIECE];
+    ssize_t length;
     if (!restart()) return 1;
-    for (;;) {
-        if (hunting && length > 0 && !(bytes[0] == 0x05 && (length == 1 || bytes[1] == 0x64))) {
-            memmove(bytes, bytes + 1, --length);
-            continue;
-        }
-        if (length >= 2) hunting = false;
-        /* Reading a frame says whether more bytes are wanted; unlike link_receive it counts nothing. */
-        const bool wanted = hunting ? length < 2 : pomarisco_frame_read(bytes, length, user, sizeof user).refusal == 11;
-        if (wanted && !ended) {
-            const int c = getchar();
-            if (c == EOF) ended = true;
-            else bytes[length++] = (uint8_t)c;
-            continue;
-        }
-        if (length == 0) break;
-        const size_t done = take_frame(bytes, length);
-        length -= done;
-        memmove(bytes, bytes + done, length);
-    }
+    while ((length = read(STDIN_FILENO, piece, sizeof piece)) > 0) take_piece(piece, (size_t)length);
     fprintf(stderr, "rec %u,%u,%u,%u,%u,%u,%u", line.accepted, line.short_frame, line.start, line.header_check, line.length, line.block_check, line.not_taken);
     for (size_t k = 0; k < POMARISCO_BLOCKS; k++) fprintf(stderr, ",%u", line.blocks[k]);
+    fputs("\noff the wire", stderr);
+    for (int i = 0; i < 4; i++) fprintf(stderr, " %d:%lu", 12 + i, off_the_wire[i]);
     fputc('\n', stderr);
-    return 0;
+    return length < 0;
 }

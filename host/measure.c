@@ -19,6 +19,7 @@ static struct pomarisco_outstation outstation, full;
 static struct pomarisco_reading table[128];
 static struct pomarisco_crobs operated;
 static struct pomarisco_line line_record;
+static struct pomarisco_receiver receiver;
 static struct pomarisco_assembly assembly;
 static struct pomarisco_sender sender;
 static struct pomarisco_fragment_answer answer;
@@ -120,6 +121,11 @@ static void fill(void) {
     }
     frame_size = pomarisco_frame_write(frame, sizeof frame, 0xC4, 1, 2, user, sizeof user).size;
     expect(frame_size == 292, "frame");
+    struct pomarisco_piece p = pomarisco_piece_receive_at(&receiver, frame, 100, out, sizeof out);
+    expect(p.waits == 1 && p.taken == 100 && p.kept == 100 && p.frame.length == 0 && receiver.kept == 100 && memcmp(receiver.bytes, frame, 100) == 0, "a receiver that waits");
+    p = pomarisco_piece_receive_at(&receiver, frame + 100, 192, out, sizeof out);
+    expect(p.waits == 0 && p.taken == 192 && p.kept == 0 && receiver.kept == 0, "a receiver that delivers");
+    expect(p.frame.length == 250 && p.frame.control == 0xC4 && p.frame.destination == 1 && p.frame.source == 2 && p.frame.refusal == 0 && p.frame.block == 0, "a frame received");
 }
 
 static void fragment_call(const uint8_t *f, size_t n) { answer = pomarisco_fragment(&outstation, 20700, f, n, out, sizeof out, &operated); }
@@ -139,6 +145,10 @@ static void longest_request(void) { fragment_call(longest, sizeof longest); }
 static void confirm(void) { fragment_call((const uint8_t[]){0xC3, 0}, 2); }
 static void frame_write(void) { refusal = pomarisco_frame_write(frame, sizeof frame, 0xC4, 1, 2, user, sizeof user).refusal; }
 static void frame_read(void) { refusal = pomarisco_frame_read(frame, frame_size, out, sizeof out).refusal; }
+static void receive(const uint8_t *piece, size_t n) { refusal = pomarisco_piece_receive_at(&receiver, piece, n, out, sizeof out).frame.refusal; }
+static void piece_receive(void) { receive(frame, frame_size); }
+static void second_half(void) { receive(frame + frame_size / 2, frame_size - frame_size / 2); }
+static void one_byte(void) { receive(frame + frame_size / 2, 1); }
 static void link_receive(void) { refusal = pomarisco_link_receive_at(&line_record, station, frame, frame_size, out, sizeof out).refusal; }
 static void link_reply(void) { refusal = pomarisco_link_reply(frame, sizeof frame, station, 0).refusal; }
 static void link_data(void) { refusal = pomarisco_link_data(frame, sizeof frame, station, user, sizeof user).refusal; }
@@ -160,6 +170,13 @@ static void operate_selected(void) {
 }
 
 static void as_full(void) { outstation = full; }
+
+static void nothing_kept(void) { receiver.kept = 0; }
+
+static void half_kept(void) {
+    nothing_kept();
+    receive(frame, frame_size / 2);
+}
 
 /* The call is all that runs on this stack: what is no longer painted it used, with the caller's arguments and result. */
 static size_t stack_of(void (*call)(void)) {
@@ -202,7 +219,8 @@ int main(void) {
         {"fragment: CONFIRM", as_full, confirm}, {"fragment: SELECT of 1", as_full, select_one}, {"fragment: SELECT of 8", as_full, select_eight},
         {"fragment: SELECT repeated", after_select, select_one}, {"fragment: OPERATE", after_select, operate_selected},
         {"fragment: DIRECT OPERATE", as_full, control}, {"fragment: WRITE, 2048 bytes", as_full, longest_request}, {"frame_write", as_full, frame_write},
-        {"frame_read", as_full, frame_read}, {"link_receive", as_full, link_receive}, {"link_reply", as_full, link_reply}, {"link_data", as_full, link_data},
+        {"frame_read", as_full, frame_read}, {"piece_receive, a frame", nothing_kept, piece_receive}, {"piece_receive, its 2nd half", half_kept, second_half},
+        {"piece_receive, a byte of it", half_kept, one_byte}, {"link_receive", as_full, link_receive}, {"link_reply", as_full, link_reply}, {"link_data", as_full, link_data},
         {"segment_receive", as_full, segment_receive}, {"segment_send", as_full, segment_send}};
     prepare();
     layout();

@@ -1,7 +1,7 @@
 /* Random calls in one long run over the exported calls, every array that is lent in a heap block of its exact size: for sanitizers and valgrind.
  * `stress SEED N` prints, every 100,000 calls, a number into which the answer, every lent byte and the head after each call are folded, and every
  * 1,000 calls the whole state; then how many calls came to what. `pair --stress SEED N` (host/rust) prints the same from the second program.
- * Frames to be read are frames that were written, changed or not.
+ * Frames to be read are frames that were written, changed or not; pieces off the wire are cut from them, with noise between.
  *
  * host/rust/src/stress.rs makes the same calls in the same order. Who changes one changes the other. */
 #include <inttypes.h>
@@ -212,7 +212,7 @@ static void fold_arrays(const struct pomarisco_head *h) {
 
 /* ---- a call and what it comes to */
 
-enum kind { RESTART, READING, TABLE, FRAGMENT, FRAME_WRITE, LINK_DATA, LINK_REPLY, FRAME_READ, LINK_RECEIVE, SEGMENT, SEND };
+enum kind { RESTART, READING, TABLE, FRAGMENT, FRAME_WRITE, LINK_DATA, LINK_REPLY, FRAME_READ, LINK_RECEIVE, SEGMENT, SEND, PIECE };
 
 static struct {
     enum kind kind;
@@ -231,15 +231,19 @@ static struct {
 static struct {
     uint8_t refusal, kind;
     size_t taken, length;
-    uint64_t more; /* the sum of the other numbers: of a frame read, a line record, an assembly, segments sent */
+    uint64_t more; /* the sum of the other numbers: of a frame read, a line record, an assembly, segments sent, bytes kept */
     struct pomarisco_crobs operated;
 } result;
 
-/* The line's state. */
+/* The line's state. The receiver's memory is in a block of its own. */
 static struct pomarisco_station station;
 static struct pomarisco_line line;
+static uint8_t *received;
+static size_t kept;
 static struct pomarisco_assembly assembly;
 static struct pomarisco_sender sender;
+
+static uint64_t frame_sum(const struct pomarisco_frame *f) { return f->control | (uint64_t)f->block << 8 | (uint64_t)f->destination << 16 | (uint64_t)f->source << 32; }
 
 /* The calls of frames, link and segments. */
 static void line_call(void) {
@@ -249,7 +253,15 @@ static void line_call(void) {
         const struct pomarisco_frame r = pomarisco_frame_read(bytes, n, to, lent);
         result.length = r.length;
         result.refusal = r.refusal;
-        result.more = r.control | (uint64_t)r.block << 8 | (uint64_t)r.destination << 16 | (uint64_t)r.source << 32;
+        result.more = frame_sum(&r);
+    } else if (call.kind == PIECE) {
+        const struct pomarisco_piece r = pomarisco_piece_receive(received, kept, bytes, n, to, lent);
+        kept = r.kept;
+        result.taken = r.taken;
+        result.length = r.frame.length;
+        result.refusal = r.frame.refusal;
+        result.kind = r.frame.refusal != 0 ? 2 : r.waits != 0;
+        result.more = folded_bytes(frame_sum(&r.frame), received, least(kept, POMARISCO_FRAME));
     } else if (call.kind == LINK_RECEIVE) {
         const struct pomarisco_taken r = pomarisco_link_receive(&line, station, bytes, n, to, lent);
         result.kind = r.kind;
@@ -303,6 +315,7 @@ static void make_call(void) {
         head = r.head;
         result.refusal = r.refusal;
         station = (struct pomarisco_station){call.setup.own, call.setup.master};
+        kept = 0;
         memset(&assembly, 0, sizeof assembly);
         memset(&sender, 0, sizeof sender);
         free(classes);
@@ -407,6 +420,10 @@ enum count {
     SEGMENT_REFUSED,
     SENT,
     SEND_REFUSED,
+    PIECE_FRAME,
+    PIECE_WAITS,
+    PIECE_REFUSED,
+    PIECE_LENT,
     COUNTS
 };
 
@@ -457,6 +474,10 @@ static const char *const names[COUNTS] = {
     "segment_receive refused",
     "fragment sent in segments",
     "segment_send refused",
+    "piece_receive: frame",
+    "piece_receive: waits",
+    "piece_receive refused",
+    "piece_receive refused 33",
 };
 
 static uint64_t counts[COUNTS];
@@ -488,6 +509,8 @@ static struct {
     size_t frame_length;
     int begun; /* a fragment is, and this sequence is next */
     uint8_t next_segment;
+    uint8_t wire[POMARISCO_FRAME + 20]; /* what is still to come off the wire */
+    size_t wire_length;
 } host = {.none = 1};
 
 #define FLOATS 0, 0x80000000, 0x3F800000, 0x3FC00000, 0x40000000, 0xBF800000, 0x42C80000, 0x7F7FFFFF, 0xFF7FFFFF, 0x00000001, 0x00800000, 0x3DCCCCCD
@@ -617,6 +640,7 @@ static void restarted(void) {
     host.selected = 0;
     host.request_length = 0;
     host.begun = 0;
+    host.wire_length = 0;
     host.filling = 0;
     host.overflow = 0;
     /* Mostly from 0; sometimes to the end of time. */
@@ -1100,14 +1124,44 @@ static void some_segment(void) {
     lend(ASSEMBLY, 30);
 }
 
+/* Noise that may look like a start, then the frame written last, changed or not. */
+static void line_comes(void) {
+    const uint32_t noise = chance(30) ? below(20) : 0;
+    for (uint32_t i = 0; i < noise; i++) {
+        const uint32_t other = below(256);
+        host.wire[i] = (uint8_t)PICK(0x05, 0x05, 0x64, 0x64, other);
+    }
+    memcpy(host.wire + noise, host.frame, host.frame_length);
+    host.wire_length = noise + host.frame_length;
+    if (host.frame_length > 0 && chance(25)) {
+        const uint32_t place = below((uint32_t)host.frame_length);
+        host.wire[noise + place] ^= (uint8_t)(1u << below(8));
+    }
+}
+
+static void some_piece(void) {
+    call.kind = PIECE;
+    if (host.wire_length == 0) {
+        line_comes();
+    }
+    const uint32_t length = (uint32_t)host.wire_length;
+    const uint32_t some = below(length + 1);
+    const uint32_t few = below(12);
+    const uint32_t size = PICK(length, length, some, few, 1);
+    put_bytes(host.wire, least(size, length));
+    lend(USER_OUT, 20);
+}
+
 static void some_line(void) {
-    const uint32_t which = below(10);
+    const uint32_t which = below(14);
     if (which < 3) {
         some_frame();
     } else if (which < 6) {
         same_frame();
     } else if (which < 9) {
         some_segment();
+    } else if (which < 13) {
+        some_piece();
     } else {
         call.kind = SEND;
         const uint32_t some = below(2049);
@@ -1132,6 +1186,11 @@ static void heard(void) {
         }
         break;
     case SEND: counts[refused ? SEND_REFUSED : SENT]++; break;
+    case PIECE:
+        counts[result.kind == 0 ? PIECE_FRAME : result.kind == 1 ? PIECE_WAITS : result.refusal == 33 ? PIECE_LENT : PIECE_REFUSED]++;
+        host.wire_length -= result.taken;
+        memmove(host.wire, host.wire + result.taken, host.wire_length);
+        break;
     default:
         if (refused) {
             counts[FRAME_REFUSED]++;
@@ -1217,6 +1276,7 @@ int main(int argc, char **argv) {
     request = memset(block(2048), FILL, 2048);
     answer = memset(block(113), FILL, 113);
     latch_objects = memset(block(109), FILL, 109);
+    received = memset(block(POMARISCO_FRAME), FILL, POMARISCO_FRAME);
     for (size_t i = 0; i < LENGTH(lengths); i++) {
         out[i] = memset(block(lengths[i]), FILL, lengths[i]);
     }
@@ -1243,6 +1303,7 @@ int main(int argc, char **argv) {
     free(request);
     free(answer);
     free(latch_objects);
+    free(received);
     for (size_t i = 0; i < LENGTH(lengths); i++) {
         free(out[i]);
     }

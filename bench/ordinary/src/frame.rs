@@ -11,7 +11,8 @@ pub enum FrameError {
     Start,
     HeaderCheck,
     Length,
-    BlockCheck,
+    /// The first wrong block.
+    BlockCheck(u8),
 }
 
 pub struct Frame {
@@ -112,6 +113,24 @@ fn seal_ok(s: &[u8], check: impl Fn(&[u8]) -> u16) -> bool {
     check(data).to_le_bytes() == seal
 }
 
+/// The size that a frame's header states.
+pub fn frame_size(s: &[u8], check: impl Fn(&[u8]) -> u16) -> Result<usize, FrameError> {
+    if s.len() < 10 {
+        return Err(FrameError::Short);
+    }
+    if s[..2] != [0x05, 0x64] {
+        return Err(FrameError::Start);
+    }
+    if !seal_ok(&s[..10], check) {
+        return Err(FrameError::HeaderCheck);
+    }
+    if s[2] < 5 {
+        return Err(FrameError::Length);
+    }
+    let len = s[2] as usize - 5;
+    Ok(10 + len + 2 * len.div_ceil(BLOCK))
+}
+
 pub fn read_frame(
     s: &[u8],
     out: &mut [u8],
@@ -120,27 +139,15 @@ pub fn read_frame(
     if out.len() < USER_MAX {
         return Err(FrameError::Lent);
     }
-    if s.len() < 10 {
-        return Err(FrameError::Short);
-    }
-    if s[..2] != [0x05, 0x64] {
-        return Err(FrameError::Start);
-    }
-    if !seal_ok(&s[..10], &check) {
-        return Err(FrameError::HeaderCheck);
-    }
-    if s[2] < 5 {
-        return Err(FrameError::Length);
-    }
-    let len = s[2] as usize - 5;
-    let size = 10 + len + 2 * len.div_ceil(BLOCK);
+    let size = frame_size(s, &check)?;
     if s.len() < size {
         return Err(FrameError::Short);
     }
     // All checks come before the first copy: a refusal leaves the lent bytes.
     let body = &s[10..size];
-    if !body.chunks(BLOCK + 2).all(|b| seal_ok(b, &check)) {
-        return Err(FrameError::BlockCheck);
+    let wrong = |b| !seal_ok(b, &check);
+    if let Some(first) = body.chunks(BLOCK + 2).position(wrong) {
+        return Err(FrameError::BlockCheck(first as u8));
     }
     let mut at = 0;
     for block in body.chunks(BLOCK + 2) {
@@ -152,6 +159,6 @@ pub fn read_frame(
         control: s[3],
         destination: u16::from_le_bytes([s[4], s[5]]),
         source: u16::from_le_bytes([s[6], s[7]]),
-        len,
+        len: at,
     })
 }

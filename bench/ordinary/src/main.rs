@@ -6,14 +6,17 @@ mod frame;
 mod outstation;
 mod points;
 mod read;
+mod receiver;
 
 use control::Operated;
 use events::{Buffer, Event, Shown};
+use frame::FrameError;
 use outstation::{Answer, FragmentError, Measured, Outstation, Reading};
 use points::{
     AnalogPoint, BinaryPoint, FloatTrack, Gate, Measure, Points, ReadingError, Scale, Value,
     WholeTrack,
 };
+use receiver::{Received, Receiver};
 
 const COUNT_MAX: u64 = 1_000_000_000_000;
 
@@ -419,7 +422,107 @@ fn table_128(count: u64) -> u64 {
     digest(sum, &o.buffer)
 }
 
-/// The largest number of points or held events of a work, 0 where it has no size.
+/// Bytes of a line off the wire.
+const LINE: usize = 16_384;
+
+/// xorshift64.
+struct Source(u64);
+
+impl Source {
+    fn new() -> Source {
+        Source(0x9E37_79B9_7F4A_7C15)
+    }
+
+    fn byte(&mut self) -> u8 {
+        self.0 ^= self.0 << 13;
+        self.0 ^= self.0 >> 7;
+        self.0 ^= self.0 << 17;
+        (self.0 >> 32) as u8
+    }
+}
+
+/// Frames back to back, each with as many user bytes as is said; the last one is cut.
+fn line_of_frames(mut user_len: impl FnMut(&mut Source) -> usize) -> Vec<u8> {
+    let (mut source, mut line) = (Source::new(), Vec::new());
+    let (mut user, mut one) = ([0u8; 250], [0u8; 292]);
+    while line.len() < LINE {
+        let n = user_len(&mut source);
+        user[..n].fill_with(|| source.byte());
+        if let Ok(size) = frame::write_frame(&mut one, 196, 10, 1, &user[..n], frame::check_table) {
+            line.extend_from_slice(&one[..size]);
+        }
+    }
+    line.truncate(LINE);
+    line
+}
+
+fn line_clean() -> Vec<u8> {
+    line_of_frames(|_| 250)
+}
+
+/// Frames of 10 to 40 bytes.
+fn line_small() -> Vec<u8> {
+    line_of_frames(|source| source.byte() as usize % 27)
+}
+
+fn line_noise() -> Vec<u8> {
+    let mut source = Source::new();
+    (0..LINE).map(|_| source.byte()).collect()
+}
+
+fn line_starts() -> Vec<u8> {
+    [0x05, 0x64].repeat(LINE / 2)
+}
+
+fn frame_refusal(e: FrameError) -> u64 {
+    match e {
+        FrameError::Short => 11,
+        FrameError::Start => 12,
+        FrameError::HeaderCheck => 13,
+        FrameError::Length => 14,
+        FrameError::BlockCheck(block) => 15 | (block as u64) << 8,
+        FrameError::TooLong => 16,
+        FrameError::Lent => 33,
+    }
+}
+
+/// What a call told, with all user bytes or one of them.
+fn fold_received(sum: u64, taken: usize, r: Received, out: &[u8], all: bool) -> u64 {
+    let sum = fold(sum, taken as u64);
+    match r {
+        Received::Waits => fold(sum, 1),
+        Received::Refused(e) => fold(sum, frame_refusal(e)),
+        Received::Frame(f) => {
+            let addresses = (f.destination as u64) << 8 | (f.source as u64) << 24;
+            let sum = fold(sum, f.control as u64 | addresses | (f.len as u64) << 40);
+            if all {
+                fold_all(sum, &out[..f.len])
+            } else {
+                fold(sum, out[(sum % 250) as usize] as u64)
+            }
+        }
+    }
+}
+
+/// The line in pieces of so many bytes, again and again; the first time all user bytes count.
+fn receive(count: u64, line: &[u8], piece_len: usize) -> u64 {
+    let mut out = [0u8; 250];
+    let mut sum = 1u64;
+    for left in (1..=count).rev() {
+        let mut receiver = Receiver::new();
+        for piece in line.chunks(piece_len.max(1)) {
+            let mut rest = piece;
+            while !rest.is_empty() {
+                let (taken, r) = receiver.receive(rest, &mut out);
+                sum = fold_received(sum, taken, r, &out, left == count);
+                rest = &rest[taken..];
+            }
+        }
+    }
+    fold_all(sum, &out)
+}
+
+/// The largest number of points or held events of a work, or of bytes of a piece; 0 where it has no size.
 fn most(name: &str) -> Option<usize> {
     Some(match name {
         "nothing" | "frame-write" | "frame-read" | "frame-write-table" | "frame-read-table" => 0,
@@ -429,7 +532,8 @@ fn most(name: &str) -> Option<usize> {
         "event-read" => 256,
         "confirm" => 226,
         "select" | "repeat" => 256,
-        "table-128" => 0,
+        "table-128" | "receive-bytes" => 0,
+        "receive-clean" | "receive-small" | "receive-noise" | "receive-starts" => LINE,
         _ => return None,
     })
 }
@@ -452,6 +556,11 @@ fn run(name: &str, count: u64, size: usize) -> Option<u64> {
         "select" => select(count, size),
         "repeat" => repeat(count, size),
         "table-128" => table_128(count),
+        "receive-clean" => receive(count, &line_clean(), size),
+        "receive-small" => receive(count, &line_small(), size),
+        "receive-noise" => receive(count, &line_noise(), size),
+        "receive-starts" => receive(count, &line_starts(), size),
+        "receive-bytes" => receive(count, &line_clean(), 1),
         _ => return None,
     })
 }

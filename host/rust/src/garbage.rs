@@ -2,11 +2,12 @@
 //! plain image of the same meaning.
 
 use reference::generate::Random;
+use reference::receiver;
 
 use crate::header::*;
 use crate::meaning::*;
 use crate::memory::Memory;
-use crate::pair::{Lent, Seen};
+use crate::pair::{keep, Lent, Seen};
 use crate::words::RECORD;
 
 fn same<T: Same>(what: &str, given: &T, plain: &T) -> Result<(), String> {
@@ -234,8 +235,72 @@ pub fn setup(live: &Outstation, memory: &mut Memory, random: &mut Random) -> Res
     Ok(())
 }
 
-/// The line's calls on random bytes, and on any assembly and sender.
-pub fn line(random: &mut Random) -> Result<(), String> {
+/// A receiver of random bytes, or one with a frame's beginning, whole or not; any count.
+fn any_receiver(random: &mut Random) -> Receiver {
+    let mut receiver = Receiver::random(random);
+    if random.chance(70) {
+        let n = random.pick(&[0, 1, 16, 17, 249, 250]);
+        let user = random.bytes(n);
+        let control = random.byte();
+        frame_write(&mut receiver.bytes, control, 1, 2, &user);
+    }
+    if random.chance(20) {
+        receiver.bytes[random.below(20)] ^= 1;
+    }
+    let counts = [random.below(20), count(FRAME, random), count(10, random)];
+    receiver.kept = random.pick(&counts);
+    receiver
+}
+
+/// A piece on any receiver: the same as on the plain one, and as the second program's, which was
+/// given what the plain one keeps.
+fn piece(memory: &mut Memory, random: &mut Random, seen: &mut Seen) -> Result<(), String> {
+    let given = any_receiver(random);
+    let whole = given.bytes;
+    let start = if random.chance(70) { kept(&given).len() } else { random.below(FRAME) };
+    let n = random.pick(&[0, 1, 2, 9, 10, 11, 300, 600]);
+    // What goes on with it, or a whole frame, or any bytes.
+    let mut bytes = if random.chance(70) { whole[start..].to_vec() } else { random.bytes(n) };
+    let after = random.below(12);
+    bytes.extend(random.bytes(after));
+    let len = random.pick(&[0, 1, 249, 250, 250, 250, 251, 2048]);
+    let mut lent = Lent::new(len, random);
+    let (mut left, mut plain_left) = (given, plain_receiver(&given));
+    let (before, mut bytes_kept) = (plain_left, kept(&given).to_vec());
+    let told = memory.piece(&mut left, &bytes, lent.library())?;
+    let expected = memory.piece(&mut plain_left, &bytes, lent.second())?;
+    lent.compare()?;
+    same("piece: taken", &told.taken, &expected.taken)?;
+    same("piece: waits", &told.waits, &expected.waits)?;
+    same("piece: frame", &told.frame, &expected.frame)?;
+    seen.note("garbage: piece with a frame", told.waits == 0 && told.frame.refusal == 0);
+    seen.note("garbage: piece refused", told.waits == 0 && told.frame.refusal != 0);
+    seen.note("garbage: a receiver that is read as empty", given.kept != 0 && before.kept == 0);
+    seen.note("garbage: a receiver that goes on", before.kept != 0);
+    if told.frame.refusal == 33 {
+        same("receiver of a refused piece", &left, &given)?;
+        return same("plain receiver of a refused piece", &plain_left, &before);
+    }
+    same("receiver", &plain_receiver(&left), &plain_receiver(&plain_left))?;
+
+    let mut second = receiver::Receiver::default();
+    let mut room = Lent::new(USER, random);
+    second.take(&bytes_kept, room.second());
+    let (taken, end) = second.take(&bytes, room.second());
+    let number = end.as_ref().map_or(0, |end| end.as_ref().map_or_else(|no| no.number(), |_| 0));
+    same("piece: taken", &told.taken, &taken)?;
+    same("piece: waits", &told.waits, &u8::from(end.is_none()))?;
+    same("piece: refusal", &told.frame.refusal, &number)?;
+    keep(&mut bytes_kept, &bytes[..taken], &end);
+    same("kept", &left.kept, &bytes_kept.len())?;
+    match left.bytes[..left.kept] == bytes_kept {
+        true => Ok(()),
+        false => Err("the bytes kept".into()),
+    }
+}
+
+/// The line's calls on random bytes, and on any receiver, assembly and sender.
+pub fn line(memory: &mut Memory, random: &mut Random, seen: &mut Seen) -> Result<(), String> {
     let n = random.pick(&[0, 1, 2, 9, 10, 30, 249, 250, 251, 292, 600, 2048, 2049]);
     let mut bytes = random.bytes(n);
     if bytes.len() > 2 && random.chance(50) {
@@ -254,6 +319,8 @@ pub fn line(random: &mut Random) -> Result<(), String> {
     if frame_read(&bytes, lent.library()).refusal != 0 {
         lent.compare()?;
     }
+
+    piece(memory, random, seen)?;
 
     let mut assembly = Assembly::random(random);
     assembly.length = count(2048, random);

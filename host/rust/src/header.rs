@@ -177,6 +177,8 @@ structs! {
         refusal: u8 = 13,
         block: u8 = 14,
     }
+    Receiver "receiver" 304 { kept: usize = 0, bytes: [u8; FRAME] = 8 }
+    Piece "piece" 40 { taken: usize = 0, kept: usize = 8, frame: Frame = 16, waits: u8 = 32 }
     Line "line" 46 {
         accepted: u16 = 0,
         short_frame: u16 = 2,
@@ -267,6 +269,14 @@ calls! {
         out: *mut u8,
         out_length: usize,
     ) -> Frame;
+    fn pomarisco_piece_receive(
+        memory: *mut u8,
+        kept: usize,
+        piece: *const u8,
+        piece_length: usize,
+        out: *mut u8,
+        out_length: usize,
+    ) -> Piece;
     fn pomarisco_link_receive(
         line: *mut Line,
         station: Station,
@@ -414,6 +424,13 @@ pub fn frame_write(
 
 pub fn frame_read(bytes: &[u8], out: &mut [u8]) -> Frame {
     unsafe { pomarisco_frame_read(bytes.as_ptr(), bytes.len(), out.as_mut_ptr(), out.len()) }
+}
+
+pub fn piece_receive(memory: &mut [u8; FRAME], kept: usize, piece: &[u8], out: &mut [u8]) -> Piece {
+    let (to, room) = (out.as_mut_ptr(), out.len());
+    unsafe {
+        pomarisco_piece_receive(memory.as_mut_ptr(), kept, piece.as_ptr(), piece.len(), to, room)
+    }
 }
 
 pub fn link_receive(line: &mut Line, station: Station, bytes: &[u8], out: &mut [u8]) -> Taken {

@@ -133,6 +133,23 @@ fn calls(pair: &mut Pair, calls: impl IntoIterator<Item = Call>) -> Result<(), S
     Ok(())
 }
 
+/// A line off the wire: the rest of a piece is given again. Where too little is lent, once.
+fn pieces(pair: &mut Pair, line: &[u8], len: usize) -> Result<(), String> {
+    if len < header::USER {
+        return calls(pair, [Call::Piece(len, line.to_vec())]);
+    }
+    let mut second = pair.wire.clone();
+    let mut rest = line;
+    loop {
+        let (taken, told) = second.take(rest, &mut vec![0; len]);
+        calls(pair, [Call::Piece(len, rest.to_vec())])?;
+        rest = &rest[taken.min(rest.len())..];
+        if told.is_none() {
+            return Ok(());
+        }
+    }
+}
+
 // ---- layout
 
 /// The header's assertions are those of `header.rs`, and it declares the same calls.
@@ -248,6 +265,34 @@ fn lengths(pair: &mut Pair, call: &str) -> Result<(), String> {
                 }
             }
         }
+        "piece_receive" => {
+            for n in [0, 1, 16, 17, 249, 250] {
+                let mut frame = vec![0; header::FRAME];
+                let size = reference::frame::write(0xC4, 1, 2, &bytes.bytes(n), &mut frame);
+                let size = size.map_err(|refusal| format!("refusal {refusal}"))?;
+                frame.resize(size, 0);
+                // Right; each block wrong; the header's start, length and check wrong.
+                let places = (0..n.div_ceil(16)).map(|block| 10 + 18 * block).chain([0, 1, 2, 8]);
+                for wrong in places.map(Some).chain([None]) {
+                    let mut line = frame.clone();
+                    if let Some(place) = wrong {
+                        line[place] ^= 1;
+                    }
+                    line.extend_from_slice(&[0x05, 0x64]);
+                    for cut in [0, 1, 2, 9, 10, 11, size - 1, size, size + 1] {
+                        for len in both_sides(header::USER) {
+                            pieces(pair, &line[..cut], len)?;
+                            pieces(pair, &line[cut..], header::USER)?;
+                            calls(pair, [Call::Restart])?;
+                        }
+                    }
+                }
+            }
+            // A length byte under 5 with the right check.
+            let mut short = vec![0x05, 0x64, 4, 0xC4, 1, 0, 2, 0];
+            short.extend_from_slice(&reference::crc::check_bytes(&short));
+            pieces(pair, &[&short[..], &[0x64; 30]].concat(), header::USER)?;
+        }
         "segment_receive" => {
             let begun = [0, 1, 249, 1798, 1799, 1800, 2046, 2047, 2048, 2049, 1 << 40];
             let begun = begun.map(|count| Some(Unfinished { last: 62, count }));
@@ -335,7 +380,7 @@ fn garbage(pair: &mut Pair, seed: u64) -> Result<(), String> {
             .map_err(at)?;
         garbage::setup(&pair.image, &mut pair.memory, &mut random).map_err(at)?;
         for _ in 0..10 {
-            garbage::line(&mut random).map_err(at)?;
+            garbage::line(&mut pair.memory, &mut random, &mut pair.seen).map_err(at)?;
         }
     }
     Ok(())
@@ -391,6 +436,7 @@ fn own_cases(short: bool) -> Vec<Case> {
         "fragment",
         "frame_write, link_data and link_reply",
         "frame_read and link_receive",
+        "piece_receive",
         "segment_receive",
         "segment_send",
     ];

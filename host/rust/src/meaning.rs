@@ -1,6 +1,7 @@
 //! What numbers mean by the header: `plain` gives the one image that stands for all of the same
 //! meaning, `other` another of the same meaning.
 
+use reference::frame::{look_over, FrameRefusal};
 use reference::generate::Random;
 
 use crate::header::*;
@@ -100,6 +101,23 @@ pub fn plain_assembly(assembly: Assembly) -> Assembly {
         0 => Assembly::zero(),
         _ => Assembly { begun: 1, last: assembly.last % 64, ..assembly },
     }
+}
+
+/// The bytes that a receiver keeps: none where they are no frame's beginning.
+pub fn kept(receiver: &Receiver) -> &[u8] {
+    let bytes = &receiver.bytes[..receiver.kept.min(FRAME)];
+    match look_over(bytes) {
+        Err(FrameRefusal::By(11)) => bytes,
+        _ => &[],
+    }
+}
+
+pub fn plain_receiver(receiver: &Receiver) -> Receiver {
+    let mut plain = Receiver::zero();
+    let bytes = kept(receiver);
+    plain.kept = bytes.len();
+    plain.bytes[..bytes.len()].copy_from_slice(bytes);
+    plain
 }
 
 // ---- another image of the same meaning
@@ -285,4 +303,17 @@ pub fn other_assembly(assembly: Assembly, random: &mut Random) -> Assembly {
     }
     other_truth(&mut assembly.begun, random);
     assembly
+}
+
+/// Any bytes after those kept; for none kept also bytes that begin no frame, and counts past all of
+/// them.
+pub fn other_receiver(receiver: &Receiver, random: &mut Random) -> Receiver {
+    let mut other = *receiver;
+    other.bytes[receiver.kept..].iter_mut().for_each(|byte| *byte = random.byte());
+    if receiver.kept == 0 && random.chance(50) {
+        other.bytes[0] = random.between(6, 255) as u8;
+        let any = random.next() as usize | 1 << 10;
+        other.kept = random.pick(&[10, 11, 291, FRAME, FRAME + 1, usize::MAX, 1 << 32, any]);
+    }
+    other
 }

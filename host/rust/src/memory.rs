@@ -1,6 +1,6 @@
-//! Where the library works: each array of the outstation in a heap block of its own, with a border
-//! that no call may write, or of its exact size for tools that watch the heap. A call is made on a
-//! copy of an image, and its result is an image again.
+//! Where the library works: each array of the outstation, and the receiver's memory, in a heap block
+//! of its own, with a border that no call may write, or of its exact size for tools that watch the
+//! heap. A call is made on a copy of an image, and its result is an image again.
 
 use crate::header::{self, *};
 
@@ -39,6 +39,7 @@ pub struct Memory {
     request: Block<u8, FRAGMENT>,
     answer: Block<u8, KEPT_ANSWER>,
     latch_objects: Block<u8, OBJECTS>,
+    received: Block<u8, FRAME>,
 }
 
 /// Which arrays a call may write.
@@ -59,6 +60,7 @@ impl Memory {
             request: Block::new(border, 0x51),
             answer: Block::new(border, 0x52),
             latch_objects: Block::new(border, 0x53),
+            received: Block::new(border, 0x54),
         }
     }
 
@@ -179,5 +181,21 @@ impl Memory {
         let writes = Writes { points: false, events: true, session: true };
         self.take(image, answer.head, writes)?;
         Ok((answer.answer, answer.operated))
+    }
+
+    pub fn piece(
+        &mut self,
+        receiver: &mut Receiver,
+        piece: &[u8],
+        out: &mut [u8],
+    ) -> Result<Piece, String> {
+        *self.received.get_mut() = receiver.bytes;
+        let told = header::piece_receive(self.received.get_mut(), receiver.kept, piece, out);
+        if !self.received.kept() {
+            return Err("border of the receiver's memory: written".into());
+        }
+        receiver.bytes = *self.received.get();
+        receiver.kept = told.kept;
+        Ok(told)
     }
 }

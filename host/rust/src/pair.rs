@@ -6,11 +6,13 @@ use std::collections::BTreeMap;
 
 use reference::application::Outcome;
 use reference::control::Control;
-use reference::frame;
+use reference::faults::{on, Fault};
+use reference::frame::{self, Frame, FrameRefusal};
 use reference::generate::Random;
 use reference::link::{self, Heard, LineRecord};
 use reference::outstation::Outstation;
 use reference::points::{Form, Reading, Taken};
+use reference::receiver::Receiver;
 use reference::script::{Call, LENT};
 use reference::transport::{Assembled, Unfinished};
 
@@ -147,6 +149,10 @@ pub struct Pair {
     pub image: header::Outstation,
     pub memory: Memory,
     line: header::Line,
+    receiver: header::Receiver,
+    /// The second program's receiver, and what both keep.
+    pub wire: Receiver,
+    kept: Vec<u8>,
     pub assembly: header::Assembly,
     sender: header::Sender,
     together: Lent,
@@ -154,6 +160,18 @@ pub struct Pair {
 
 fn code<T>(result: &Result<T, u8>) -> u8 {
     result.as_ref().err().copied().unwrap_or(0)
+}
+
+/// What a receiver keeps after a call that took these bytes and told this.
+pub fn keep(kept: &mut Vec<u8>, taken: &[u8], told: &Option<Result<Frame, FrameRefusal>>) {
+    kept.extend_from_slice(taken);
+    match told {
+        None | Some(Err(FrameRefusal::By(33))) => {}
+        Some(Err(FrameRefusal::By(_))) => {
+            kept.remove(0);
+        }
+        Some(_) => kept.clear(),
+    }
 }
 
 /// The control byte that a reply goes out with: one of the three.
@@ -179,6 +197,9 @@ impl Pair {
             record: LineRecord::default(),
             setup: SetupImage::default(),
             line: header::Line::zero(),
+            receiver: header::Receiver::zero(),
+            wire: Receiver::default(),
+            kept: Vec::new(),
             assembly: header::Assembly::zero(),
             sender: header::Sender::zero(),
             together,
@@ -198,6 +219,7 @@ impl Pair {
                 return self.frame_write(*len, *control, *destination, *source, user);
             }
             Call::FrameRead(len, bytes) => return self.frame_read(*len, bytes),
+            Call::Piece(len, bytes) => return self.piece(*len, bytes),
             Call::Crc(_) => return Ok(()),
             _ => {}
         }
@@ -212,6 +234,7 @@ impl Pair {
         match call {
             Call::Restart => {
                 second.restart();
+                self.empty(on(Fault::PieceKeptByRestart));
                 self.restart(0)?;
             }
             Call::Reading(reading) => self.reading(second, *reading)?,
@@ -246,6 +269,7 @@ impl Pair {
         let made = Outstation::new(setup.clone());
         let refusal = code(&made);
         self.second = made.ok();
+        self.empty(refusal != 0 && on(Fault::PieceKeptByRefused));
         match setup_image(setup) {
             Some(image) => {
                 self.setup = image;
@@ -459,6 +483,80 @@ impl Pair {
             (read.length, read.destination, read.source, read.control, read.refusal, read.block),
             expected,
         )
+    }
+
+    /// Empties both receivers, as a host does; by a fault the second program's is forgotten.
+    fn empty(&mut self, forgotten: bool) {
+        self.receiver = header::Receiver::zero();
+        self.kept.clear();
+        if !forgotten {
+            self.wire = Receiver::default();
+        }
+    }
+
+    fn piece(&mut self, len: usize, bytes: &[u8]) -> Result<(), String> {
+        let input = Input::new(bytes, &mut self.random);
+        let mut lent = Lent::new(len, &mut self.random);
+        let mut given = self.receiver;
+        if self.other {
+            let plain = meaning::plain_receiver(&given);
+            given = meaning::other_receiver(&plain, &mut self.random);
+        }
+        self.receiver = given;
+        let piece = self.memory.piece(&mut self.receiver, &input, lent.library())?;
+        let (taken, told) = self.wire.take(bytes, lent.second());
+        if let (true, Some(told)) = (on(Fault::PieceCounted), &told) {
+            self.record.note(told);
+        }
+        self.seen.frame_refusal(piece.frame.refusal, piece.frame.block);
+        same_bytes(&input, bytes, 0)?;
+        lent.compare()?;
+        let expected = match &told {
+            None => (0, 0, 0, 0, 0, 0),
+            Some(Ok(f)) => (f.user.len(), f.destination, f.source, f.control, 0, 0),
+            Some(Err(refusal)) => (0, 0, 0, 0, refusal.number(), block(*refusal)),
+        };
+        let frame = &piece.frame;
+        let found = (
+            frame.length,
+            frame.destination,
+            frame.source,
+            frame.control,
+            frame.refusal,
+            frame.block,
+        );
+        equal("taken, waits", (piece.taken, piece.waits), (taken, u8::from(told.is_none())))?;
+        equal("length, destination, source, control, refusal, block", found, expected)?;
+
+        let begun = !self.kept.is_empty();
+        keep(&mut self.kept, &bytes[..taken], &told);
+        self.seen.note("piece: refused 33", frame.refusal == 33);
+        if frame.refusal == 33 {
+            let same = piece.kept == given.kept && self.receiver.bytes == given.bytes;
+            return equal("a receiver left as it was by 33", same, true);
+        }
+        equal("kept", piece.kept, self.kept.len())?;
+        let left = &self.receiver.bytes[..piece.kept];
+        equal("bytes kept", left, &self.kept)?;
+
+        let seen = &mut self.seen;
+        let delivered = matches!(told, Some(Ok(_)));
+        seen.note("piece: waits", told.is_none());
+        seen.note("piece: waits with nothing kept", told.is_none() && piece.kept == 0);
+        seen.note("piece: waits with 291 bytes kept", told.is_none() && piece.kept == 291);
+        seen.note("piece: a frame in one piece", delivered && !begun);
+        seen.note("piece: a frame over more pieces", delivered && begun);
+        seen.note("piece: a frame of 250 user bytes", delivered && frame.length == 250);
+        seen.note("piece: a rest to be given again", taken < bytes.len());
+        for (what, number) in [
+            ("piece: refused 12", 12),
+            ("piece: refused 13", 13),
+            ("piece: refused 14", 14),
+            ("piece: refused 15", 15),
+        ] {
+            seen.note(what, frame.refusal == number);
+        }
+        Ok(())
     }
 
     fn station(&mut self, second: &mut Outstation, len: usize, bytes: &[u8]) -> Result<(), String> {

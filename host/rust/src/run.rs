@@ -5,11 +5,13 @@ use reference::frame::{self, FrameRefusal};
 use reference::link::{self, Heard, LineRecord};
 use reference::outstation;
 use reference::points::{self, Form, Gate, Taken};
+use reference::receiver;
 use reference::transport::{Assembled, Transport, Unfinished};
 
 use crate::header::*;
 use crate::meaning;
 use crate::memory::Memory;
+use crate::pair::keep;
 use crate::state::{self, equal};
 use crate::stress::{Answered, Call, Generator, Kind, Sum, COUNTS, FILL, LENGTHS, LINE, WHOLE};
 
@@ -18,6 +20,9 @@ use crate::stress::{Answered, Call, Generator, Kind, Sum, COUNTS, FILL, LENGTHS,
 struct Second {
     outstation: Option<outstation::Outstation>,
     record: LineRecord,
+    receiver: receiver::Receiver,
+    /// What the receiver keeps.
+    kept: Vec<u8>,
     out: [Vec<u8>; LENGTHS.len()],
 }
 
@@ -178,16 +183,33 @@ fn assembly_sum(kept: Option<(u8, usize)>) -> u64 {
     kept.map_or(0, |(last, length)| 1 | u64::from(last) << 8 | (length as u64) << 16)
 }
 
+/// Of a frame received, with the bytes kept.
+fn kept_sum(frame: u64, kept: &[u8]) -> u64 {
+    let mut sum = Sum(frame);
+    sum.bytes(kept);
+    sum.0
+}
+
 impl Second {
     fn new() -> Second {
         let out = LENGTHS.map(|length| vec![FILL; length]);
-        Second { outstation: None, record: LineRecord::default(), out }
+        Second {
+            outstation: None,
+            record: LineRecord::default(),
+            receiver: receiver::Receiver::default(),
+            kept: Vec::new(),
+            out,
+        }
     }
 
     fn call(&mut self, call: &Call) -> Answered {
         let mut result = Answered::zero();
         if let Some(count) = call.record {
             self.record = LineRecord { counts: [count; 7], blocks: [count; BLOCKS] };
+        }
+        if call.kind == Kind::Restart {
+            self.receiver = receiver::Receiver::default();
+            self.kept.clear();
         }
         if call.again {
             self.outstation.as_mut().expect("made before").restart();
@@ -236,6 +258,26 @@ impl Second {
                 result.more = assembly_sum(kept.map(|Unfinished { last, count }| (last, count)));
             }
             Kind::Send => send(&mut outstation.transport, call, out, &mut result),
+            Kind::Piece => {
+                let (taken, told) = self.receiver.take(&call.fragment, out);
+                keep(&mut self.kept, &call.fragment[..taken], &told);
+                result.taken = taken;
+                let frame = match told {
+                    None => {
+                        result.kind = 1;
+                        0
+                    }
+                    Some(Ok(frame)) => {
+                        result.length = frame.user.len();
+                        frame_sum(frame.control, 0, frame.destination, frame.source)
+                    }
+                    Some(Err(refusal)) => {
+                        (result.kind, result.refusal) = (2, refusal.number());
+                        frame_sum(0, block(refusal), 0, 0)
+                    }
+                };
+                result.more = kept_sum(frame, &self.kept);
+            }
             _ => line(call, &outstation.setup, out, &mut result),
         }
         result
@@ -258,6 +300,7 @@ struct Library {
     memory: Memory,
     station: Station,
     line: Line,
+    receiver: Receiver,
     assembly: Assembly,
     sender: Sender,
     out: [Vec<u8>; LENGTHS.len()],
@@ -286,6 +329,7 @@ impl Library {
             memory: Memory::new(exact),
             station: Station::zero(),
             line: Line::zero(),
+            receiver: Receiver::zero(),
             assembly: Assembly::zero(),
             sender: Sender::zero(),
             out: LENGTHS.map(|length| vec![FILL; length + 2 * BORDER]),
@@ -306,6 +350,7 @@ impl Library {
             Kind::Restart => {
                 result.refusal = memory.restart(image, call.setup, &call.classes, &call.setups)?;
                 (self.assembly, self.sender) = (Assembly::zero(), Sender::zero());
+                self.receiver = Receiver::zero();
                 self.station = Station { own: call.setup.own, master: call.setup.master };
             }
             Kind::Reading => {
@@ -357,6 +402,15 @@ impl Library {
                 result.refusal = segment.refusal;
                 let Assembly { length, last, begun } = self.assembly;
                 result.more = assembly_sum((begun != 0).then_some((last, length)));
+            }
+            Kind::Piece => {
+                let piece = memory.piece(&mut self.receiver, bytes, out)?;
+                let frame = &piece.frame;
+                (result.taken, result.length) = (piece.taken, frame.length);
+                result.refusal = frame.refusal;
+                result.kind = if frame.refusal != 0 { 2 } else { u8::from(piece.waits != 0) };
+                let told = frame_sum(frame.control, frame.block, frame.destination, frame.source);
+                result.more = kept_sum(told, &self.receiver.bytes[..piece.kept.min(FRAME)]);
             }
             Kind::Send => {
                 let mut sum = Sum(0);

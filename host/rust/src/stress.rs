@@ -1,7 +1,8 @@
 //! Random calls in one long run, the same for the same seed here and in `host/stress.c`: both make
 //! every call from a small random source and from what the host saw of earlier answers, never from
 //! the state. After each call the answer, every lent byte and the head are folded into one number,
-//! every 1,000 calls the whole state. Frames to be read are frames that were written, changed or not.
+//! every 1,000 calls the whole state. Frames to be read are frames that were written, changed or not;
+//! pieces off the wire are cut from them, with noise between.
 //!
 //! The two files say the same thing in the same order. Who changes one changes the other.
 
@@ -182,6 +183,7 @@ pub enum Kind {
     LinkReceive,
     Segment,
     Send,
+    Piece,
 }
 
 /// A reading is a table of one.
@@ -212,7 +214,8 @@ pub struct Answered {
     pub taken: usize,
     pub kind: u8,
     pub length: usize,
-    /// The sum of the other numbers: of a frame read, a line record, an assembly, segments sent.
+    /// The sum of the other numbers: of a frame read, a line record, an assembly, segments sent,
+    /// bytes kept.
     pub more: u64,
     pub operated: Crobs,
 }
@@ -273,9 +276,13 @@ enum Count {
     SegmentRefused,
     Sent,
     SendRefused,
+    PieceFrame,
+    PieceWaits,
+    PieceRefused,
+    PieceLent,
 }
 
-pub const COUNTS: [&str; 46] = [
+pub const COUNTS: [&str; 50] = [
     "restart taken",
     "restart refused 5",
     "reading taken",
@@ -322,6 +329,10 @@ pub const COUNTS: [&str; 46] = [
     "segment_receive refused",
     "fragment sent in segments",
     "segment_send refused",
+    "piece_receive: frame",
+    "piece_receive: waits",
+    "piece_receive refused",
+    "piece_receive refused 33",
 ];
 
 // ---- the generator
@@ -360,6 +371,8 @@ pub struct Generator {
     frame: Vec<u8>,
     begun: bool,
     next_segment: u8,
+    /// What is still to come off the wire.
+    wire: Vec<u8>,
     pub counts: [u64; COUNTS.len()],
 }
 
@@ -420,6 +433,7 @@ impl Generator {
             frame: Vec::new(),
             begun: false,
             next_segment: 0,
+            wire: Vec::new(),
             counts: [0; COUNTS.len()],
         }
     }
@@ -590,6 +604,7 @@ impl Generator {
         self.selected = false;
         self.request.clear();
         self.begun = false;
+        self.wire.clear();
         self.filling = 0;
         self.overflow = 0;
         // Mostly from 0; sometimes to the end of time.
@@ -1019,10 +1034,11 @@ impl Generator {
     }
 
     fn line(&mut self, call: &mut Call) {
-        match self.source.below(10) {
+        match self.source.below(14) {
             0..=2 => self.write_frame(call),
             3..=5 => self.read_frame(call),
             6..=8 => self.segment(call),
+            9..=12 => self.piece(call),
             _ => {
                 call.kind = Kind::Send;
                 let some = self.source.below(2049);
@@ -1107,6 +1123,35 @@ impl Generator {
         self.lend(call, ASSEMBLY, 30);
     }
 
+    /// Noise that may look like a start, then the frame written last, changed or not.
+    fn line_comes(&mut self) {
+        let noise = if self.source.chance(30) { self.source.below(20) } else { 0 };
+        for _ in 0..noise {
+            let any = self.source.below(256);
+            let byte = self.source.pick(&[0x05, 0x05, 0x64, 0x64, any]);
+            self.wire.push(byte as u8);
+        }
+        let from = self.wire.len();
+        self.wire.extend_from_slice(&self.frame);
+        if !self.frame.is_empty() && self.source.chance(25) {
+            let place = self.source.below(self.frame.len() as u32) as usize;
+            self.wire[from + place] ^= 1 << self.source.below(8);
+        }
+    }
+
+    fn piece(&mut self, call: &mut Call) {
+        call.kind = Kind::Piece;
+        if self.wire.is_empty() {
+            self.line_comes();
+        }
+        let length = self.wire.len() as u32;
+        let some = self.source.below(length + 1);
+        let few = self.source.below(12);
+        let size = self.source.pick(&[length, length, some, few, 1]).min(length);
+        call.fragment.extend_from_slice(&self.wire[..size as usize]);
+        self.lend(call, USER_OUT, 20);
+    }
+
     fn heard(&mut self, call: &Call, result: &Answered, out: &[u8]) {
         let refused = result.refusal != 0;
         match call.kind {
@@ -1133,6 +1178,15 @@ impl Generator {
                 }
             }
             Kind::Send => self.count(if refused { Count::SendRefused } else { Count::Sent }),
+            Kind::Piece => {
+                self.count(match (result.kind, result.refusal) {
+                    (0, _) => Count::PieceFrame,
+                    (1, _) => Count::PieceWaits,
+                    (_, 33) => Count::PieceLent,
+                    _ => Count::PieceRefused,
+                });
+                self.wire.drain(..result.taken);
+            }
             _ if refused => self.count(Count::FrameRefused),
             _ => {
                 self.frame.clear();
