@@ -6,6 +6,8 @@ import shutil
 import subprocess
 import sys
 
+import cuttings
+
 HERE = os.path.dirname(os.path.abspath(__file__))
 ROOT = os.path.dirname(HERE)
 REFERENCE = os.path.join(ROOT, "reference")
@@ -66,6 +68,17 @@ class Script:
             os.remove(self.path)
 
 
+def cut_lines(directory):
+    """The scripts of `cuttings`, written to the directory with their answers."""
+    for number, (name, text, answers) in enumerate(cuttings.scripts(), 1):
+        path = os.path.join(directory, f"cuttings-{number}.script")
+        stored = path[:-len("script")] + "answers"
+        for target, content in ((path, text), (stored, answers)):
+            with open(target, "w", encoding="ascii") as out:
+                out.write(content)
+        yield Script(f"cuttings: {name}", path, stored)
+
+
 def scripts(groups, directory):
     """Every script of the groups, the fixed ones first."""
     found = []
@@ -77,6 +90,8 @@ def scripts(groups, directory):
                 answers = path[:-len("script")] + "answers"
                 stored = answers if os.path.exists(answers) else None
                 found.append(Script(f"tests/{group}/{name}", path, stored))
+        if group == "line":
+            found.extend(cut_lines(directory))
     for kind in list(groups) + (["all"] if set(groups) == set(GROUPS) else []):
         seeds, lines = SEEDS[kind]
         for seed in seeds:
