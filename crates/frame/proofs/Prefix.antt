@@ -1,8 +1,8 @@
 -- What the rule says of bytes and of all that begins with them: for a caller that is given a frame's bytes little by little.
 -- Assumes nothing.
-use mathlib.Core.Path.{_≡_, refl, sym, ap, _∙_}
-use mathlib.Core.Bool.{Bool, true, false, cond, not}
-use Prim.Native.Nat.{ℕ, _+_, _-_, _≤_, _<_}
+use mathlib.Core.Path.{_≡_, ap, _∙_}
+use mathlib.Core.Bool.{not}
+use Prim.Native.Nat.{ℕ, _-_, _≤_, _<_}
 use native.Mathlib.Omega.{arith}
 use mathlib.Core.List.{List, [], _∷_, _++_}
 use lib.Dec.{ltb, eqb}
@@ -15,7 +15,7 @@ use Rattle.laws.proofs.Choices.{by}
 use Rattle.octets.specs.Bytes.{value, valueAt}
 use Rattle.frame.specs.FrameOutcome.{wrongBlock, FrameOutcome, refusedBy}
 use Rattle.frame.specs.FrameOutcome as R
-use Rattle.frame.specs.Frame.{Parts, parts, crcOk, blockCount, frameSize, firstWrong, firstWrongOf, users, userOf, bodyOf, decodeBody, decode}
+use Rattle.frame.specs.Frame.{Parts, parts, crcOk, blockCount, frameSize, firstWrongOf, userOf, bodyOf, decodeBody, decode}
 use Rattle.frame.specs.WrongBlock.{userCount}
 
 -- the tests of a header, and what comes where they are all passed

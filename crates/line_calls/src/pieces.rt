@@ -4,7 +4,7 @@ use crate::answers::Outcome;
 use crate::frames;
 use crate::session::LineSession;
 use frame::FRAME_MAX;
-use receiver::Heard;
+use receiver::PieceAnswer;
 
 // piece: bytes came, behind those that the memory keeps; a frame's user data goes into lent bytes that are filled anew
 pub fn piece(
@@ -17,9 +17,9 @@ pub fn piece(
 ) -> LineSession {
     answers::fill(lent);
     let r = receiver::receive(memory, s.kept, given, lent);
-    let h = r.heard;
-    let o = heard_outcome(h);
-    let a = put_heard(h, o, lent, out, at);
+    let p = r.answer;
+    let o = piece_outcome(p);
+    let a = put_piece(p, o, lent, out, at);
     let b = put_taken(r.taken, out, a);
     let mut next = s;
     next.kept = r.kept;
@@ -27,18 +27,18 @@ pub fn piece(
     next
 }
 
-fn heard_outcome(h: Heard) -> Outcome {
-    match h {
-        Heard::Waits => answers::gave(0),
-        Heard::Decided(f) => frames::read_outcome(f),
+fn piece_outcome(p: PieceAnswer) -> Outcome {
+    match p {
+        PieceAnswer::Waiting => answers::gave(0),
+        PieceAnswer::Decided(f) => frames::read_outcome(f),
     }
 }
 
 // `user CC DEST SRC HEX`, `no N` or `waits`
-fn put_heard(h: Heard, o: Outcome, lent: &[u8], out: &mut [u8], at: usize) -> usize {
-    match h {
-        Heard::Waits => text::put_bytes(out, at, b"waits"),
-        Heard::Decided(f) => {
+fn put_piece(p: PieceAnswer, o: Outcome, lent: &[u8], out: &mut [u8], at: usize) -> usize {
+    match p {
+        PieceAnswer::Waiting => text::put_bytes(out, at, b"waits"),
+        PieceAnswer::Decided(f) => {
             let a = frames::put_heading(f, out, at);
             answers::put_outcome(o, b"", lent, out, a)
         }

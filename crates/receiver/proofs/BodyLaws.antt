@@ -1,14 +1,13 @@
 -- A call with a part of a header kept, and one with a right header: bytes are taken up to ten, and up to the frame's stated size; the last of
 -- them decides.
 -- Assumes nothing.
-use mathlib.Core.Path.{_≡_, refl, sym, ap, _∙_, subst}
+use mathlib.Core.Path.{_≡_, ap, _∙_}
 use mathlib.Core.Bool.{true, false}
 use Prim.Native.Nat.{ℕ, _+_, _-_, _≤_, _<_, min}
 use native.Mathlib.Omega.{arith}
 use mathlib.Core.List.{List, _++_}
 use lib.ListN.{length, getD, take, drop, length-append}
 use lib.Seq.{getD-take, length-take-le}
-use Rattle.laws.specs.Limits.{frameMax}
 use Rattle.frame.specs.Frame.{frameSize}
 use Rattle.receiver.specs.Receiver.{rule, waits, statedSize, decidedBy, more, ends, goesOver, Begun}
 use Rattle.receiver.proofs.RuleLaws.{waits-short, Wanting, wanting}

@@ -1,26 +1,25 @@
 -- One call over a piece: the bytes that it waits on at once, and the byte that decides.
 -- Assumes nothing.
 use mathlib.Core.Path.{_≡_, refl, sym, ap, ap₂, _∙_, subst}
-use mathlib.Core.Bool.{Bool, true, false, cond}
+use mathlib.Core.Bool.{true, false}
 use Prim.Native.Nat.{ℕ, suc, _+_, _-_, _≤_, _<_}
 use native.Mathlib.Omega.{arith}
 use mathlib.Core.List.{List, [], _∷_, _++_, append-nil, append-assoc}
-use lib.ListN.{length, getD, take, drop, length-append, take-append-drop, length-take}
+use lib.ListN.{length, getD, take, drop, take-append-drop}
 use borrow.Author.Tests.{lt-ltb, le-ltb}
 use Rattle.laws.specs.Limits.{userMax}
 use lib.Seq.{take-all, length-take-le, take-suc, drop-cons}
-use Rattle.frame.specs.FrameOutcome.{FrameOutcome, refusedBy}
-use Rattle.frame.specs.Frame.{Parts}
+use Rattle.frame.specs.FrameOutcome.{refusedBy}
 use Rattle.receiver.specs.declared.Reception.{Reception}
-use Rattle.receiver.specs.Receiver.{rule, waits, decidedBy, Call, more, usedUp, ends, goesOver, received, keptMax, keptIn, waits-on, says, answerOf, heardOf, lentAfter, decided, Meets, PieceReceived}
+use Rattle.receiver.specs.Receiver.{rule, waits, decidedBy, Call, more, usedUp, ends, goesOver, receiving, keptMax, keptIn, waiting, decided, pieceFields, answerOf, lentAfter, decided, Meets, PieceReceived}
 use Rattle.receiver.proofs.RuleLaws.{waits-prefix, decided-at}
 use Rattle.receiver.proofs.KeptLaws.{kept-is}
 
 -- ---- how many bytes were taken
 
 -- the same call, with as many bytes taken
-taken-is : (c : Call) (n m : ℕ) → n ≡ m → _≡_ {A = Call} (record { told = c .told; taken = n; kept = c .kept }) (record { told = c .told; taken = m; kept = c .kept })
-taken-is c n m e = ap (λ (k : ℕ). record { told = c .told; taken = k; kept = c .kept }) e
+taken-is : (c : Call) (n m : ℕ) → n ≡ m → _≡_ {A = Call} (record { outcome = c .outcome; taken = n; kept = c .kept }) (record { outcome = c .outcome; taken = m; kept = c .kept })
+taken-is c n m e = ap (λ (k : ℕ). record { outcome = c .outcome; taken = k; kept = c .kept }) e
 
 pub more-none : (c : Call) → more 0 c ≡ c
 more-none c = taken-is c (0 + c .taken) (c .taken) (omega arith)
@@ -94,7 +93,7 @@ module _ (kept p : List ℕ) (k : ℕ) (pos : 0 < k) (there : k ≤ length p) (w
       subst (λ (j : ℕ). waits (kept ++ take j p) ≡ false → length (kept ++ take j p) ≡ decidedBy (rule (kept ++ take j p)) (kept ++ take j p)) before (λ h. read-all kept p (k - 1) (omega arith) w h) d
 
 -- the piece is used up: t bytes were taken before it
-pub waiting-meets : (r : Reception) (kept p m out : List ℕ) (t n k : ℕ) → heardOf (r .heard) ≡ waits-on → r .taken ≡ t + k → r .kept ≡ n + k
+pub waiting-meets : (r : Reception) (kept p m out : List ℕ) (t n k : ℕ) → answerOf (r .answer) ≡ waiting → r .taken ≡ t + k → r .kept ≡ n + k
     → n + k ≤ keptMax → length (take (n + k) m) ≡ n + k → take (n + k) m ≡ kept ++ take k p → k ≡ length p → waits (kept ++ take k p) ≡ true
     → Meets r (more t (goesOver kept p)) m out out
 waiting-meets r kept p m out t n k heard taken count most l e all w =
@@ -111,38 +110,38 @@ waiting-meets r kept p m out t n k heard taken count most l e all w =
 
 -- ---- the whole call
 
-pub received-33 : (room : ℕ) (kept p : List ℕ) → room < userMax → received room kept p ≡ record { told = decided (refusedBy 33); taken = 0; kept = kept }
-unfolding received
-received-33 room kept p h = rw (lt-ltb room userMax h)
+pub receiving-33 : (room : ℕ) (kept p : List ℕ) → room < userMax → receiving room kept p ≡ record { outcome = decided (refusedBy 33); taken = 0; kept = kept }
+unfolding receiving
+receiving-33 room kept p h = rw (lt-ltb room userMax h)
 
-pub received-is : (room : ℕ) (kept p : List ℕ) → userMax ≤ room → received room kept p ≡ goesOver kept p
-unfolding received
-received-is room kept p h = rw (le-ltb room userMax h)
+pub receiving-is : (room : ℕ) (kept p : List ℕ) → userMax ≤ room → receiving room kept p ≡ goesOver kept p
+unfolding receiving
+receiving-is room kept p h = rw (le-ltb room userMax h)
 
 -- 33: nothing is taken, and nothing changes
-pub received-lent : (r : Reception) (n : ℕ) (m p out : List ℕ) → length out < userMax → heardOf (r .heard) ≡ says (refusedBy 33) → r .taken ≡ 0 → r .kept ≡ n
+pub received-lent : (r : Reception) (n : ℕ) (m p out : List ℕ) → length out < userMax → answerOf (r .answer) ≡ decided (refusedBy 33) → r .taken ≡ 0 → r .kept ≡ n
     → PieceReceived r n m m p out out
 received-lent r n m p out h heard taken kept =
-    let c = received-33 (length out) (keptIn n m) p h in
+    let c = receiving-33 (length out) (keptIn n m) p h in
     record {
-      answer = heard ∙ ap (λ (x : Call). answerOf (x .told)) (sym c);
+      answer = heard ∙ ap (λ (x : Call). pieceFields (x .outcome)) (sym c);
       taken = taken ∙ ap (λ (x : Call). x .taken) (sym c);
       count = kept ∙ sym (rw (lt-ltb (length out) userMax h));
       kept = ap (λ (k : ℕ). keptIn k m) kept ∙ ap (λ (x : Call). x .kept) (sym c);
       untouched = λ _. refl;
-      lent = ap (λ (x : Call). lentAfter out (x .told)) (sym c);
+      lent = ap (λ (x : Call). lentAfter out (x .outcome)) (sym c);
     }
 
 -- what the memory keeps, and the piece
 pub received-over : (r : Reception) (n k : ℕ) (m m₁ p out out₁ : List ℕ) → userMax ≤ length out → take k m ≡ keptIn n m → Meets r (goesOver (take k m) p) m₁ out out₁
     → PieceReceived r n m m₁ p out out₁
 received-over r n k m m₁ p out out₁ h e x =
-    let c : goesOver (take k m) p ≡ received (length out) (keptIn n m) p = ap (λ (l : List ℕ). goesOver l p) e ∙ sym (received-is (length out) (keptIn n m) p h) in
+    let c : goesOver (take k m) p ≡ receiving (length out) (keptIn n m) p = ap (λ (l : List ℕ). goesOver l p) e ∙ sym (receiving-is (length out) (keptIn n m) p h) in
     record {
-      answer = x .answer ∙ ap (λ (y : Call). answerOf (y .told)) c;
+      answer = x .answer ∙ ap (λ (y : Call). pieceFields (y .outcome)) c;
       taken = x .taken ∙ ap (λ (y : Call). y .taken) c;
       count = x .count ∙ ap (λ (y : Call). length (y .kept)) c ∙ sym (rw (le-ltb (length out) userMax h));
       kept = x .kept ∙ ap (λ (y : Call). y .kept) c;
       untouched = λ l. absurd (omega arith);
-      lent = x .lent ∙ ap (λ (y : Call). lentAfter out (y .told)) c;
+      lent = x .lent ∙ ap (λ (y : Call). lentAfter out (y .outcome)) c;
     }

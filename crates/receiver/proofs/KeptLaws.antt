@@ -1,19 +1,19 @@
 -- What is kept in lent memory: bytes taken behind it, a byte given up, and how a call ends.
 -- Assumes nothing.
 use mathlib.Core.Path.{_≡_, refl, sym, ap, ap₂, _∙_, subst}
-use mathlib.Core.Bool.{Bool, true, false, cond, not}
-use Prim.Native.Nat.{ℕ, _+_, _-_, _≤_, _<_}
+use mathlib.Core.Bool.{true, false, not}
+use Prim.Native.Nat.{ℕ, _+_, _≤_, _<_}
 use native.Mathlib.Omega.{arith}
 use mathlib.Core.List.{List, [], _∷_, _++_}
 use lib.Dec.{ltb, eqb}
 use borrow.Author.Tests.{lt-ltb, le-ltb, not-false}
 use Rattle.laws.proofs.Choices.{split}
-use lib.ListN.{length, take, drop, length-append, length-take, length-drop, drop-of-length-le}
+use lib.ListN.{length, take, drop, length-append, length-drop, drop-of-length-le}
 use lib.Seq.{length-take-le, take-at, take-all}
 use Rattle.octets.specs.Bytes.{splice}
 use Rattle.octets.proofs.Splice.{splice-parts, stored-splice, length-splice}
 use Rattle.frame.specs.FrameOutcome.{Refusal, by, wrongBlock, FrameOutcome, accepted, refused, numberOf}
-use Rattle.frame.specs.Frame.{Parts, parts, userOf, frameSize, fieldsOf, readOf, checkedOf, Whole}
+use Rattle.frame.specs.Frame.{Parts, readOf, checkedOf}
 use Rattle.frame.specs.declared.Read.{Read}
 use Rattle.frame.specs.declared.Read.the-variants.{Frame, Refused}
 use Rattle.receiver.specs.Receiver.{rule, waits, movesOn, decidedBy, keptMax, keptIn, keptAfter, Begun}

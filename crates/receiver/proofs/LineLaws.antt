@@ -1,41 +1,36 @@
 -- A whole line at once: the rule at each place, and one call against it.
 -- Assumes nothing.
 use mathlib.Core.Path.{_≡_, refl, sym, ap, ap₂, _∙_, subst}
-use mathlib.Core.Bool.{Bool, true, false, cond}
+use mathlib.Core.Bool.{true, false}
 use Prim.Native.Nat.{ℕ, zero, suc, _+_, _-_, _≤_, _<_}
 use native.Mathlib.Omega.{arith}
 use mathlib.Core.List.{List, [], _∷_, _++_, append-nil, append-assoc}
-use lib.ListN.{length, take, drop, length-append}
+use lib.ListN.{length, take, drop}
 use lib.Seq.{drop-nil}
 use Rattle.laws.proofs.Choices.{by}
-use Rattle.frame.specs.FrameOutcome.{FrameOutcome}
-use Rattle.frame.specs.Frame.{Parts}
 use Rattle.receiver.specs.Receiver.{rule, waits, movesOn, decidedBy, Call, more, usedUp, ends, goesOver}
-use Rattle.receiver.specs.Line.{Event, Events, first-then, heardFrom}
+use Rattle.receiver.specs.Line.{LineEvent, firstThen, eventsFrom}
 use Rattle.receiver.proofs.RuleLaws.{waits-short, differ, moves, decided-at}
 
 -- ---- the line from a place on
 
-pub passed-over : (p k : ℕ) (l : List ℕ) → heardFrom p k l ≡ heardFrom (p + k) 0 (drop k l)
-unfolding heardFrom
-passed-over p k [] = ap (λ (l : List ℕ). heardFrom (p + k) 0 l) (sym (drop-nil k))
-passed-over p zero (b ∷ l) = ap (λ (q : ℕ). heardFrom q 0 (b ∷ l)) (let e : p ≡ p + 0 = omega arith in e)
-passed-over p (suc k) (b ∷ l) = passed-over (suc p) k l ∙ ap (λ (q : ℕ). heardFrom q 0 (drop k l)) (let e : suc p + k ≡ p + suc k = omega arith in e)
+pub passed-over : (p k : ℕ) (l : List ℕ) → eventsFrom p k l ≡ eventsFrom (p + k) 0 (drop k l)
+unfolding eventsFrom
+passed-over p k [] = ap (λ (l : List ℕ). eventsFrom (p + k) 0 l) (sym (drop-nil k))
+passed-over p zero (b ∷ l) = ap (λ (q : ℕ). eventsFrom q 0 (b ∷ l)) (let e : p ≡ p + 0 = omega arith in e)
+passed-over p (suc k) (b ∷ l) = passed-over (suc p) k l ∙ ap (λ (q : ℕ). eventsFrom q 0 (drop k l)) (let e : suc p + k ≡ p + suc k = omega arith in e)
 
-pub line-waits : (p : ℕ) (l : List ℕ) → waits l ≡ true → heardFrom p 0 l ≡ record { events = []; rest = l }
-unfolding heardFrom
+pub line-waits : (p : ℕ) (l : List ℕ) → waits l ≡ true → eventsFrom p 0 l ≡ record { events = []; rest = l }
+unfolding eventsFrom
 line-waits p [] w = refl
 line-waits p (b ∷ l) w = rw w
 
 -- the rule decides at this place
-pub eventAt : ℕ → List ℕ → Event
-eventAt p l = record { said = rule l; by-byte = p + decidedBy (rule l) l }
-
 pub line-decides : (p : ℕ) (l : List ℕ) → waits l ≡ false
-    → heardFrom p 0 l ≡ first-then (record { said = rule l; by-byte = p + decidedBy (rule l) l }) (heardFrom (p + movesOn (rule l) l) 0 (drop (movesOn (rule l) l) l))
-unfolding heardFrom
+    → eventsFrom p 0 l ≡ firstThen (record { outcome = rule l; at = p + decidedBy (rule l) l }) (eventsFrom (p + movesOn (rule l) l) 0 (drop (movesOn (rule l) l) l))
+unfolding eventsFrom
 line-decides p [] d = absurd (differ _ (waits-short [] (omega arith)) d)
-line-decides p (b ∷ l) d = rw d (ap (first-then _) (passed-over (suc p) (m - 1) l ∙ ap₂ (λ (q : ℕ) (x : List ℕ). heardFrom q 0 x) place (ap (λ (k : ℕ). drop k (b ∷ l)) count)))
+line-decides p (b ∷ l) d = rw d (ap (firstThen _) (passed-over (suc p) (m - 1) l ∙ ap₂ (λ (q : ℕ) (x : List ℕ). eventsFrom q 0 x) place (ap (λ (k : ℕ). drop k (b ∷ l)) count)))
   where
     m : ℕ
     m = movesOn (rule (b ∷ l)) (b ∷ l)

@@ -1,19 +1,17 @@
 -- The single-frame rule on bytes that come little by little: where it waits, where it decides, and how far it moves on.
 -- Assumes nothing.
-use mathlib.Core.Path.{_≡_, refl, sym, ap, ap₂, _∙_, subst}
+use mathlib.Core.Path.{_≡_, refl, sym, ap, _∙_, subst}
 use mathlib.Core.Bool.{Bool, true, false, cond}
 use Prim.Native.Nat.{ℕ, _+_, _-_, _≤_, _<_}
 use native.Mathlib.Omega.{arith}
 use mathlib.Core.List.{List, [], _∷_, _++_, append-nil}
 use lib.Dec.{ltb, eqb}
-use borrow.Author.Tests.{lt-ltb, le-ltb, ltb-true, ltb-false, eq-eqb, ne-eqb, eqb-true, eqb-false}
-use lib.ListN.{length, getD, take, drop, length-append, length-take, length-drop, List·getD-append, drop-of-length-le}
-use Rattle.laws.specs.Limits.{userMax, frameMax}
+use borrow.Author.Tests.{ltb-true, ltb-false, ne-eqb}
+use lib.ListN.{length, getD, length-append, List·getD-append}
 use Rattle.laws.proofs.Choices.{by}
-use Rattle.octets.specs.Bytes.{AreBytes}
 use Rattle.frame.specs.FrameOutcome.{wrongBlock, FrameOutcome, accepted, refused, refusedBy, numberOf}
 use Rattle.frame.specs.FrameOutcome as R
-use Rattle.frame.specs.Frame.{Parts, blockCount, frameSize, decodeBody, decode}
+use Rattle.frame.specs.Frame.{Parts, frameSize, decodeBody}
 use Rattle.frame.specs.WrongBlock.{userCount}
 use Rattle.frame.proofs.Prefix.{Ruled, short, wrong, right, ruled, body-short, body-more, Body, frame, block, body-whole}
 use Rattle.receiver.specs.Receiver.{rule, waits, statedSize, movesOn, decidedBy}
@@ -93,7 +91,7 @@ pub record Wanting (s : List ℕ) : Type 0 where
   pub wants : length s < statedSize s
   pub below : (t : List ℕ) → length (s ++ t) < statedSize s → waits (s ++ t) ≡ true
   pub full : (t : List ℕ) → statedSize s ≤ length (s ++ t) → waits (s ++ t) ≡ false
-  pub says : (t : List ℕ) → statedSize s ≤ length (s ++ t) → Body (rule (s ++ t))
+  pub decided : (t : List ℕ) → statedSize s ≤ length (s ++ t) → Body (rule (s ++ t))
 
 pub wanting : (s : List ℕ) → 10 ≤ length s → waits s ≡ true → Wanting s
 wanting s ten w = go (stage s)
@@ -106,7 +104,7 @@ wanting s ten w = go (stage s)
       wants = m;
       below = λ t h. waits-by (s ++ t) _ (e t ∙ body-short (s ++ t) (userCount s) h);
       full = λ t h. waits-by (s ++ t) _ (e t) ∙ body-decides _ (body-whole (userCount s) (s ++ t) h);
-      says = λ t h. subst Body (sym (e t)) (body-whole (userCount s) (s ++ t) h);
+      decided = λ t h. subst Body (sym (e t)) (body-whole (userCount s) (s ++ t) h);
     }
     go (whole l m e d) = absurd (differ _ w (waits-by s _ (alone s _ (e [])) ∙ body-decides _ d))
 
@@ -166,7 +164,7 @@ decided-at s b w d = by (ltb (length s) 10) (λ h. header (ltb-true _ _ h) (stag
         let m : statedSize s ≤ length (s ++ b ∷ []) = by (ltb (length (s ++ b ∷ [])) (statedSize s)) (λ l. absurd (differ _ (g .below (b ∷ []) (ltb-true _ _ l)) d)) (λ l. ltb-false _ _ l) in
         let a : length s < statedSize s = g .wants in
         let n : length (s ++ b ∷ []) ≡ statedSize s = omega (arith, one) in
-        n ∙ sym (same-size s (b ∷ []) h) ∙ sym (body-size (s ++ b ∷ []) _ (g .says (b ∷ []) m))
+        n ∙ sym (same-size s (b ∷ []) h) ∙ sym (body-size (s ++ b ∷ []) _ (g .decided (b ∷ []) m))
 
 -- ---- the same rule on a longer line
 

@@ -13,8 +13,8 @@ use Rattle.frame.specs.FrameOutcome.{Refusal, by, wrongBlock, FrameOutcome, acc
 use Rattle.frame.specs.Frame.{Parts, frameSize, decode, Fields, fieldsOf, readOf, checkedOf, Whole}
 use Rattle.frame.specs.WrongBlock.{userCount}
 use Rattle.frame.specs.declared.Read.{Read}
-use Rattle.receiver.specs.declared.Heard.{Heard}
-use Rattle.receiver.specs.declared.Heard.the-variants.{Waits, Decided}
+use Rattle.receiver.specs.declared.PieceAnswer.{PieceAnswer}
+use Rattle.receiver.specs.declared.PieceAnswer.the-variants.{Waiting, Decided}
 use Rattle.receiver.specs.declared.Reception.{Reception}
 
 -- ---- the single-frame rule on what was taken and is not yet used up
@@ -45,28 +45,28 @@ decidedBy (accepted f) s = statedSize s
 
 -- ---- one call
 
--- what a call tells: it waits for more, or what the rule says
-pub data Told : Type 0 where
-  waiting : Told
-  decided : FrameOutcome Parts → Told
+-- the receiver waits for more, or the rule has decided
+pub data PieceOutcome (A : Type 0) : Type 0 where
+  waiting : PieceOutcome A
+  decided : FrameOutcome A → PieceOutcome A
 
--- what a call comes to: what it tells, how many bytes of the piece it took, and the bytes that are kept after it
+-- what a call comes to: its outcome, how many bytes of the piece it took, and the bytes that are kept after it
 pub record Call : Type 0 where
-  pub told : Told
+  pub outcome : PieceOutcome Parts
   pub taken : ℕ
   pub kept : List ℕ
 
 -- so many bytes more were taken before
 abbrev pub more : ℕ → Call → Call
-more k c = record { told = c .told; taken = k + c .taken; kept = c .kept }
+more k c = record { outcome = c .outcome; taken = k + c .taken; kept = c .kept }
 
 -- the piece is used up
 abbrev pub usedUp : ℕ → List ℕ → Call
-usedUp k kept = record { told = waiting; taken = k; kept = kept }
+usedUp k kept = record { outcome = waiting; taken = k; kept = kept }
 
 -- the rule decides on the bytes s: it moves on
 abbrev pub ends : ℕ → List ℕ → Call
-ends k s = record { told = decided (rule s); taken = k; kept = drop (movesOn (rule s) s) s }
+ends k s = record { outcome = decided (rule s); taken = k; kept = drop (movesOn (rule s) s) s }
 
 -- "A call ends at its first frame or refusal, or when the piece is used up, and says how many bytes it took, up to the one that decided": the piece
 -- byte by byte, each behind the bytes kept
@@ -76,9 +76,9 @@ goesOver kept (b ∷ piece) =
     cond (waits (kept ++ b ∷ [])) (more 1 (goesOver (kept ++ b ∷ []) piece)) (ends 1 (kept ++ b ∷ []))
 
 -- the call, so many bytes being lent for user data. 33, under 250 lent: nothing is taken
-unfoldable pub received : ℕ → List ℕ → List ℕ → Call
-received room kept piece =
-    first (ltb room userMax ⇒ record { told = decided (refusedBy 33); taken = 0; kept = kept } ∷ []) (goesOver kept piece)
+unfoldable pub receiving : ℕ → List ℕ → List ℕ → Call
+receiving room kept piece =
+    first (ltb room userMax ⇒ record { outcome = decided (refusedBy 33); taken = 0; kept = kept } ∷ []) (goesOver kept piece)
 
 -- ---- what is kept, in lent memory
 
@@ -93,21 +93,17 @@ keptIn n memory = first (ltb keptMax n ⇒ [] ∷ not (waits (take n memory)) �
 
 -- ---- what the answer means, and what is left in the lent bytes
 
--- an answer, without the user bytes
-pub data Answer : Type 0 where
-  waits-on : Answer
-  says : FrameOutcome Fields → Answer
+-- what a call answers: as an outcome, with how many user bytes a frame has in place of them
+abbrev pub pieceFields : PieceOutcome Parts → PieceOutcome Fields
+pieceFields waiting = waiting
+pieceFields (decided o) = decided (fieldsOf o)
 
-abbrev pub answerOf : Told → Answer
-answerOf waiting = waits-on
-answerOf (decided o) = says (fieldsOf o)
-
-abbrev pub heardOf : Heard → Answer
-heardOf Waits = waits-on
-heardOf (Decided r) = says (readOf r)
+abbrev pub answerOf : PieceAnswer → PieceOutcome Fields
+answerOf Waiting = waiting
+answerOf (Decided r) = decided (readOf r)
 
 -- a frame's user bytes go to the front of the lent bytes; nothing else is written
-abbrev pub lentAfter : List ℕ → Told → List ℕ
+abbrev pub lentAfter : List ℕ → PieceOutcome Parts → List ℕ
 lentAfter d waiting = d
 lentAfter d (decided (accepted f)) = splice d 0 (f .user)
 lentAfter d (decided (refused why)) = d
@@ -115,12 +111,12 @@ lentAfter d (decided (refused why)) = d
 -- a call that was given this piece, with so many bytes kept in this memory, gives r and leaves this memory and these lent bytes. What is kept is
 -- as many bytes as the call says, but with 33, which changes nothing
 pub record PieceReceived (r : Reception) (n : ℕ) (memory memory₁ piece out out₁ : List ℕ) : Type 0 where
-  pub answer : heardOf (r .heard) ≡ answerOf (received (length out) (keptIn n memory) piece .told)
-  pub taken : r .taken ≡ received (length out) (keptIn n memory) piece .taken
-  pub count : r .kept ≡ cond (ltb (length out) userMax) n (length (received (length out) (keptIn n memory) piece .kept))
-  pub kept : keptIn (r .kept) memory₁ ≡ received (length out) (keptIn n memory) piece .kept
+  pub answer : answerOf (r .answer) ≡ pieceFields (receiving (length out) (keptIn n memory) piece .outcome)
+  pub taken : r .taken ≡ receiving (length out) (keptIn n memory) piece .taken
+  pub count : r .kept ≡ cond (ltb (length out) userMax) n (length (receiving (length out) (keptIn n memory) piece .kept))
+  pub kept : keptIn (r .kept) memory₁ ≡ receiving (length out) (keptIn n memory) piece .kept
   pub untouched : length out < userMax → memory₁ ≡ memory
-  pub lent : out₁ ≡ lentAfter out (received (length out) (keptIn n memory) piece .told)
+  pub lent : out₁ ≡ lentAfter out (receiving (length out) (keptIn n memory) piece .outcome)
 
 -- ---- the steps of a call: for the functions that do them
 
@@ -143,8 +139,8 @@ pub record Begun (n : ℕ) (memory : List ℕ) : Type 0 where
 
 -- a call comes to this: r, with this memory after it and these lent bytes before and after it
 pub record Meets (r : Reception) (c : Call) (memory out out₁ : List ℕ) : Type 0 where
-  pub answer : heardOf (r .heard) ≡ answerOf (c .told)
+  pub answer : answerOf (r .answer) ≡ pieceFields (c .outcome)
   pub taken : r .taken ≡ c .taken
   pub count : r .kept ≡ length (c .kept)
   pub kept : keptIn (r .kept) memory ≡ c .kept
-  pub lent : out₁ ≡ lentAfter out (c .told)
+  pub lent : out₁ ≡ lentAfter out (c .outcome)

@@ -16,8 +16,8 @@ ghost use Rattle.receiver.specs.Receiver.{
   more,
   goesOver,
   keptIn,
-  waits-on,
-  heardOf,
+  waiting,
+  answerOf,
   keptAfter,
   Checked,
   Begun,
@@ -34,16 +34,16 @@ pub const HEADER: usize = 10;
 pub const KEPT_MAX: usize = 291;
 
 // What a piece comes to.
-pub enum Heard {
+pub enum PieceAnswer {
     // The piece is used up, and nothing is decided.
-    Waits,
+    Waiting,
     // A frame, its user data in the lent output; or why there is none: 12 to 15 and 33.
     Decided(Read),
 }
 
 // How many bytes of the piece were taken, up to the one that decided, and how many are kept, the first of the lent memory.
 pub struct Reception {
-    pub heard: Heard,
+    pub answer: PieceAnswer,
     pub taken: usize,
     pub kept: usize,
 }
@@ -132,10 +132,10 @@ fn give_up_one(memory: &mut [u8; FRAME_MAX])
 
 // The piece is used up: so many bytes were taken, and so many are kept.
 fn waiting(taken: usize, kept: usize) -> Reception
-    ensures { λ r. ⌜ (heardOf (r .heard) ≡ waits-on) × (r .taken ≡ taken) × (r .kept ≡ kept) ⌝ }
+    ensures { λ r. ⌜ (answerOf (r .answer) ≡ waiting) × (r .taken ≡ taken) × (r .kept ≡ kept) ⌝ }
 {
     Reception {
-        heard: Heard::Waits,
+        answer: PieceAnswer::Waiting,
         taken,
         kept,
     }
@@ -178,13 +178,13 @@ fn decide(
             let whole = &memory[..];
             frame::copy_user(out, &whole[..n], len);
             Reception {
-                heard: Heard::Decided(r),
+                answer: PieceAnswer::Decided(r),
                 taken,
                 kept: 0,
             }
         }
         Read::Refused(why) => Reception {
-            heard: Heard::Decided(r),
+            answer: PieceAnswer::Decided(r),
             taken,
             kept: move_on(memory, why),
         },
@@ -237,7 +237,7 @@ pub fn receive(memory: &mut [u8; FRAME_MAX], kept: usize, piece: &[u8], out: &mu
 {
     if out.len() < frame::USER_MAX {
         return Reception {
-            heard: Heard::Decided(Read::Refused(frame::FrameRefusal::OutputTooSmall)),
+            answer: PieceAnswer::Decided(Read::Refused(frame::FrameRefusal::OutputTooSmall)),
             taken: 0,
             kept,
         };

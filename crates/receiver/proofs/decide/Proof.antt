@@ -2,16 +2,15 @@
 -- Assumes nothing.
 use borrow.Author.Needs.{needs}
 use mathlib.Core.Path.{_≡_, refl, sym, ap, _∙_, subst}
-use mathlib.Core.List.{List}
 use Prim.Native.Nat.{ℕ, _≤_}
 use native.Mathlib.Omega.{arith}
-use lib.ListN.{length, take, drop, length-take}
+use lib.ListN.{length, take, drop}
 use Rattle.laws.specs.Limits.{userMax}
 use Rattle.frame.specs.FrameOutcome.{FrameOutcome}
-use Rattle.frame.specs.Frame.{Parts, frameSize, refusalOf, readOf, fieldsOf, checkedOf, Whole}
+use Rattle.frame.specs.Frame.{Parts, frameSize, readOf, fieldsOf, checkedOf, Whole}
 use Rattle.frame.specs.declared.Read.{Read}
 use Rattle.frame.proofs.Laws.{fields-checked}
-use Rattle.receiver.specs.Receiver.{decided, keptIn, keptAfter, says, lentAfter}
+use Rattle.receiver.specs.Receiver.{decided, keptIn, decided, lentAfter}
 use Rattle.receiver.proofs.KeptLaws.{left-accepted, left-refused}
 use Rattle.receiver.proofs.decide.Statement.{statement}
 use Rattle.receiver.proofs.decide.Tie as tie
@@ -55,7 +54,7 @@ returns c =
     let o = sym (q .said) ∙ ap (λ (r : Read). checkedOf r s) e in
     let left = left-accepted s (t .args .memory .now) _ o (q .there ∙ t .pre .1) in
     record {
-      answer = ap says (ap readOf (sym e) ∙ fields-checked (t .args .r) s (q .whole) ∙ ap fieldsOf (q .said));
+      answer = ap decided (ap readOf (sym e) ∙ fields-checked (t .args .r) s (q .whole) ∙ ap fieldsOf (q .said));
       taken = refl;
       count = left .count;
       kept = left .kept;
@@ -74,7 +73,7 @@ returns-2 c =
     let k = c .move-on .ensures in
     let left = left-refused _ (t .args .n) m _ o (q .there) (t .pre .1) (subst (λ (n : ℕ). take n (c .move-on .last .0) ≡ take n (drop 1 m)) (k .0) (k .1)) in
     record {
-      answer = ap says (ap readOf (sym e) ∙ fields-checked (t .args .r) s (q .whole) ∙ ap fieldsOf (q .said));
+      answer = ap decided (ap readOf (sym e) ∙ fields-checked (t .args .r) s (q .whole) ∙ ap fieldsOf (q .said));
       taken = refl;
       count = k .0 ∙ left .count;
       kept = ap (λ (n : ℕ). keptIn n (c .move-on .last .0)) (k .0) ∙ left .kept;

@@ -1,7 +1,7 @@
 -- `receiver::is_short` meets its contract: by the refusal's number.
 -- Assumes nothing.
 use borrow.Author.Needs.{needs}
-use mathlib.Core.Path.{_≡_, refl, sym, ap, _∙_}
+use mathlib.Core.Path.{sym, ap, _∙_}
 use Prim.Native.Nat.{ℕ}
 use lib.Dec.{eqb}
 use Rattle.frame.specs.FrameOutcome.{numberOf}

@@ -2,9 +2,8 @@
 -- Assumes nothing.
 use borrow.Author.Needs.{needs}
 use mathlib.Core.Path.{_≡_, sym, _∙_}
-use mathlib.Core.Bool.{true, false}
 use native.Mathlib.Omega.{arith}
-use lib.ListN.{length, take}
+use lib.ListN.{take}
 use Rattle.receiver.specs.Receiver.{waits}
 use Rattle.receiver.proofs.KeptLaws.{kept-many, kept-is, kept-none, begun-zero, begun-few, waits-checked}
 use Rattle.receiver.proofs.kept_length.Statement.{statement}

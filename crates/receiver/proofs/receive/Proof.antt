@@ -1,9 +1,7 @@
 -- `receiver::receive` meets its contract: 33 first, then the call from what the memory keeps.
 -- Assumes nothing.
 use borrow.Author.Needs.{needs}
-use mathlib.Core.Path.{_≡_, refl, sym, ap, _∙_, subst}
-use native.Mathlib.Omega.{arith}
-use lib.ListN.{length}
+use mathlib.Core.Path.{refl}
 use Rattle.receiver.proofs.CallLaws.{received-lent, received-over}
 use Rattle.receiver.proofs.receive.Statement.{statement}
 use Rattle.receiver.proofs.receive.Tie as tie

@@ -1,7 +1,6 @@
 -- `receiver::stated_size` meets its contract: 10 + n + 2 × (n/16 rounded up), at most 292 for a length byte.
 -- Assumes nothing.
 use borrow.Author.Needs.{needs}
-use native.Mathlib.Omega.{arith}
 use Rattle.receiver.proofs.stated_size.Statement.{statement}
 use Rattle.receiver.proofs.stated_size.Tie as tie
 
