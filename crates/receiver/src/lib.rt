@@ -28,7 +28,7 @@ use frame::FRAME_MAX;
 use frame::Read;
 
 // The bytes of a frame's header, with its check.
-pub const HEADER: usize = 10;
+const HEADER: usize = 10;
 
 // The most bytes that are kept.
 pub const KEPT_MAX: usize = 291;
