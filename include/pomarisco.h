@@ -55,8 +55,10 @@
  *   31   fragment under 2 or over 2,048 bytes; FIR, FIN or CON wrong; UNS outside
  *        CONFIRM; function 128 or more; CONFIRM not 2 bytes                          the state as it was
  *   32   CONFIRM not accepted                                                        the state as it was
- *   33   lent output under 250 (frame read, segment write), 292 (frame write)
- *        or 2,048 (answer, assembly)                                                 all as it was
+ *   33   lent output under 250 (frame read, piece, segment write), 292 (frame
+ *        write) or 2,048 (answer, assembly)                                          all as it was
+ *
+ * A piece off the wire is never refused 11: the receiver waits. By 12 to 15 it moves on, as said at piece_receive, and no line record counts it.
  */
 #ifndef POMARISCO_H
 #define POMARISCO_H
