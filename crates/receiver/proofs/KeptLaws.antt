@@ -33,7 +33,7 @@ pub kept-none : (n : ℕ) (m : List ℕ) → n ≤ keptMax → waits (take n m) 
 unfolding keptIn
 kept-none n m h w = rw (le-ltb keptMax n h, w)
 
--- "what is kept is always something that the rule calls 11", whatever the memory
+-- what is kept is something that the rule calls 11, whatever the memory
 pub kept-waits : (n : ℕ) (m : List ℕ) → waits (keptIn n m) ≡ true
 unfolding keptIn
 kept-waits n m =

@@ -9,7 +9,7 @@ use lib.ListN.{length, take, drop}
 use lib.Seq.{drop-nil}
 use Rattle.laws.proofs.Choices.{by}
 use Rattle.receiver.specs.Receiver.{rule, waits, movesOn, decidedBy, Call, more, usedUp, ends, goesOver}
-use Rattle.receiver.specs.Line.{LineEvent, firstThen, eventsFrom}
+use Rattle.receiver.specs.Line.{firstThen, eventsFrom}
 use Rattle.receiver.proofs.RuleLaws.{waits-short, differ, moves, decided-at}
 
 -- ---- the line from a place on

@@ -1,4 +1,4 @@
--- A whole line eventsOf at once, and the theorem that pieces of it are eventsOf alike (document 02, request 101).
+-- A whole line at once, and the theorems that its pieces come to the same (document 02, request 101).
 -- Assumes nothing.
 use Prim.Native.Nat.{ℕ, zero, suc, _+_, _-_, _≤_}
 use mathlib.Core.Path.{_≡_}

@@ -1,17 +1,15 @@
 // The receiver: pieces of any size off the wire, made into frames. What it keeps between calls is in bytes that the host lends.
 ghost use mathlib.Core.Path.{_≡_};
 ghost use mathlib.Core.List.{_++_};
-ghost use Prim.Native.Nat.{_+_, _-_, _≤_, _<_, min};
-ghost use lib.ListN.{length, take, drop, getD};
+ghost use Prim.Native.Nat.{_+_, _-_, _≤_, min};
+ghost use lib.ListN.{length, take, drop};
 ghost use lib.Dec.{eqb};
 ghost use Rattle.laws.specs.Limits.{userMax, frameMax};
-ghost use Rattle.octets.specs.Bytes.{splice};
 ghost use Rattle.frame.specs.FrameOutcome.{numberOf};
 ghost use Rattle.frame.specs.Frame.{readOf, refusalOf, frameSize};
 ghost use Rattle.receiver.specs.Receiver.{
   rule,
   decidedBy,
-  usedUp,
   ends,
   more,
   goesOver,
