@@ -49,18 +49,21 @@ differ b t f = let z : _≡_ {A = ℕ} 1 0 = ap (λ (x : Bool). cond x 1 0) (sym
 pub data Stage (s : List ℕ) : Type 0 where
   few : length s < 10 → waits s ≡ true → Stage s
   refusal : 10 ≤ length s → (k : ℕ) → 12 ≤ k → k ≤ 14 → ((t : List ℕ) → rule (s ++ t) ≡ refusedBy k) → Stage s
-  part : 10 ≤ length s → 5 ≤ getD s 2 0 → length s < statedSize s → ((t : List ℕ) → rule (s ++ t) ≡ decodeBody (userCount s) (s ++ t)) → Stage s
+  part : 10 ≤ length s → 5 ≤ getD s 2 0 → length s < statedSize s → waits s ≡ true → ((t : List ℕ) → rule (s ++ t) ≡ decodeBody (userCount s) (s ++ t)) → Stage s
   whole : 10 ≤ length s → statedSize s ≤ length s → ((t : List ℕ) → rule (s ++ t) ≡ decodeBody (userCount s) s) → Body (decodeBody (userCount s) s) → Stage s
 
 pub stage : (s : List ℕ) → Stage s
 stage s = go (ruled s)
   where
+    waiting : ((t : List ℕ) → rule (s ++ t) ≡ decodeBody (userCount s) (s ++ t)) → length s < statedSize s → waits s ≡ true
+    waiting e m = waits-by s _ (alone s _ (e []) ∙ ap (decodeBody (userCount s)) (append-nil s) ∙ body-short s (userCount s) m)
+
     go : Ruled s → Stage s
     go (short l e) = few l (waits-by s _ e)
     go (wrong l k a b e) = refusal l k a b e
     go (right l five e) =
         by (ltb (length s) (statedSize s))
-        (λ h. part l five (ltb-true _ _ h) e)
+        (λ h. part l five (ltb-true _ _ h) (waiting e (ltb-true _ _ h)) e)
         (λ h. let w : statedSize s ≤ length s = ltb-false _ _ h in whole l w (λ t. e t ∙ body-more s (userCount s) w t) (body-whole (userCount s) s w))
 
 -- ---- laws by the stage
@@ -72,7 +75,7 @@ waits-prefix s t w = go (stage s)
     go : Stage s → waits s ≡ true
     go (few l e) = e
     go (refusal l k a b e) = absurd (differ _ w (waits-by (s ++ t) _ (e t) ∙ not-wrong k a))
-    go (part l five m e) = waits-by s _ (alone s _ (e []) ∙ ap (decodeBody (userCount s)) (append-nil s) ∙ body-short s (userCount s) m)
+    go (part l five m w e) = w
     go (whole l m e d) = absurd (differ _ w (waits-by (s ++ t) _ (e t) ∙ body-decides _ d))
 
 -- what is decided stays so, whatever follows
@@ -82,7 +85,7 @@ decided-stays s t w = go (stage s)
     go : Stage s → rule (s ++ t) ≡ rule s
     go (few l e) = absurd (differ _ e w)
     go (refusal l k a b e) = e t ∙ sym (alone s _ (e []))
-    go (part l five m e) = absurd (differ _ (waits-by s _ (alone s _ (e []) ∙ ap (decodeBody (userCount s)) (append-nil s) ∙ body-short s (userCount s) m)) w)
+    go (part l five m x e) = absurd (differ _ x w)
     go (whole l m e d) = e t ∙ sym (alone s _ (e []))
 
 -- a right header: how many bytes are wanted
@@ -99,7 +102,7 @@ wanting s ten w = go (stage s)
     go : Stage s → Wanting s
     go (few l e) = absurd (omega arith)
     go (refusal l k a b e) = absurd (differ _ w (waits-by s _ (alone s _ (e [])) ∙ not-wrong k a))
-    go (part l five m e) = record {
+    go (part l five m x e) = record {
       least = five;
       wants = m;
       below = λ t h. waits-by (s ++ t) _ (e t ∙ body-short (s ++ t) (userCount s) h);
@@ -129,7 +132,7 @@ moves s w = go (stage s)
     go (few l e) = absurd (differ _ e w)
     go (refusal l k a b e) =
         subst (λ (x : FrameOutcome Parts). Moves s (movesOn x s) (decidedBy x s)) (sym (alone s _ (e []))) (record { on = omega arith; read = l; behind = omega arith; few-stay = omega arith; ten = l })
-    go (part l five m e) = absurd (differ _ (waits-by s _ (alone s _ (e []) ∙ ap (decodeBody (userCount s)) (append-nil s) ∙ body-short s (userCount s) m)) w)
+    go (part l five m x e) = absurd (differ _ x w)
     go (whole l m e d) =
         subst (λ (x : FrameOutcome Parts). Moves s (movesOn x s) (decidedBy x s)) (sym (alone s _ (e []))) (moves-by s _ d m l)
 
@@ -153,7 +156,7 @@ decided-at s b w d = by (ltb (length s) 10) (λ h. header (ltb-true _ _ h) (stag
     header h (refusal l k x y e) =
         let n : length (s ++ b ∷ []) ≡ 10 = omega (arith, one) in
         n ∙ sym (ap (λ (o : FrameOutcome Parts). decidedBy o (s ++ b ∷ [])) (alone (s ++ b ∷ []) _ (e [])))
-    header h (part l five m e) = absurd (differ _ (waits-by _ _ (alone _ _ (e []) ∙ ap (decodeBody (userCount (s ++ b ∷ []))) (append-nil _) ∙ body-short (s ++ b ∷ []) (userCount (s ++ b ∷ [])) m)) d)
+    header h (part l five m x e) = absurd (differ _ x d)
     header h (whole l m e x) =
         let n : length (s ++ b ∷ []) ≡ statedSize (s ++ b ∷ []) = omega (arith, one) in
         n ∙ sym (ap (λ (o : FrameOutcome Parts). decidedBy o (s ++ b ∷ [])) (alone (s ++ b ∷ []) _ (e [])) ∙ body-size (s ++ b ∷ []) _ x)
@@ -200,5 +203,5 @@ never-33 s d r = go (stage s)
     go : Stage s → ⊥
     go (few l e) = differ _ e d
     go (refusal l k a b e) = let z : k ≡ 33 = ap numberOf (sym (alone s _ (e [])) ∙ r) in omega arith
-    go (part l five m e) = differ _ (waits-by s _ (alone s _ (e []) ∙ ap (decodeBody (userCount s)) (append-nil s) ∙ body-short s (userCount s) m)) d
+    go (part l five m x e) = differ _ x d
     go (whole l m e x) = body-not-33 _ x (sym (alone s _ (e [])) ∙ r)
