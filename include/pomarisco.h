@@ -50,7 +50,7 @@
  *   16   to write: user data over 250, or a fragment of 0 or over 2,048 bytes        all as it was
  *   17   frame not one the station takes                                             only the line record counts it
  *   21   segment with no data, or over 249 bytes of it                               all as it was
- *   22   no FIR and nothing begun, or sequence not next                              the unfinished fragment forgotten
+ *   22   no FIR and nothing begun, or sequence not next and not a repeat             the unfinished fragment forgotten
  *   23   fragment would pass 2,048 bytes                                             the unfinished fragment forgotten
  *   31   fragment under 2 or over 2,048 bytes; FIR, FIN or CON wrong; UNS outside
  *        CONFIRM; function 128 or more; CONFIRM not 2 bytes                          the state as it was
@@ -258,7 +258,9 @@ struct pomarisco_taken {           /* kind 0: user data, the first `length` lent
 
 struct pomarisco_assembly {        /* kept between segments received; all 0: nothing begun */
     size_t length;
+    size_t last_length;            /* of the last segment taken: how many of these bytes are its data, its sequence, whether it had FIR */
     uint8_t last;
+    uint8_t last_fir;
     uint8_t begun;
 };
 
@@ -317,9 +319,9 @@ POMARISCO_SIZE(receiver, 304); POMARISCO_AT(receiver, kept, 0); POMARISCO_AT(rec
 POMARISCO_SIZE(piece, 40); POMARISCO_AT(piece, taken, 0); POMARISCO_AT(piece, kept, 8); POMARISCO_AT(piece, frame, 16); POMARISCO_AT(piece, waits, 32);
 POMARISCO_SIZE(line, 46); POMARISCO_AT(line, accepted, 0); POMARISCO_AT(line, short_frame, 2); POMARISCO_AT(line, start, 4); POMARISCO_AT(line, header_check, 6); POMARISCO_AT(line, length, 8); POMARISCO_AT(line, block_check, 10); POMARISCO_AT(line, not_taken, 12); POMARISCO_AT(line, blocks, 14);
 POMARISCO_SIZE(taken, 16); POMARISCO_AT(taken, length, 0); POMARISCO_AT(taken, control, 8); POMARISCO_AT(taken, kind, 9); POMARISCO_AT(taken, refusal, 10); POMARISCO_AT(taken, block, 11);
-POMARISCO_SIZE(assembly, 16); POMARISCO_AT(assembly, length, 0); POMARISCO_AT(assembly, last, 8); POMARISCO_AT(assembly, begun, 9);
+POMARISCO_SIZE(assembly, 24); POMARISCO_AT(assembly, length, 0); POMARISCO_AT(assembly, last_length, 8); POMARISCO_AT(assembly, last, 16); POMARISCO_AT(assembly, last_fir, 17); POMARISCO_AT(assembly, begun, 18);
 POMARISCO_SIZE(segment, 16); POMARISCO_AT(segment, length, 0); POMARISCO_AT(segment, kind, 8); POMARISCO_AT(segment, refusal, 9);
-POMARISCO_SIZE(reception, 32); POMARISCO_AT(reception, assembly, 0); POMARISCO_AT(reception, segment, 16);
+POMARISCO_SIZE(reception, 40); POMARISCO_AT(reception, assembly, 0); POMARISCO_AT(reception, segment, 24);
 POMARISCO_SIZE(sender, 16); POMARISCO_AT(sender, at, 0); POMARISCO_AT(sender, next, 8);
 POMARISCO_SIZE(sent, 16); POMARISCO_AT(sent, size, 0); POMARISCO_AT(sent, last, 8); POMARISCO_AT(sent, refusal, 9);
 POMARISCO_SIZE(sending, 32); POMARISCO_AT(sending, sender, 0); POMARISCO_AT(sending, sent, 16);
@@ -378,7 +380,8 @@ struct pomarisco_wrote pomarisco_link_reply(uint8_t *out, size_t out_length, str
 struct pomarisco_wrote pomarisco_link_data(uint8_t *out, size_t out_length, struct pomarisco_station station, const uint8_t *user, size_t user_length);
 
 /* Takes a segment into the fragment at the front of the lent bytes, behind what came before: lend the same bytes, as they were left, until it is
- * whole. Changes the assembly and those bytes. Refusals 21 to 23, and 33 when out_length is under 2,048. */
+ * whole. Changes the assembly and those bytes. A repeat, a segment without FIR that equals the last one taken in every byte, changes neither: the
+ * fragment goes on. Its data is compared with what stands in the lent bytes. Refusals 21 to 23, and 33 when out_length is under 2,048. */
 struct pomarisco_reception pomarisco_segment_receive(struct pomarisco_assembly assembly, const uint8_t *segment, size_t segment_length, uint8_t *out, size_t out_length);
 
 /* Writes the next segment of a fragment: call again with the sender given back, and the same fragment, until `last`. Changes the sender and

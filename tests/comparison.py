@@ -7,6 +7,7 @@ import subprocess
 import sys
 
 import cuttings
+import repeats
 
 HERE = os.path.dirname(os.path.abspath(__file__))
 ROOT = os.path.dirname(HERE)
@@ -14,6 +15,9 @@ REFERENCE = os.path.join(ROOT, "reference")
 TARGET = os.path.join(REFERENCE, "target")
 
 GROUPS = ["line", "station", "readings", "fragments"]
+
+# Groups with scripts that are made together with their answers.
+MAKERS = {"line": cuttings, "station": repeats}
 
 # Random scripts for each group: seeds and lines. `all` mixes the calls of every group and is run
 # only when every group is.
@@ -68,15 +72,15 @@ class Script:
             os.remove(self.path)
 
 
-def cut_lines(directory):
-    """The scripts of `cuttings`, written to the directory with their answers."""
-    for number, (name, text, answers) in enumerate(cuttings.scripts(), 1):
-        path = os.path.join(directory, f"cuttings-{number}.script")
+def made(maker, directory):
+    """The scripts of a maker, written to the directory with their answers."""
+    for number, (name, text, answers) in enumerate(maker.scripts(), 1):
+        path = os.path.join(directory, f"{maker.__name__}-{number}.script")
         stored = path[:-len("script")] + "answers"
         for target, content in ((path, text), (stored, answers)):
             with open(target, "w", encoding="ascii") as out:
                 out.write(content)
-        yield Script(f"cuttings: {name}", path, stored)
+        yield Script(f"{maker.__name__}: {name}", path, stored)
 
 
 def scripts(groups, directory):
@@ -90,8 +94,8 @@ def scripts(groups, directory):
                 answers = path[:-len("script")] + "answers"
                 stored = answers if os.path.exists(answers) else None
                 found.append(Script(f"tests/{group}/{name}", path, stored))
-        if group == "line":
-            found.extend(cut_lines(directory))
+        if group in MAKERS:
+            found.extend(made(MAKERS[group], directory))
     for kind in list(groups) + (["all"] if set(groups) == set(GROUPS) else []):
         seeds, lines = SEEDS[kind]
         for seed in seeds:

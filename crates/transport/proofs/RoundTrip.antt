@@ -15,8 +15,8 @@ use Rattle.laws.proofs.Tests.{cond-same}
 use Rattle.octets.specs.Bytes.{splice}
 use Rattle.octets.proofs.Splice.{splice-append, length-splice, stored-splice}
 use Rattle.laws.specs.Outcome.{Outcome, accepted, refused}
-use Rattle.transport.specs.Segment.{headOf, fin, sequence, dataOf, bitOf, transportHeader, segment, segmentCount, cut, segmentsOf}
-use Rattle.transport.specs.Receive.{idle, receiving, Progress, more, complete, answerReceived, assemblyAfter, lentAfterReceive, receivedOf}
+use Rattle.transport.specs.Segment.{headOf, fin, fir, sequence, dataOf, bitOf, transportHeader, segment, segmentCount, cut, segmentsOf}
+use Rattle.transport.specs.Receive.{idle, behind, receiving, Progress, more, complete, answerReceived, assemblyAfter, lentAfterReceive, receivedOf}
 use Rattle.transport.specs.Send.{Written, fromOf, lastAt, endOf, nextSegment, nextSender, sending, writtenOf, answerSent, senderAfter, lentAfterSend, sentOf, SegmentSent}
 use Rattle.transport.specs.RoundTrip.{Sends, Receives, none, next, completes, SentIsReceived, SentWhole, SendsEnd}
 use Rattle.transport.specs.RoundTrip as Trip
@@ -28,7 +28,7 @@ use Rattle.transport.specs.declared.Sending.{Sending}
 use Rattle.transport.specs.declared.Sent.{Sent}
 use Rattle.transport.specs.declared.Sent.the-variants.{Segment, FragmentLength}
 use Rattle.transport.specs.declared.Sent.the-variants as Sents
-use Rattle.transport.proofs.Laws.{got-first, got-next, place-at, send-next, fin-header, fir-header, sequence-header}
+use Rattle.transport.proofs.Laws.{got-first, got-next, place-behind, send-next, fin-header, fir-header, sequence-header}
 
 -- ---- the segments
 
@@ -104,10 +104,10 @@ unfoldable pub calls : ℕ → Sender → List ℕ → Calls
 calls zero p f = record { written = []; sender = p }
 calls (suc k) p f = wrote (nextSegment p f) (calls k (nextSender p f) f)
 
-abbrev sender : ℕ → ℕ → Sender
+abbrev pub sender : ℕ → ℕ → Sender
 sender q at = record { next = record { 0 = q }; at = at }
 
-abbrev called : List (List ℕ) → ℕ → Calls
+abbrev pub called : List (List ℕ) → ℕ → Calls
 called ss q = record { written = ss; sender = sender q 0 }
 
 module _ (q at : ℕ) (f : List ℕ) (h : at < length f) where
@@ -162,27 +162,27 @@ answered o r = record { answers = o ∷ r .answers; assembly = r .assembly; lent
 unfoldable pub receiveAll : Assembly → List ℕ → List (List ℕ) → Run
 receiveAll a d [] = record { answers = []; assembly = a; lent = d }
 receiveAll a d (s ∷ ss) =
-    answered (answerReceived s (receiving (length d) a s))
-    (receiveAll (assemblyAfter a s (receiving (length d) a s)) (lentAfterReceive d s (receiving (length d) a s)) ss)
+    answered (answerReceived s (receiving d a s))
+    (receiveAll (assemblyAfter a s (receiving d a s)) (lentAfterReceive d s (receiving d a s)) ss)
 
 -- k times more to come, then a complete fragment of n bytes
 unfoldable pub goes : ℕ → ℕ → List (Outcome Progress)
 goes zero n = accepted (complete n) ∷ []
 goes (suc k) n = accepted more ∷ goes k n
 
-abbrev ended : ℕ → ℕ → List ℕ → Run
+abbrev pub ended : ℕ → ℕ → List ℕ → Run
 ended k n d = record { answers = goes k n; assembly = idle; lent = d }
 
 -- without FIR and in sequence, behind what came
 follows : (a : Assembly) (d v : List ℕ) (q r at : ℕ) (last : Bool) → fragmentMax ≤ length d → 0 < length v → length v ≤ segmentDataMax → at + length v ≤ fragmentMax
-    → a .begun ≡ true → a .len ≡ at → r % 64 ≡ (a .last .0 + 1) % 64 → receiving (length d) a (segment false last r v) ≡ accepted at
+    → a .begun ≡ true → a .len ≡ at → r % 64 ≡ (a .last .0 + 1) % 64 → receiving d a (segment false last r v) ≡ accepted (behind at)
 follows a d v q r at last room some full fits b l e =
     let s : List ℕ = segment false last r v in
-    got-next (length d) a s room (omega arith) (omega arith) (eqb-false _ _ (fir-header false last r))
-    ∙ place-at a (sequence (headOf s)) (length v) b (sequence-header false last r ∙ e) (omega arith)
-    ∙ ap accepted l
+    got-next d a s room (omega arith) (omega arith) (eqb-false _ _ (fir-header false last r))
+    ∙ place-behind a d s b (sequence-header false last r ∙ e) (omega arith)
+    ∙ ap (λ (n : ℕ). accepted (behind n)) l
 
-pub feeds : (k : ℕ) (first : Bool) (q at : ℕ) (a : Assembly) (d u : List ℕ) → receiving (length d) a (segment first (eqb k 0) q (take segmentDataMax u)) ≡ accepted at
+pub feeds : (k : ℕ) (first : Bool) (q at : ℕ) (a : Assembly) (d u : List ℕ) → receiving d a (segment first (eqb k 0) q (take segmentDataMax u)) ≡ accepted (behind at)
     → fragmentMax ≤ length d → at + length u ≤ fragmentMax → length u ≤ segmentDataMax * suc k → segmentDataMax * k < length u
     → receiveAll a d (cut (suc k) first q u) ≡ ended k (at + length u) (splice d at u)
 unfolding receiveAll cut goes
@@ -192,7 +192,8 @@ feeds (suc k) first q at a d u e room fits l g =
     let w : List ℕ = drop segmentDataMax u in
     let n : length v ≡ segmentDataMax = length-take segmentDataMax u ∙ omega arith in
     let m : length w ≡ length u - segmentDataMax = length-drop segmentDataMax u in
-    let a′ : Assembly = record { begun = true; last = record { 0 = sequence (transportHeader first false q) }; len = at + length v } in
+    let h : ℕ = transportHeader first false q in
+    let a′ : Assembly = record { begun = true; last = record { 0 = sequence h }; «last_fir» = fir h; «last_len» = length v; len = at + length v } in
     let d′ : List ℕ = splice d at v in
     let room′ : fragmentMax ≤ length d′ = omega (arith, length-splice d at v) in
     let r : ((q + 1) % 64) % 64 ≡ (sequence (transportHeader first false q) + 1) % 64 = omega (arith, sequence-header first false q) in
@@ -212,7 +213,7 @@ round-trip a d f q room some fits =
     let s : List ℕ = segment true (eqb k 0) q (take segmentDataMax f) in
     let n : length s ≤ segmentDataMax + 1 = simp length-take (omega arith) in
     let m : 2 ≤ length s = simp length-take (omega arith) in
-    let t : receiving (length d) a s ≡ accepted 0 = got-first (length d) a s room m n (eqb-true _ _ (fir-header true (eqb k 0) q)) in
+    let t : receiving d a s ≡ accepted (behind 0) = got-first d a s room m n (eqb-true _ _ (fir-header true (eqb k 0) q)) in
     ap (λ (j : ℕ). receiveAll a d (cut j true q f)) e
     ∙ feeds k true q 0 a d f t room (omega arith) (omega arith) (omega arith)
     ∙ ap (λ (j : ℕ). ended k j (splice d 0 f)) (zero-add (length f))
@@ -274,7 +275,7 @@ module _ (p : Sender) (f : List ℕ) (h : p .at < length f) where
   after-at : nextSender p f .at ≡ endOf (p .at) (length f)
   after-at = ap (λ (x : Sender). x .at) (sender-next (p .next .0) (p .at) f h)
 
-sends-some : {f : List ℕ} {p p₁ : Sender} {ss : List (List ℕ)} → Sends f p ss p₁ → (1 ≤ length f) × (length f ≤ fragmentMax)
+pub sends-some : {f : List ℕ} {p p₁ : Sender} {ss : List (List ℕ)} → Sends f p ss p₁ → (1 ≤ length f) × (length f ≤ fragmentMax)
 sends-some (Trip.last {n = n} sent is) = let t = step-of n true sent is in (t .some, t .fits)
 sends-some (Trip.more {n = n} sent is rest) = let t = step-of n false sent is in (t .some, t .fits)
 
@@ -297,14 +298,14 @@ sends-are {f} {p} (Trip.more {p₁ = p₁} {r = r} {n = n} {ss = ss} sent is res
     )
 
 -- the calls of `receive` are the run
-receives-are : {a a₁ : Assembly} {d d₁ : List ℕ} {ss : List (List ℕ)} {answers : List Received} → Receives a d ss answers a₁ d₁
+pub receives-are : {a a₁ : Assembly} {d d₁ : List ℕ} {ss : List (List ℕ)} {answers : List Received} → Receives a d ss answers a₁ d₁
     → receiveAll a d ss ≡ record { answers = map receivedOf answers; assembly = a₁; lent = d₁ }
 unfolding receiveAll
 receives-are none = refl
 receives-are (next {r = r} got rest) =
     rw (sym (got .answer), sym (got .assembly), sym (got .lent)) (ap (answered (receivedOf (r .answer))) (receives-are rest))
 
-more-is : (x : Received) → receivedOf x ≡ accepted more → x ≡ More
+pub more-is : (x : Received) → receivedOf x ≡ accepted more → x ≡ More
 more-is More e = refl
 more-is (Fragment n) e = cc
 more-is SegmentLength e = cc
@@ -320,7 +321,7 @@ complete-is OutOfSequence n e = cc
 complete-is FragmentTooLong n e = cc
 complete-is OutputTooSmall n e = cc
 
-completes-is : (k n : ℕ) (answers : List Received) → map receivedOf answers ≡ goes k n → answers ≡ completes k n
+pub completes-is : (k n : ℕ) (answers : List Received) → map receivedOf answers ≡ goes k n → answers ≡ completes k n
 unfolding goes completes
 completes-is zero n [] e = cc
 completes-is zero n (x ∷ []) e = ap (λ (y : Received). y ∷ []) (complete-is x n cc)
@@ -328,23 +329,31 @@ completes-is zero n (x ∷ y ∷ ys) e = cc
 completes-is (suc k) n [] e = cc
 completes-is (suc k) n (x ∷ xs) e = ap₂ (λ (y : Received) (ys : List Received). y ∷ ys) (more-is x cc) (completes-is k n xs cc)
 
-pub sent-is-received : SentIsReceived
-sent-is-received p p₁ a a₁ f d d₁ ss answers start sends room receives =
+-- the calls up to the last segment write the fragment's segments
+pub sends-whole : (p p₁ : Sender) (f : List ℕ) (ss : List (List ℕ)) → p .at ≡ 0 → Sends f p ss p₁
+    → (length ss ≡ segmentCount (length f)) × (record { written = ss; sender = p₁ } ≡ called (segmentsOf (p .next .0) f) ((p .next .0 + segmentCount (length f)) % 64))
+sends-whole p p₁ f ss start sends =
     let q : ℕ = p .next .0 in
     let t = sends-some sends in
     let w = sends-are sends (omega arith) in
     let whole : length f - p .at ≡ length f = omega arith in
     let n : length ss ≡ segmentCount (length f) = w .1 ∙ ap segmentCount whole in
     let here : p ≡ sender q 0 = ap (sender q) start in
-    let c : record { written = ss; sender = p₁ } ≡ called (segmentsOf q f) ((q + segmentCount (length f)) % 64) =
-    sym (w .0) ∙ ap₂ (λ (k : ℕ) (x : Sender). calls k x f) n here ∙ calls-whole q f (t .0) in
-    let z : ss ≡ segmentsOf q f = ap (λ (x : Calls). x .written) c in
+    (n, sym (w .0) ∙ ap₂ (λ (k : ℕ) (x : Sender). calls k x f) n here ∙ calls-whole q f (t .0))
+
+pub sent-is-received : SentIsReceived
+sent-is-received p p₁ a a₁ f d d₁ ss answers start sends room receives =
+    let q : ℕ = p .next .0 in
+    let t = sends-some sends in
+    let w = sends-whole p p₁ f ss start sends in
+    let n : length ss ≡ segmentCount (length f) = w .0 in
+    let z : ss ≡ segmentsOf q f = ap (λ (x : Calls). x .written) (w .1) in
     let r = sym (receives-are receives) ∙ ap (receiveAll a d) z ∙ round-trip a d f q room (t .0) (t .1) in
     record {
       segments = z;
       count = n;
       most = omega arith;
-      sender = rw n (ap (λ (x : Calls). x .sender) c);
+      sender = rw n (ap (λ (x : Calls). x .sender) (w .1));
       told = rw n (completes-is (segmentCount (length f) - 1) (length f) answers (ap (λ (x : Run). x .answers) r));
       assembly = ap (λ (x : Run). x .assembly) r;
       lent = ap (λ (x : Run). x .lent) r;

@@ -3,11 +3,13 @@ ghost use mathlib.Core.Path.{_≡_};
 ghost use Prim.Native.Nat.{_+_, _-_, _≤_, _<_, _%_};
 ghost use lib.ListN.{length};
 ghost use Rattle.laws.specs.Limits.{segmentDataMax, fragmentMax};
+ghost use Rattle.laws.specs.Lists.{same};
 ghost use Rattle.laws.specs.Outcome.{numberOf};
 ghost use Rattle.octets.specs.Bytes.{splice};
 ghost use Rattle.transport.specs.Segment.{bitOf, transportHeader, nextSequence};
 ghost use Rattle.transport.specs.Receive.{
   idle,
+  lastSegment,
   places,
   placeOf,
   receivedOf,
@@ -37,10 +39,13 @@ pub const FRAGMENT_MAX: usize = 2048;
 // A transport sequence number, modulo 64: a type of its own, so that it is not mixed with an application sequence.
 pub struct TransportSequence(pub u8);
 
-// What is kept between segments: whether a fragment is begun, the last sequence taken, and how many bytes it has so far, the first of the lent bytes.
+// What is kept between segments: whether a fragment is begun; of the last segment taken its sequence, whether it had FIR, and how many bytes of data;
+// and how many bytes the fragment has so far, the first of the lent bytes.
 pub struct Assembly {
     pub begun: bool,
     pub last: TransportSequence,
+    pub last_fir: bool,
+    pub last_len: usize,
     pub len: usize,
 }
 
@@ -52,7 +57,7 @@ pub enum Received {
     Fragment(usize),
     // 21: segment with no data, or over 249.
     SegmentLength,
-    // 22: no FIR and nothing begun, or sequence not next. The unfinished fragment is forgotten.
+    // 22: no FIR and nothing begun, or sequence not next and not the last segment heard twice. The unfinished fragment is forgotten.
     OutOfSequence,
     // 23: fragment would pass 2,048. The unfinished fragment is forgotten.
     FragmentTooLong,
@@ -79,9 +84,10 @@ pub struct Reception {
     pub assembly: Assembly,
 }
 
-// Where a segment's data goes in the fragment.
+// Where a segment's data goes in the fragment; the last segment heard twice goes nowhere.
 pub enum DataPlace {
     At(usize),
+    Repeat,
     NotNext,
     TooLong,
 }
@@ -93,6 +99,8 @@ pub fn nothing_begun() -> Assembly
     Assembly {
         begun: false,
         last: TransportSequence(0),
+        last_fir: false,
+        last_len: 0,
         len: 0,
     }
 }
@@ -104,28 +112,44 @@ pub fn next_sequence(q: TransportSequence) -> TransportSequence
     TransportSequence((q.0 % 64 + 1) % 64)
 }
 
-// Where the data of a segment without FIR goes, n bytes of it.
-fn placed(a: Assembly, sequence: u8, n: usize) -> DataPlace
-    requires { ⌜ (0 < n) × (n ≤ segmentDataMax) ⌝ }
-    ensures { λ r. ⌜ placeOf r ≡ places a sequence n ⌝ }
+// The segment is the last one taken in: its transport byte, and its data as it stands at the end of the bytes so far.
+fn repeats(a: Assembly, segment: &[u8], lent: &[u8]) -> bool
+    requires { ⌜ 1 ≤ length (now segment) ⌝ }
+    ensures { λ r. ⌜ r ≡ same (now (segment .entry)) (lastSegment a (now (lent .entry))) ⌝ }
+{
+    if segment[0] != transport_header(a.last_fir, false, a.last) {
+        return false;
+    }
+    let to = octets::least(a.len, lent.len());
+    let from = octets::least(a.len - octets::least(a.last_len, a.len), to);
+    octets::equal(&segment[1..], &lent[from..to])
+}
+
+// Where the data of a segment without FIR goes.
+fn placed(a: Assembly, segment: &[u8], lent: &[u8]) -> DataPlace
+    requires { ⌜ (2 ≤ length (now segment)) × (length (now segment) ≤ segmentDataMax + 1) ⌝ }
+    ensures { λ r. ⌜ placeOf r ≡ places a (now (lent .entry)) (now (segment .entry)) ⌝ }
 {
     if !a.begun {
         return DataPlace::NotNext;
     }
+    if repeats(a, segment, lent) {
+        return DataPlace::Repeat;
+    }
     let q = next_sequence(a.last);
-    if sequence != q.0 {
+    if segment[0] % 64 != q.0 {
         return DataPlace::NotNext;
     }
     let len = octets::least(a.len, FRAGMENT_MAX);
-    if FRAGMENT_MAX < len + n {
+    if FRAGMENT_MAX < len + (segment.len() - 1) {
         return DataPlace::TooLong;
     }
     DataPlace::At(len)
 }
 
-// What is kept and answered once n bytes are in the fragment.
-fn progressed(header: u8, n: usize) -> Reception
-    ensures { λ r. ⌜ (r .assembly ≡ keptOf header n) × (receivedOf (r .answer) ≡ progressOf header n) ⌝ }
+// What is kept and answered once n bytes are in the fragment, the last m of them just now.
+fn progressed(header: u8, n: usize, m: usize) -> Reception
+    ensures { λ r. ⌜ (r .assembly ≡ keptOf header n m) × (receivedOf (r .answer) ≡ progressOf header n) ⌝ }
 {
     if header / 128 % 2 == 1 {
         return Reception {
@@ -138,6 +162,8 @@ fn progressed(header: u8, n: usize) -> Reception
         assembly: Assembly {
             begun: true,
             last: TransportSequence(header % 64),
+            last_fir: header / 64 % 2 == 1,
+            last_len: m,
             len: n,
         },
     }
@@ -169,14 +195,18 @@ pub fn receive(a: Assembly, segment: &[u8], out: &mut [u8]) -> Reception
     let n = segment.len() - 1;
     if header / 64 % 2 == 1 {
         octets::copy(out, 0, &segment[1..]);
-        return progressed(header, n);
+        return progressed(header, n, n);
     }
-    let p = placed(a, header % 64, n);
+    let p = placed(a, segment, out);
     match p {
         DataPlace::At(at) => {
             octets::copy(out, at, &segment[1..]);
-            progressed(header, at + n)
+            progressed(header, at + n, n)
         }
+        DataPlace::Repeat => Reception {
+            answer: Received::More,
+            assembly: a,
+        },
         DataPlace::NotNext => Reception {
             answer: Received::OutOfSequence,
             assembly: nothing_begun(),

@@ -209,12 +209,12 @@ impl Generator {
     }
 
     pub fn seg_call(&mut self) {
-        let unfinished = self.station().and_then(|o| o.transport.unfinished);
-        let lent = if self.random.chance(97) {
-            2048
-        } else {
-            self.random.pick(&[2047, 0, 2049, 4096, 250])
-        };
+        let unfinished = self.unfinished();
+        let again = if unfinished.is_some() { 9 } else { 3 };
+        if !self.heard.is_empty() && self.random.chance(again) {
+            return self.again_call();
+        }
+        let lent = self.assembly_lent();
         // Full segments lead to the end of the buffer soonest.
         let mut n = match self.random.below(16) {
             0 => self.random.pick(&[0, 1, 2, 248, 250, 251]),
@@ -253,7 +253,56 @@ impl Generator {
         if self.random.chance(1) {
             segment.clear();
         }
+        self.seg(lent, segment);
+    }
+
+    /// The last segment again, once or more, or something close to it.
+    fn again_call(&mut self) {
+        let mut segment = self.heard.clone();
+        let data = segment.len() - 1;
+        let mut times = 1;
+        match self.random.below(32) {
+            0 => {
+                let bit = 8 + self.random.below(8 * data);
+                segment[bit / 8] ^= 1 << (bit % 8);
+            }
+            1 => {
+                segment.remove(1);
+            }
+            2 => {
+                segment.pop();
+            }
+            3 => {
+                let byte = self.random.byte();
+                segment.insert(self.random.pick(&[1, segment.len()]), byte);
+            }
+            4 => segment[0] |= 0x80,
+            5 | 6 => segment[0] &= !0x40,
+            // The next one, with the same data.
+            7 => segment[0] = segment[0].wrapping_add(1) & 0x3F,
+            8..=13 => times = self.random.between(2, 5),
+            _ => {}
+        }
+        for _ in 0..times {
+            let lent = self.assembly_lent();
+            self.seg(lent, segment.clone());
+        }
+    }
+
+    fn seg(&mut self, lent: usize, segment: Vec<u8>) {
         self.call(format!("seg {lent} {}", hex(&segment)));
+        // 33 and 21 are not heard. After 22 or 23 nothing is begun that could be repeated.
+        if lent >= 2048 && (2..=250).contains(&segment.len()) {
+            self.heard = segment;
+        }
+    }
+
+    fn assembly_lent(&mut self) -> usize {
+        if self.random.chance(97) {
+            2048
+        } else {
+            self.random.pick(&[2047, 0, 2049, 4096, 250])
+        }
     }
 
     pub fn send_call(&mut self) {

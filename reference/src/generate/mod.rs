@@ -11,6 +11,7 @@
 //! - lines of right and wrong frames, of noise and of false starts, cut into pieces anywhere, the
 //!   rest given again, and sometimes lost or given twice; a setup or restart in their middle;
 //! - assemblies that end at 2,047, 2,048 and 2,049 bytes, segments one out of sequence and 16 out;
+//! - the last segment heard again, once and more often, and with one byte or bit of it different;
 //! - distances and sums at a limit and next to it, whole and float extremes, both zeros;
 //! - 256 held events and drops, then READ and CONFIRM, with drops before and after the READ, with
 //!   new events in between, at the confirm time and one later, and again on time after that;
@@ -30,6 +31,7 @@ use std::collections::BTreeMap;
 
 use crate::outstation::Outstation;
 use crate::script::Host;
+use crate::transport::Unfinished;
 
 pub use random::Random;
 
@@ -53,6 +55,8 @@ struct Generator {
     given: Vec<u32>,
     /// Bytes that the modem has still to hand over.
     wire: Vec<u8>,
+    /// The last segment that was not refused for its size or the lent length.
+    heard: Vec<u8>,
 }
 
 impl Generator {
@@ -64,10 +68,13 @@ impl Generator {
         }
         self.left -= 1;
         let warned = self.station().is_some_and(|o| o.events.warning);
+        let before = self.unfinished();
         let mut answer = Vec::new();
         self.host.line(line.as_bytes(), &mut answer);
         let warns = self.station().is_some_and(|o| o.events.warning);
-        self.note(&line, std::str::from_utf8(&answer).expect("text").trim_end(), warned, warns);
+        let answer = std::str::from_utf8(&answer).expect("text").trim_end();
+        self.note(&line, answer, warned, warns);
+        self.note_again(answer, before);
         self.script.extend_from_slice(line.as_bytes());
         self.script.push(b'\n');
     }
@@ -116,6 +123,10 @@ impl Generator {
         self.host.outstation.as_ref()
     }
 
+    fn unfinished(&self) -> Option<Unfinished> {
+        self.station().and_then(|o| o.transport.unfinished)
+    }
+
     fn step(&mut self) {
         match self.kind {
             Kind::Line => self.line_step(),
@@ -151,6 +162,7 @@ pub fn script(kind: Kind, seed: u64, lines: usize) -> (Vec<u8>, BTreeMap<String,
         stats: BTreeMap::new(),
         given: vec![0; 64],
         wire: Vec::new(),
+        heard: Vec::new(),
     };
     while generator.left > 0 {
         generator.step();

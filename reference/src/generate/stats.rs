@@ -1,5 +1,7 @@
 //! Counting the answers, for `--stats`.
 
+use crate::transport::Unfinished;
+
 use super::Generator;
 
 impl Generator {
@@ -79,6 +81,21 @@ impl Generator {
             if self.station().is_some_and(|o| !o.events.held.is_empty()) {
                 self.count("conf, some events still held".into());
             }
+        }
+    }
+
+    /// Segments that changed nothing: not the first of a fragment, but heard before.
+    pub fn note_again(&mut self, answer: &str, before: Option<Unfinished>) {
+        let Some(kept) = before.filter(|kept| !kept.fir) else { return };
+        if answer != "more" || self.unfinished() != before {
+            return;
+        }
+        self.count("seg more, heard again".into());
+        if kept.count == 2048 {
+            self.count("seg more, heard again at 2,048 bytes".into());
+        }
+        if kept.last == 63 || kept.last == 0 {
+            self.count(format!("seg more, heard again with sequence {}", kept.last));
         }
     }
 }

@@ -6,8 +6,11 @@ use Rattle.c_api.proofs.assembly_of.Tie as tie
 truth-requires : tie.Need-truth-requires
 truth-requires c κs = search needs
 
+truth-requires-2 : tie.Need-truth-requires-2
+truth-requires-2 c κs = search needs
+
 returns : tie.Need-returns
-returns c = rw (c .truth .ensures)
+returns c = rw (c .before .truth .ensures, c .truth2 .ensures)
 
 pub assembly-of-spec : {M : Type 1} → statement M
-assembly-of-spec = tie.close (tie.spec truth-requires returns)
+assembly-of-spec = tie.close (tie.spec truth-requires truth-requires-2 returns)
