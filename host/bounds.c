@@ -1,6 +1,6 @@
 /* What pomarisco.h says at its edges, from C: nothing lent as NULL, memory at any address up to the end of a page, a stack of POMARISCO_STACK
- * bytes, any content of the outstation and of the receiver, a line cut into any pieces, two threads, and that the functions on an outstation do
- * what the exported calls do. Ends with `N passed, M failed`. */
+ * bytes, any content of the outstation, the receiver and the assembly, a segment heard twice, a line cut into any pieces, two threads, and that the
+ * functions on an outstation do what the exported calls do. Ends with `N passed, M failed`. */
 #define _GNU_SOURCE
 #include <pthread.h>
 #include <stdio.h>
@@ -340,6 +340,127 @@ static void any_receiver(void) {
     expect(frames > 1000 && waits > 1000 && lent_less > 1000 && refusals[0] > 1000 && refusals[1] > 100 && refusals[2] > 100 && refusals[3] > 100, "any content of the receiver: each outcome reached");
 }
 
+/* ---- the assembly */
+
+static int same_assembly(const struct pomarisco_assembly *a, const struct pomarisco_assembly *b) {
+    return a->length == b->length && a->last_length == b->last_length && a->last == b->last && a->last_fir == b->last_fir && a->begun == b->begun;
+}
+
+/* Puts 2,048 bytes together in segments that end at this place, the last one with n bytes: it stands there. */
+static struct pomarisco_assembly stand(uint8_t *lent, uint8_t *segments, size_t n) {
+    struct pomarisco_assembly a = {0};
+    uint8_t head = 0x40 | 60;
+    for (size_t left = POMARISCO_FRAGMENT; left > 0; head = (head + 1) % 64) {
+        const size_t most = left > n ? left - n : n, size = most < POMARISCO_USER ? most : POMARISCO_USER - 1;
+        uint8_t *segment = segments - size - 1;
+        segment[0] = head;
+        for (size_t i = 1; i <= size; i++) segment[i] = (uint8_t)(i * 11 + left);
+        pomarisco_segment_receive_at(&a, segment, size + 1, lent, POMARISCO_FRAGMENT);
+        left -= size;
+    }
+    return a;
+}
+
+/* With this assembly the segment is 22, and the fragment is forgotten. */
+static int forgets(struct pomarisco_assembly a, const uint8_t *segment, size_t n, uint8_t *lent) {
+    static const struct pomarisco_assembly nothing = {0};
+    const struct pomarisco_segment s = pomarisco_segment_receive_at(&a, segment, n, lent, POMARISCO_FRAGMENT);
+    return s.kind == 2 && s.refusal == 22 && same_assembly(&a, &nothing);
+}
+
+/* The last segment heard again with all 2,048 bytes standing, so that it is compared to the end of what is lent: segment and lent bytes end where a page
+ * begins that may not be touched. Then with a byte or a number that the host altered between the two calls. */
+static void repeats(void) {
+    static const size_t sizes[] = {1, 2, 248, 249};
+    static uint8_t before[POMARISCO_FRAGMENT];
+    uint8_t *lent = at_end(POMARISCO_FRAGMENT), *segments = at_end(POMARISCO_USER) + POMARISCO_USER;
+    int ignored = 1, lent_altered = 1, number_altered = 1;
+    for (size_t k = 0; k < sizeof sizes / sizeof sizes[0]; k++) {
+        const size_t n = sizes[k];
+        const struct pomarisco_assembly kept = stand(lent, segments, n);
+        const uint8_t *segment = segments - n - 1;
+        struct pomarisco_assembly a = kept;
+        memcpy(before, lent, sizeof before);
+        ignored &= kept.length == POMARISCO_FRAGMENT && kept.last_length == n && kept.last == segment[0] && kept.last_fir == 0 && kept.begun == 1;
+        for (int round = 0; round < 3; round++) {
+            const struct pomarisco_segment s = pomarisco_segment_receive_at(&a, segment, n + 1, lent, POMARISCO_FRAGMENT);
+            ignored &= s.kind == 0 && s.length == 0 && s.refusal == 0 && same_assembly(&a, &kept) && memcmp(lent, before, sizeof before) == 0;
+        }
+        for (size_t at = POMARISCO_FRAGMENT - n; at < POMARISCO_FRAGMENT; at++) {
+            lent[at] ^= 0x10;
+            lent_altered &= forgets(kept, segment, n + 1, lent);
+            lent[at] ^= 0x10;
+        }
+        lent[POMARISCO_FRAGMENT - n - 1] ^= 0x10; /* a byte of an earlier one */
+        lent_altered &= pomarisco_segment_receive_at(&a, segment, n + 1, lent, POMARISCO_FRAGMENT).kind == 0 && same_assembly(&a, &kept);
+        struct pomarisco_assembly altered[] = {kept, kept, kept, kept, kept};
+        altered[0].last_length++;
+        altered[1].last_length--;
+        altered[2].last_fir = 1;
+        altered[3].last ^= 0x20;
+        altered[4].begun = 0;
+        for (size_t i = 0; i < sizeof altered / sizeof altered[0]; i++) number_altered &= forgets(altered[i], segment, n + 1, lent);
+    }
+    expect(ignored, "a segment heard twice is ignored, at the end of what is lent");
+    expect(lent_altered, "a segment heard twice is compared with the lent bytes as they stand");
+    expect(number_altered, "a segment heard twice: another number in the assembly");
+}
+
+/* The last segment as any assembly and lent bytes have it; what fits of it. */
+static size_t last_segment(const struct pomarisco_assembly *a, const uint8_t *lent, size_t length, uint8_t *to, size_t room) {
+    const size_t end = a->length < length ? a->length : length, start = a->last_length < a->length ? a->length - a->last_length : 0;
+    const size_t n = start < end ? end - start : 0;
+    to[0] = (uint8_t)((a->last_fir != 0 ? 0x40 : 0) | a->last % 64);
+    memcpy(to + 1, lent + end - n, n < room - 1 ? n : room - 1);
+    return n + 1;
+}
+
+/* Any numbers in the assembly, any length lent, and segments that the lent bytes have or nearly: a repeat is what the definition says it is, whatever the
+ * numbers, and nothing is read past what is lent. */
+static void any_assembly(void) {
+    enum { ROOM = 300, LENT = POMARISCO_FRAGMENT + 8 };
+    static uint8_t again[ROOM], before[LENT];
+    uint8_t *end = at_end(LENT) + LENT, *segments = at_end(ROOM) + ROOM;
+    int good = 1, ignored = 0, past = 0, forgotten = 0;
+    for (int round = 0; round < 40000; round++) {
+        const size_t length = round % 8 == 0 ? any() % LENT : POMARISCO_FRAGMENT + any() % 8;
+        uint8_t *lent = end - length;
+        for (size_t i = 0; i < length; i++) lent[i] = (uint8_t)any();
+        struct pomarisco_assembly a = {.last = (uint8_t)any(), .last_fir = any() % 4 == 0 ? (uint8_t)any() : 0, .begun = any() % 8 != 0 ? (uint8_t)any() : 0};
+        a.length = any() % 4 == 0 ? (size_t)any() >> any() % 64 : any() % 4 == 0 ? POMARISCO_FRAGMENT + any() % 20 : any() % (POMARISCO_FRAGMENT + 1);
+        a.last_length = any() % 4 == 0 ? (size_t)any() >> any() % 64 : (a.length > length ? a.length - length : 0) + any() % 252;
+        size_t n = last_segment(&a, lent, length, again, sizeof again);
+        if (n > ROOM) n = 1 + any() % POMARISCO_USER;
+        const uint64_t change = any() % 8;
+        if (change == 0) again[any() % n] ^= (uint8_t)(1u << any() % 8);
+        if (change == 1) n--;
+        if (change == 2 && n < ROOM) n++;
+        if (change == 3) again[0] &= 0x3F;
+        uint8_t *segment = segments - n, last[ROOM];
+        memcpy(segment, again, n);
+        const size_t size = last_segment(&a, lent, length, last, sizeof last);
+        const int repeat = length >= POMARISCO_FRAGMENT && n >= 2 && n <= POMARISCO_USER && (segment[0] & 0x40) == 0 && a.begun != 0 && n == size && memcmp(segment, last, n) == 0;
+        struct pomarisco_assembly left = a, same = a;
+        same.begun = a.begun != 0;
+        same.last_fir = a.last_fir != 0;
+        memcpy(before, lent, length);
+        const struct pomarisco_segment s = pomarisco_segment_receive_at(&left, segment, n, lent, length);
+        /* The sequence is never the next one, but for a bit that was turned: nothing else goes on. */
+        const int next = n > 0 && segment[0] % 64 == (a.last % 64 + 1) % 64;
+        if (repeat) good &= s.kind == 0 && s.length == 0 && s.refusal == 0;
+        else if (length < POMARISCO_FRAGMENT) good &= s.kind == 2 && s.refusal == 33;
+        else if (n < 2 || n > POMARISCO_USER) good &= s.kind == 2 && s.refusal == 21;
+        else if ((segment[0] & 0x40) == 0 && !next) good &= s.kind == 2 && s.refusal == 22 && left.begun == 0 && left.length == 0 && left.last_length == 0;
+        if (repeat || s.refusal == 33 || s.refusal == 21) good &= same_assembly(&left, &same);
+        if (repeat || s.kind == 2) good &= memcmp(lent, before, length) == 0;
+        ignored += repeat;
+        past += repeat && a.length > length;
+        forgotten += s.refusal == 22 && a.begun != 0;
+    }
+    expect(good, "any content of the assembly");
+    expect(ignored > 1000 && past > 100 && forgotten > 1000, "any content of the assembly: each outcome reached");
+}
+
 /* What the receiver told of a line cut into pieces of 1 to `most` bytes, 0 for the whole line, and its end state, in one number. */
 static uint64_t told(const uint8_t *line, size_t n, size_t most) {
     struct pomarisco_receiver receiver = {0};
@@ -431,6 +552,8 @@ int main(void) {
     refused_setups();
     any_content();
     any_receiver();
+    repeats();
+    any_assembly();
     cuts();
     threads();
     stack();

@@ -153,6 +153,7 @@ static void link_receive(void) { refusal = pomarisco_link_receive_at(&line_recor
 static void link_reply(void) { refusal = pomarisco_link_reply(frame, sizeof frame, station, 0).refusal; }
 static void link_data(void) { refusal = pomarisco_link_data(frame, sizeof frame, station, user, sizeof user).refusal; }
 static void segment_receive(void) { assembly.begun = 0; user[0] = 0xC0; refusal = pomarisco_segment_receive_at(&assembly, user, sizeof user, out, sizeof out).refusal; }
+static void segment_again(void) { refusal = pomarisco_segment_receive_at(&assembly, user, sizeof user, out, sizeof out).refusal; }
 static void segment_send(void) { sender.at = 0; refusal = pomarisco_segment_send_at(&sender, user, sizeof user, out, sizeof out).refusal; }
 
 /* The state after a SELECT, of which the same again is a repeat, and the same with OPERATE carries out. */
@@ -176,6 +177,14 @@ static void nothing_kept(void) { receiver.kept = 0; }
 static void half_kept(void) {
     nothing_kept();
     receive(frame, frame_size / 2);
+}
+
+/* A first segment and one that goes on: the same again is a repeat. */
+static void two_segments(void) {
+    user[0] = 0x40;
+    segment_again();
+    user[0] = 0x01;
+    segment_again();
 }
 
 /* The call is all that runs on this stack: what is no longer painted it used, with the caller's arguments and result. */
@@ -221,7 +230,7 @@ int main(void) {
         {"fragment: DIRECT OPERATE", as_full, control}, {"fragment: WRITE, 2048 bytes", as_full, longest_request}, {"frame_write", as_full, frame_write},
         {"frame_read", as_full, frame_read}, {"piece_receive, a frame", nothing_kept, piece_receive}, {"piece_receive, its 2nd half", half_kept, second_half},
         {"piece_receive, a byte of it", half_kept, one_byte}, {"link_receive", as_full, link_receive}, {"link_reply", as_full, link_reply}, {"link_data", as_full, link_data},
-        {"segment_receive", as_full, segment_receive}, {"segment_send", as_full, segment_send}};
+        {"segment_receive", as_full, segment_receive}, {"segment_receive, a repeat", two_segments, segment_again}, {"segment_send", as_full, segment_send}};
     prepare();
     layout();
     fill();

@@ -281,7 +281,7 @@ static void line_call(void) {
         result.kind = r.segment.kind;
         result.length = r.segment.length;
         result.refusal = r.segment.refusal;
-        result.more = assembly.begun != 0 ? 1 | (uint64_t)assembly.last << 8 | (uint64_t)assembly.length << 16 : 0;
+        result.more = assembly.begun | (uint64_t)assembly.last_fir << 8 | (uint64_t)assembly.last << 16 | (uint64_t)assembly.length << 24 | (uint64_t)assembly.last_length << 44;
     } else if (call.kind == SEND) {
         for (;;) {
             const struct pomarisco_sending r = pomarisco_segment_send(sender, bytes, n, to, lent);
@@ -416,6 +416,7 @@ enum count {
     LINK_ASKS,
     LINK_REFUSED,
     SEGMENT_MORE,
+    SEGMENT_AGAIN,
     SEGMENT_WHOLE,
     SEGMENT_REFUSED,
     SENT,
@@ -470,6 +471,7 @@ static const char *const names[COUNTS] = {
     "link_receive: reply",
     "link_receive refused",
     "segment_receive: goes on",
+    "segment_receive: a repeat ignored",
     "segment_receive: whole",
     "segment_receive refused",
     "fragment sent in segments",
@@ -509,6 +511,8 @@ static struct {
     size_t frame_length;
     int begun; /* a fragment is, and this sequence is next */
     uint8_t next_segment;
+    uint8_t segment[POMARISCO_USER]; /* the segment taken last */
+    size_t segment_length;
     uint8_t wire[POMARISCO_FRAME + 20]; /* what is still to come off the wire */
     size_t wire_length;
 } host = {.none = 1};
@@ -1105,8 +1109,28 @@ static void same_frame(void) {
     lend(USER_OUT, 20);
 }
 
+/* The segment taken last, as it was, with one bit turned, with another FIR or FIN, or without its first byte of data. */
+static void same_segment(void) {
+    put_bytes(host.segment, host.segment_length);
+    const uint32_t length = (uint32_t)call.length;
+    if (chance(15)) {
+        const uint32_t place = below(length);
+        call.bytes[place] ^= (uint8_t)(1u << below(8));
+    } else if (chance(10)) {
+        call.bytes[0] ^= (uint8_t)PICK(0x40, 0x80);
+    } else if (length > 2 && chance(10)) {
+        call.length--;
+        memmove(call.bytes + 1, call.bytes + 2, call.length - 1);
+    }
+    lend(ASSEMBLY, 30);
+}
+
 static void some_segment(void) {
     call.kind = SEGMENT;
+    if (host.segment_length > 0 && chance(20)) {
+        same_segment();
+        return;
+    }
     uint32_t sequence = host.next_segment;
     if (chance(2)) {
         sequence = below(64);
@@ -1175,16 +1199,22 @@ static void heard(void) {
     switch (call.kind) {
     case FRAME_READ: counts[refused ? READ_REFUSED : READ_FRAME]++; break;
     case LINK_RECEIVE: counts[result.kind == 0 ? LINK_USER : result.kind == 1 ? LINK_ASKS : LINK_REFUSED]++; break;
-    case SEGMENT:
-        counts[result.kind == 0 ? SEGMENT_MORE : result.kind == 1 ? SEGMENT_WHOLE : SEGMENT_REFUSED]++;
+    case SEGMENT: {
+        /* Of the last sequence again, and without FIR: nothing else of it goes on. */
+        const uint8_t first = call.length > 0 ? call.bytes[0] : 0;
+        const int again = (first & 0x40) == 0 && (first % 64 + 1) % 64 == host.next_segment;
+        counts[result.kind == 0 ? again ? SEGMENT_AGAIN : SEGMENT_MORE : result.kind == 1 ? SEGMENT_WHOLE : SEGMENT_REFUSED]++;
         /* 21 and 33 leave what is begun. */
         if (result.refusal != 21 && result.refusal != 33) {
             host.begun = result.kind == 0;
         }
         if (!refused) {
             host.next_segment = (call.bytes[0] % 64 + 1) % 64;
+            host.segment_length = call.length;
+            memcpy(host.segment, call.bytes, call.length);
         }
         break;
+    }
     case SEND: counts[refused ? SEND_REFUSED : SENT]++; break;
     case PIECE:
         counts[result.kind == 0 ? PIECE_FRAME : result.kind == 1 ? PIECE_WAITS : result.refusal == 33 ? PIECE_LENT : PIECE_REFUSED]++;

@@ -299,6 +299,133 @@ fn piece(memory: &mut Memory, random: &mut Random, seen: &mut Seen) -> Result<()
     }
 }
 
+/// The last segment taken in, as any assembly and lent bytes have it. It had no FIN.
+fn last_segment(assembly: &Assembly, lent: &[u8]) -> Vec<u8> {
+    let Assembly { length, last_length, last, last_fir, .. } = *assembly;
+    let end = length.min(lent.len());
+    let from = length.saturating_sub(last_length).min(end);
+    let head = (last % 64) | if last_fir != 0 { 0x40 } else { 0 };
+    [&[head][..], &lent[from..end]].concat()
+}
+
+/// What a segment comes to, for any numbers: the second program has only those that a call leaves.
+fn heard(assembly: &Assembly, bytes: &[u8], lent: &mut [u8]) -> Reception {
+    let refused = |assembly, refusal| {
+        let segment = Segment { length: 0, kind: 2, refusal };
+        Reception { assembly, segment }
+    };
+    let (begun, last_fir) = (u8::from(assembly.begun != 0), u8::from(assembly.last_fir != 0));
+    let stays = Assembly { begun, last_fir, ..*assembly };
+    let forgotten = Assembly::zero();
+    if lent.len() < FRAGMENT {
+        return refused(stays, 33);
+    }
+    let (head, data) = match bytes {
+        [head, data @ ..] if !data.is_empty() && data.len() < USER => (*head, data),
+        _ => return refused(stays, 21),
+    };
+    let first = head & 0x40 != 0;
+    let from = if first { 0 } else { assembly.length };
+    if !first && begun == 0 {
+        return refused(forgotten, 22);
+    }
+    if !first && bytes == last_segment(assembly, lent) {
+        let segment = Segment { length: 0, kind: 0, refusal: 0 };
+        return Reception { assembly: stays, segment };
+    }
+    if !first && head % 64 != (assembly.last % 64 + 1) % 64 {
+        return refused(forgotten, 22);
+    }
+    if from > FRAGMENT - data.len() {
+        return refused(forgotten, 23);
+    }
+    let length = from + data.len();
+    lent[from..length].copy_from_slice(data);
+    if head & 0x80 != 0 {
+        let segment = Segment { length, kind: 1, refusal: 0 };
+        return Reception { assembly: forgotten, segment };
+    }
+    let (last_length, last_fir) = (data.len(), u8::from(first));
+    let assembly = Assembly { length, last_length, last: head % 64, last_fir, begun: 1 };
+    Reception { assembly, segment: Segment { length: 0, kind: 0, refusal: 0 } }
+}
+
+/// Any assembly; often the last few of the bytes so far, or of those lent where they are less, are
+/// the last segment's.
+fn any_assembly(lent: usize, random: &mut Random) -> Assembly {
+    let mut assembly = Assembly::random(random);
+    let (few, any) = (random.below(252), count(FRAGMENT, random));
+    assembly.length = random.pick(&[few, any, any]);
+    let few = assembly.length.saturating_sub(lent).saturating_add(random.below(252));
+    let any = count(FRAGMENT, random);
+    assembly.last_length = random.pick(&[few, few, any]);
+    if random.chance(60) {
+        assembly.last_fir = 0;
+    }
+    if random.chance(20) {
+        assembly.begun = 0;
+    }
+    assembly
+}
+
+/// The last segment again, or all but it.
+fn again(assembly: &Assembly, lent: &[u8], random: &mut Random) -> Vec<u8> {
+    let mut bytes = last_segment(assembly, lent);
+    let last = bytes.len() - 1;
+    match random.below(10) {
+        0 => bytes[0] &= 0x3F,
+        1 => bytes[0] ^= random.pick(&[0x40, 0x80]),
+        2 => bytes[last] ^= 1 << random.below(8),
+        3 => bytes[random.below(last + 1)] ^= 1 << random.below(8),
+        // Less or more of what stands there, at either end.
+        4 if last > 0 => drop(bytes.remove(random.pick(&[1, last]))),
+        5 => {
+            let before = assembly.length.saturating_sub(assembly.last_length).wrapping_sub(1);
+            let (place, from) = random.pick(&[(1, before), (last + 1, assembly.length)]);
+            bytes.insert(place, lent.get(from).copied().unwrap_or(0));
+        }
+        _ => {}
+    }
+    bytes
+}
+
+/// A segment on any assembly: as the definition says, and the same as on the plain one.
+fn segment(bytes: &[u8], random: &mut Random, seen: &mut Seen) -> Result<(), String> {
+    let mut lent = Lent::new(random.pick(&[0, 1, 250, 2047, 2048, 2048, 2048, 2049, 3000]), random);
+    let assembly = any_assembly(lent.library().len(), random);
+    let mut bytes = bytes.to_vec();
+    let meant = random.chance(60);
+    if meant {
+        bytes = again(&assembly, lent.library(), random);
+    } else if let (Some(first), true) = (bytes.first_mut(), random.chance(80)) {
+        *first = (*first & 0xC0) | ((assembly.last % 64 + 1) % 64);
+    }
+    let (mut defined, mut plain_lent) = (lent.second().to_vec(), lent.second().to_vec());
+    let expected = heard(&assembly, &bytes, &mut defined);
+    let reception = segment_receive(assembly, &bytes, lent.library());
+    lent.second().copy_from_slice(&defined);
+    same("segment by its definition", &reception.segment, &expected.segment)?;
+    same("assembly by its definition", &reception.assembly, &expected.assembly)?;
+    lent.compare()?;
+
+    let plain = segment_receive(plain_assembly(assembly), &bytes, &mut plain_lent);
+    same("segment", &reception.segment, &plain.segment)?;
+    same("assembly", &plain_assembly(reception.assembly), &plain_assembly(plain.assembly))?;
+    lent.second().copy_from_slice(&plain_lent);
+    lent.compare()?;
+
+    let Assembly { length, last_length, .. } = assembly;
+    let head = bytes.first().copied().unwrap_or(0);
+    let repeat = meant && head & 0x40 == 0 && reception.segment.kind == 0;
+    let repeat = repeat && head % 64 == assembly.last % 64;
+    seen.note("garbage: a repeat ignored", repeat);
+    seen.note("garbage: a repeat ignored, more bytes than lent", repeat && length > defined.len());
+    seen.note("garbage: a repeat ignored, longer than all so far", repeat && last_length > length);
+    let turned = meant && !repeat && assembly.begun != 0 && assembly.last_fir == 0;
+    seen.note("garbage: a repeat but for one byte", turned && reception.segment.refusal == 22);
+    Ok(())
+}
+
 /// The line's calls on random bytes, and on any receiver, assembly and sender.
 pub fn line(memory: &mut Memory, random: &mut Random, seen: &mut Seen) -> Result<(), String> {
     let n = random.pick(&[0, 1, 2, 9, 10, 30, 249, 250, 251, 292, 600, 2048, 2049]);
@@ -322,20 +449,7 @@ pub fn line(memory: &mut Memory, random: &mut Random, seen: &mut Seen) -> Result
 
     piece(memory, random, seen)?;
 
-    let mut assembly = Assembly::random(random);
-    assembly.length = count(2048, random);
-    if random.chance(30) {
-        assembly.begun = 0;
-    }
-    if let (Some(first), true) = (bytes.first_mut(), random.chance(80)) {
-        *first = (*first & 0xC0) | ((assembly.last % 64 + 1) % 64);
-    }
-    let mut lent = Lent::new(random.pick(&lens), random);
-    let reception = segment_receive(assembly, &bytes, lent.library());
-    let expected = segment_receive(plain_assembly(assembly), &bytes, lent.second());
-    same("segment", &reception.segment, &expected.segment)?;
-    same("assembly", &plain_assembly(reception.assembly), &plain_assembly(expected.assembly))?;
-    lent.compare()?;
+    segment(&bytes, random, seen)?;
 
     let sender = Sender { at: count(2048, random), next: random.byte() };
     let at = if sender.at < bytes.len() { sender.at } else { 0 };

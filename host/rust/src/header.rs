@@ -196,9 +196,15 @@ structs! {
         refusal: u8 = 10,
         block: u8 = 11,
     }
-    Assembly "assembly" 16 { length: usize = 0, last: u8 = 8, begun: u8 = 9 }
+    Assembly "assembly" 24 {
+        length: usize = 0,
+        last_length: usize = 8,
+        last: u8 = 16,
+        last_fir: u8 = 17,
+        begun: u8 = 18,
+    }
     Segment "segment" 16 { length: usize = 0, kind: u8 = 8, refusal: u8 = 9 }
-    Reception "reception" 32 { assembly: Assembly = 0, segment: Segment = 16 }
+    Reception "reception" 40 { assembly: Assembly = 0, segment: Segment = 24 }
     Sender "sender" 16 { at: usize = 0, next: u8 = 8 }
     Sent "sent" 16 { size: usize = 0, last: u8 = 8, refusal: u8 = 9 }
     Sending "sending" 32 { sender: Sender = 0, sent: Sent = 16 }

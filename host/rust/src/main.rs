@@ -11,9 +11,9 @@
 //!                              print over the library
 //!
 //! A case is: the layout; a fixed script of `tests/`; a random script of one seed; the lent lengths
-//! of one call; garbage of one seed; a random run; what has to be reached. In every second random
-//! script the library is given other numbers of the same meaning (`meaning.rs`). `REFERENCE_FAULT`
-//! turns a fault on, after the scripts are made.
+//! of one call; segments heard twice; garbage of one seed; a random run; what has to be reached. In
+//! every second random script the library is given other numbers of the same meaning (`meaning.rs`).
+//! `REFERENCE_FAULT` turns a fault on, after the scripts are made.
 
 mod garbage;
 mod header;
@@ -66,6 +66,7 @@ enum Case {
     Layout,
     Script { name: String, text: Vec<u8>, other: bool },
     Lengths(&'static str),
+    Repeats,
     Past,
     Garbage(u64),
     Random { calls: u64, seed: u64 },
@@ -77,6 +78,7 @@ impl Case {
             Case::Layout => "layout as the header asserts it".into(),
             Case::Script { name, .. } => name.clone(),
             Case::Lengths(call) => format!("lent lengths of {call}"),
+            Case::Repeats => "segments heard twice".into(),
             Case::Past => "counts past what a script can say".into(),
             Case::Garbage(seed) => format!("garbage {seed}"),
             Case::Random { calls, seed } => format!("random run of {calls} calls, seed {seed}"),
@@ -92,6 +94,7 @@ impl Case {
                 run_script(&mut pair, text)
             }
             Case::Lengths(call) => lengths(&mut pair, call),
+            Case::Repeats => repeats(&mut pair),
             Case::Past => past(&mut pair),
             Case::Garbage(seed) => garbage(&mut pair, *seed),
             Case::Random { calls, seed } => {
@@ -295,7 +298,10 @@ fn lengths(pair: &mut Pair, call: &str) -> Result<(), String> {
         }
         "segment_receive" => {
             let begun = [0, 1, 249, 1798, 1799, 1800, 2046, 2047, 2048, 2049, 1 << 40];
-            let begun = begun.map(|count| Some(Unfinished { last: 62, count }));
+            let begun = begun.map(|count: usize| {
+                let size = count.min(header::USER - 1);
+                Some(Unfinished { last: 62, fir: false, size, count })
+            });
             for unfinished in begun.into_iter().chain([None]) {
                 for n in [0, 1, 2, 249, 250, 251, 2048] {
                     for first in [0x3F, 0x7F, 0xBF, 0xFF, 0x00] {
@@ -316,6 +322,166 @@ fn lengths(pair: &mut Pair, call: &str) -> Result<(), String> {
                 }
             }
         }
+    }
+    Ok(())
+}
+
+// ---- segments heard twice
+
+const FIR: u8 = 0x40;
+const FIN: u8 = 0x80;
+
+/// A segment on both sides, then what stands of the fragment: so many bytes, 0 for nothing begun.
+fn hear(pair: &mut Pair, len: usize, segment: &[u8], standing: usize) -> Result<(), String> {
+    calls(pair, [Call::Seg(len, segment.to_vec())])?;
+    let left = if pair.assembly.begun == 0 { 0 } else { pair.assembly.length };
+    state::equal("bytes so far", left, standing)
+}
+
+fn segment(head: u8, n: usize, bytes: &mut Random) -> Vec<u8> {
+    [vec![head], bytes.bytes(n)].concat()
+}
+
+/// What is to stand: `count` bytes in `len` lent ones, `last` of them of the last segment.
+#[derive(Clone, Copy)]
+struct Standing {
+    len: usize,
+    count: usize,
+    last: usize,
+}
+
+/// A fragment begun afresh, in a first segment, full ones, and the last one, which is given back; its
+/// sequence is 2.
+fn fresh(pair: &mut Pair, stands: Standing, bytes: &mut Random) -> Result<Vec<u8>, String> {
+    const MOST: usize = header::USER - 1;
+    let Standing { len, count, last } = stands;
+    let before = (count - last - 1) / MOST;
+    let mut standing = count - last - before * MOST;
+    let mut sequence = (129 - before as u8) % 64;
+    hear(pair, len, &segment(FIR | sequence, standing, bytes), standing)?;
+    for _ in 0..before {
+        sequence = (sequence + 1) % 64;
+        standing += MOST;
+        hear(pair, len, &segment(sequence, MOST, bytes), standing)?;
+    }
+    let segment = segment((sequence + 1) % 64, last, bytes);
+    hear(pair, len, &segment, count)?;
+    Ok(segment)
+}
+
+fn repeats(pair: &mut Pair) -> Result<(), String> {
+    live(pair)?;
+    let mut bytes = Random(13);
+    for other in [false, true] {
+        pair.other = other;
+        for len in [header::FRAGMENT, header::FRAGMENT + 1, 2 * header::FRAGMENT] {
+            for last in [1, 2, 248, 249] {
+                for count in [last + 1, last + 249, 2047, header::FRAGMENT] {
+                    let stands = Standing { len, count, last };
+                    repeats_ignored(pair, stands, &mut bytes)?;
+                    repeats_changed(pair, stands, &mut bytes)?;
+                    repeats_altered(pair, stands, &mut bytes)?;
+                }
+            }
+            repeats_of_the_first(pair, len, &mut bytes)?;
+        }
+    }
+    Ok(())
+}
+
+/// Again and again; a refused segment between them is not the last one.
+fn repeats_ignored(pair: &mut Pair, stands: Standing, bytes: &mut Random) -> Result<(), String> {
+    let Standing { len, count, last } = stands;
+    let again = fresh(pair, stands, bytes)?;
+    hear(pair, len, &again, count)?;
+    hear(pair, len, &again, count)?;
+    hear(pair, header::FRAGMENT - 1, &again, count)?;
+    hear(pair, len, &again[..1], count)?;
+    hear(pair, len, &[&again[..1], &bytes.bytes(250)].concat(), count)?;
+    hear(pair, len, &again, count)?;
+    // The next one, with the same data; then what was the last is 22, and so it is with nothing
+    // begun.
+    let next = [&[again[0] + 1][..], &again[1..]].concat();
+    if count + last <= header::FRAGMENT {
+        hear(pair, len, &next, count + last)?;
+        hear(pair, len, &next, count + last)?;
+        hear(pair, len, &again, 0)?;
+    } else {
+        hear(pair, len, &next, 0)?;
+    }
+    hear(pair, len, &again, 0)?;
+    // After the whole fragment nothing is begun.
+    if count < header::FRAGMENT {
+        let again = fresh(pair, stands, bytes)?;
+        hear(pair, len, &again, count)?;
+        let end = segment(FIN | (again[0] + 1), 1, bytes);
+        hear(pair, len, &end, 0)?;
+        hear(pair, len, &end, 0)?;
+    }
+    Ok(())
+}
+
+/// All but a repeat.
+fn repeats_changed(pair: &mut Pair, stands: Standing, bytes: &mut Random) -> Result<(), String> {
+    let Standing { len, count, last } = stands;
+    // Another byte.
+    for place in [1, 2, last / 2, last - 1, last] {
+        if (1..=last).contains(&place) {
+            let mut changed = fresh(pair, stands, bytes)?;
+            changed[place] ^= 1 << bytes.below(8);
+            hear(pair, len, &changed, 0)?;
+        }
+    }
+    // Less or more of what stands there, at either end; 21 leaves it.
+    for place in [1, last] {
+        let mut shorter = fresh(pair, stands, bytes)?;
+        shorter.remove(place);
+        hear(pair, len, &shorter, if last == 1 { count } else { 0 })?;
+    }
+    for (place, from) in [(1, count - last - 1), (last + 1, count)] {
+        let mut longer = fresh(pair, stands, bytes)?;
+        longer.insert(place, pair.lent_byte(from));
+        hear(pair, len, &longer, if last == 249 { count } else { 0 })?;
+    }
+    // FIN, FIR, another sequence.
+    for (head, standing) in [(FIN, 0), (FIR, last), (FIN | FIR, 0), (1 << 4, 0), (1 << 5, 0)] {
+        let mut changed = fresh(pair, stands, bytes)?;
+        changed[0] ^= head;
+        hear(pair, len, &changed, standing)?;
+    }
+    Ok(())
+}
+
+/// A repeat is compared with the lent bytes, whatever the host made of them.
+fn repeats_altered(pair: &mut Pair, stands: Standing, bytes: &mut Random) -> Result<(), String> {
+    let Standing { len, count, last } = stands;
+    for place in [count - last, count - 1] {
+        let sent = fresh(pair, stands, bytes)?;
+        pair.alter(place);
+        let mut altered = sent.clone();
+        altered[1 + place - (count - last)] ^= 1;
+        hear(pair, len, &altered, count)?;
+        hear(pair, len, &sent, 0)?;
+    }
+    // The bytes round the last segment's are not its own.
+    let sent = fresh(pair, stands, bytes)?;
+    pair.alter(count - last - 1);
+    pair.alter(count);
+    hear(pair, len, &sent, count)
+}
+
+/// A first segment again starts afresh; without FIR it is no repeat.
+fn repeats_of_the_first(pair: &mut Pair, len: usize, bytes: &mut Random) -> Result<(), String> {
+    for n in [1, 2, 248, 249] {
+        let first = segment(FIR | 63, n, bytes);
+        hear(pair, len, &first, n)?;
+        hear(pair, len, &first, n)?;
+        let second = segment(0, n, bytes);
+        hear(pair, len, &second, 2 * n)?;
+        hear(pair, len, &first, n)?;
+        hear(pair, len, &[&[63][..], &first[1..]].concat(), 0)?;
+        hear(pair, len, &first, n)?;
+        hear(pair, len, &[&[0][..], &first[1..]].concat(), 2 * n)?;
     }
     Ok(())
 }
@@ -441,7 +607,7 @@ fn own_cases(short: bool) -> Vec<Case> {
         "segment_send",
     ];
     cases.extend(lent.map(Case::Lengths));
-    cases.push(Case::Past);
+    cases.extend([Case::Repeats, Case::Past]);
     cases.extend((1..=if short { 1 } else { GARBAGE }).map(Case::Garbage));
     cases.push(Case::Random { calls: if short { 30_000 } else { RANDOM }, seed: 11 });
     cases

@@ -96,11 +96,15 @@ pub fn plain_analog_setup(analog: &AnalogSetup) -> AnalogSetup {
     plain
 }
 
+/// A segment with FIR is never a repeat, so it does not count how long the last one was that had it.
+/// More bytes than there are so far means all of them.
 pub fn plain_assembly(assembly: Assembly) -> Assembly {
-    match assembly.begun {
-        0 => Assembly::zero(),
-        _ => Assembly { begun: 1, last: assembly.last % 64, ..assembly },
+    if assembly.begun == 0 {
+        return Assembly::zero();
     }
+    let Assembly { length, last_length, last, last_fir, .. } = assembly;
+    let last_length = if last_fir == 0 { last_length.min(length) } else { 0 };
+    Assembly { length, last_length, last: last % 64, last_fir: truth(last_fir), begun: 1 }
 }
 
 /// The bytes that a receiver keeps: none where they are no frame's beginning.
@@ -299,8 +303,15 @@ pub fn other_analog_setup(analog: &AnalogSetup, random: &mut Random) -> AnalogSe
 pub fn other_assembly(assembly: Assembly, random: &mut Random) -> Assembly {
     let mut assembly = assembly;
     if assembly.begun == 0 {
-        assembly = Assembly { begun: 0, ..Assembly::random(random) };
+        return Assembly { begun: 0, ..Assembly::random(random) };
     }
+    assembly.last = assembly.last % 64 + random.pick(&[0, 64, 128, 192]);
+    if assembly.last_fir != 0 {
+        assembly.last_length = random.next() as usize;
+    } else {
+        other_count(&mut assembly.last_length, assembly.length, random);
+    }
+    other_truth(&mut assembly.last_fir, random);
     other_truth(&mut assembly.begun, random);
     assembly
 }

@@ -16,7 +16,7 @@ use reference::receiver::Receiver;
 use reference::script::{Call, LENT};
 use reference::transport::{Assembled, Unfinished};
 
-use crate::header;
+use crate::header::{self, Same};
 use crate::meaning;
 use crate::memory::Memory;
 use crate::run::block;
@@ -593,10 +593,18 @@ impl Pair {
         if let Some(second) = &mut self.second {
             second.transport.unfinished = unfinished;
         }
-        self.assembly = match unfinished {
-            None => header::Assembly::zero(),
-            Some(Unfinished { last, count }) => header::Assembly { length: count, last, begun: 1 },
-        };
+        self.assembly = assembly_image(unfinished);
+    }
+
+    /// Turns one bit of the bytes lent for the fragment, as a host may between two segments.
+    pub fn alter(&mut self, place: usize) {
+        self.together.library()[place] ^= 1;
+        self.together.second()[place] ^= 1;
+    }
+
+    /// The byte of the fragment at this place.
+    pub fn lent_byte(&mut self, place: usize) -> u8 {
+        self.together.library()[place]
     }
 
     fn segment(&mut self, second: &mut Outstation, len: usize, bytes: &[u8]) -> Result<(), String> {
@@ -606,8 +614,10 @@ impl Pair {
         } else {
             self.assembly
         };
+        let before = second.transport.unfinished;
         let reception = header::segment_receive(given, &input, &mut self.together.library()[..len]);
         let expected = second.transport.hear(bytes, &mut self.together.second()[..len]);
+        let unfinished = second.transport.unfinished;
         self.assembly = reception.assembly;
         self.seen.refusal(reception.segment.refusal);
         same_bytes(&input, bytes, 0)?;
@@ -624,10 +634,28 @@ impl Pair {
             (segment.kind, segment.length, segment.refusal),
             (kind, length, refusal),
         )?;
-        let assembly = &self.assembly;
-        let kept = (assembly.begun != 0).then_some((assembly.last, assembly.length));
-        equal("assembly", kept, second.transport.unfinished.map(|u| (u.last, u.count)))?;
-        equal("a truth above 1", assembly.begun > 1, false)
+        // A segment without FIR that goes on and changes nothing was heard before.
+        let first = bytes.first().is_some_and(|head| head & 0x40 != 0);
+        let repeat = kind == 0 && !first && unfinished == before;
+        let stays = repeat || matches!(refusal, 21 | 33);
+        let left = self.assembly;
+        equal("a truth above 1", left.begun > 1 || left.last_fir > 1, false)?;
+        let expected = assembly_image(unfinished);
+        same_assembly(&meaning::plain_assembly(left), &meaning::plain_assembly(expected))?;
+        // What stays keeps the numbers that were given.
+        let (begun, last_fir) = (u8::from(given.begun != 0), u8::from(given.last_fir != 0));
+        let given = header::Assembly { begun, last_fir, ..given };
+        same_assembly(&left, if stays { &given } else { &expected })?;
+
+        let seen = &mut self.seen;
+        seen.note("segment: a repeat ignored", repeat);
+        seen.note("segment: a repeat ignored at 2,048 bytes", repeat && left.length == 2048);
+        if let (Some(last), Some(&head)) = (before, bytes.first()) {
+            let again = refusal == 22 && head == last.last && bytes.len() == 1 + last.size;
+            seen.note("segment: a repeat of the first one without FIR", again && last.fir);
+            seen.note("segment: a repeat but for its data", again && !last.fir);
+        }
+        Ok(())
     }
 
     fn send(&mut self, second: &mut Outstation, len: usize, bytes: &[u8]) -> Result<(), String> {
@@ -674,6 +702,14 @@ impl Pair {
     }
 }
 
+/// Every number of it.
+fn same_assembly(library: &header::Assembly, second: &header::Assembly) -> Result<(), String> {
+    match library.differs(second) {
+        None => Ok(()),
+        Some(found) => Err(format!("assembly{found} (the library, and the second program)")),
+    }
+}
+
 fn same_operated(library: &header::Crobs, second: &[Control]) -> Result<(), String> {
     equal("number of objects carried out", library.count, second.len())?;
     for (one, two) in library.items.iter().zip(second) {
@@ -687,6 +723,14 @@ fn same_operated(library: &header::Crobs, second: &[Control]) -> Result<(), Stri
 }
 
 // ---- what the second program is given, as the header's structs
+
+pub fn assembly_image(unfinished: Option<Unfinished>) -> header::Assembly {
+    let Some(Unfinished { last, fir, size, count }) = unfinished else {
+        return header::Assembly::zero();
+    };
+    let last_fir = u8::from(fir);
+    header::Assembly { length: count, last_length: size, last, last_fir, begun: 1 }
+}
 
 fn line_image(record: &LineRecord) -> header::Line {
     let [accepted, short_frame, start, header_check, length, block_check, not_taken] =

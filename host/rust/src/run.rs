@@ -6,12 +6,12 @@ use reference::link::{self, Heard, LineRecord};
 use reference::outstation;
 use reference::points::{self, Form, Gate, Taken};
 use reference::receiver;
-use reference::transport::{Assembled, Transport, Unfinished};
+use reference::transport::{Assembled, Transport};
 
 use crate::header::*;
 use crate::meaning;
 use crate::memory::Memory;
-use crate::pair::keep;
+use crate::pair::{assembly_image, keep};
 use crate::state::{self, equal};
 use crate::stress::{Answered, Call, Generator, Kind, Sum, COUNTS, FILL, LENGTHS, LINE, WHOLE};
 
@@ -178,9 +178,11 @@ fn link_sum(control: u8, block: u8, counts: [u16; 7], blocks: [u16; BLOCKS]) -> 
     sum.0
 }
 
-/// Sequence and length of an unfinished fragment.
-fn assembly_sum(kept: Option<(u8, usize)>) -> u64 {
-    kept.map_or(0, |(last, length)| 1 | u64::from(last) << 8 | (length as u64) << 16)
+/// Every number of an assembly: all 0 where nothing is begun.
+fn assembly_sum(assembly: &Assembly) -> u64 {
+    let Assembly { length, last_length, last, last_fir, begun } = *assembly;
+    let small = u64::from(begun) | u64::from(last_fir) << 8 | u64::from(last) << 16;
+    small | (length as u64) << 24 | (last_length as u64) << 44
 }
 
 /// Of a frame received, with the bytes kept.
@@ -254,8 +256,7 @@ impl Second {
                     Ok(Assembled::Whole(length)) => (result.kind, result.length) = (1, length),
                     Err(refusal) => (result.kind, result.refusal) = (2, refusal),
                 }
-                let kept = outstation.transport.unfinished;
-                result.more = assembly_sum(kept.map(|Unfinished { last, count }| (last, count)));
+                result.more = assembly_sum(&assembly_image(outstation.transport.unfinished));
             }
             Kind::Send => send(&mut outstation.transport, call, out, &mut result),
             Kind::Piece => {
@@ -400,8 +401,7 @@ impl Library {
                 let segment = &reception.segment;
                 (result.kind, result.length) = (segment.kind, segment.length);
                 result.refusal = segment.refusal;
-                let Assembly { length, last, begun } = self.assembly;
-                result.more = assembly_sum((begun != 0).then_some((last, length)));
+                result.more = assembly_sum(&self.assembly);
             }
             Kind::Piece => {
                 let piece = memory.piece(&mut self.receiver, bytes, out)?;

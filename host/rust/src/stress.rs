@@ -272,6 +272,7 @@ enum Count {
     LinkAsks,
     LinkRefused,
     SegmentMore,
+    SegmentAgain,
     SegmentWhole,
     SegmentRefused,
     Sent,
@@ -282,7 +283,7 @@ enum Count {
     PieceLent,
 }
 
-pub const COUNTS: [&str; 50] = [
+pub const COUNTS: [&str; 51] = [
     "restart taken",
     "restart refused 5",
     "reading taken",
@@ -325,6 +326,7 @@ pub const COUNTS: [&str; 50] = [
     "link_receive: reply",
     "link_receive refused",
     "segment_receive: goes on",
+    "segment_receive: a repeat ignored",
     "segment_receive: whole",
     "segment_receive refused",
     "fragment sent in segments",
@@ -367,10 +369,12 @@ pub struct Generator {
     /// Calls left in which the buffer is to fill.
     filling: u32,
     overflow: u8,
-    /// The frame written last, and whether a fragment is begun, with the sequence that is next.
+    /// The frame written last, and whether a fragment is begun, with the sequence that is next and
+    /// the segment taken last.
     frame: Vec<u8>,
     begun: bool,
     next_segment: u8,
+    segment: Vec<u8>,
     /// What is still to come off the wire.
     wire: Vec<u8>,
     pub counts: [u64; COUNTS.len()],
@@ -433,6 +437,7 @@ impl Generator {
             frame: Vec::new(),
             begun: false,
             next_segment: 0,
+            segment: Vec::new(),
             wire: Vec::new(),
             counts: [0; COUNTS.len()],
         }
@@ -1101,8 +1106,27 @@ impl Generator {
         self.lend(call, USER_OUT, 20);
     }
 
+    /// The segment taken last, as it was, with one bit turned, with another FIR or FIN, or without
+    /// its first byte of data.
+    fn same_segment(&mut self, call: &mut Call) {
+        call.fragment.extend_from_slice(&self.segment);
+        let length = call.fragment.len() as u32;
+        if self.source.chance(15) {
+            let place = self.source.below(length) as usize;
+            call.fragment[place] ^= 1 << self.source.below(8);
+        } else if self.source.chance(10) {
+            call.fragment[0] ^= self.source.pick(&[0x40, 0x80]) as u8;
+        } else if length > 2 && self.source.chance(10) {
+            call.fragment.remove(1);
+        }
+        self.lend(call, ASSEMBLY, 30);
+    }
+
     fn segment(&mut self, call: &mut Call) {
         call.kind = Kind::Segment;
+        if !self.segment.is_empty() && self.source.chance(20) {
+            return self.same_segment(call);
+        }
         let mut sequence = u32::from(self.next_segment);
         if self.source.chance(2) {
             sequence = self.source.below(64);
@@ -1164,7 +1188,11 @@ impl Generator {
                 _ => Count::LinkRefused,
             }),
             Kind::Segment => {
+                // Of the last sequence again, and without FIR: nothing else of it goes on.
+                let head = call.fragment.first().copied().unwrap_or(0);
+                let again = head & 0x40 == 0 && (head % 64 + 1) % 64 == self.next_segment;
                 match result.kind {
+                    0 if again => self.count(Count::SegmentAgain),
                     0 => self.count(Count::SegmentMore),
                     1 => self.count(Count::SegmentWhole),
                     _ => self.count(Count::SegmentRefused),
@@ -1175,6 +1203,8 @@ impl Generator {
                 }
                 if !refused {
                     self.next_segment = (call.fragment[0] % 64 + 1) % 64;
+                    self.segment.clear();
+                    self.segment.extend_from_slice(&call.fragment);
                 }
             }
             Kind::Send => self.count(if refused { Count::SendRefused } else { Count::Sent }),
