@@ -17,7 +17,7 @@ use Rattle.transport.specs.declared.Received.{Received}
 use Rattle.transport.specs.declared.Received.the-variants.{More, Fragment, SegmentLength, OutOfSequence, FragmentTooLong, OutputTooSmall}
 use Rattle.transport.specs.declared.Reception.{Reception}
 use Rattle.transport.specs.declared.DataPlace.{DataPlace}
-use Rattle.transport.specs.declared.DataPlace.the-variants.{At, Repeat, NotNext, TooLong}
+use Rattle.transport.specs.declared.DataPlace.the-variants.{Behind, Ignored, NotNext, TooLong}
 
 -- nothing begun: what a restart leaves. "A restart keeps only the setup": it empties the assembly and the sender
 abbrev pub idle : Assembly
@@ -109,7 +109,7 @@ pub record SegmentReceived (r : Reception) (a : Assembly) (s before after : List
   pub lent : after ≡ lentAfterReceive before s (receiving before a s)
 
 abbrev pub placeOf : DataPlace → Outcome Place
-placeOf (At n) = accepted (behind n)
-placeOf Repeat = accepted ignored
+placeOf (Behind n) = accepted (behind n)
+placeOf Ignored = accepted ignored
 placeOf NotNext = refused 22
 placeOf TooLong = refused 23

@@ -86,8 +86,8 @@ pub struct Reception {
 
 // Where a segment's data goes in the fragment; the last segment heard twice goes nowhere.
 pub enum DataPlace {
-    At(usize),
-    Repeat,
+    Behind(usize),
+    Ignored,
     NotNext,
     TooLong,
 }
@@ -134,7 +134,7 @@ fn placed(a: Assembly, segment: &[u8], lent: &[u8]) -> DataPlace
         return DataPlace::NotNext;
     }
     if repeats(a, segment, lent) {
-        return DataPlace::Repeat;
+        return DataPlace::Ignored;
     }
     let q = next_sequence(a.last);
     if segment[0] % 64 != q.0 {
@@ -144,7 +144,7 @@ fn placed(a: Assembly, segment: &[u8], lent: &[u8]) -> DataPlace
     if FRAGMENT_MAX < len + (segment.len() - 1) {
         return DataPlace::TooLong;
     }
-    DataPlace::At(len)
+    DataPlace::Behind(len)
 }
 
 // What is kept and answered once n bytes are in the fragment, the last m of them just now.
@@ -199,11 +199,11 @@ pub fn receive(a: Assembly, segment: &[u8], out: &mut [u8]) -> Reception
     }
     let p = placed(a, segment, out);
     match p {
-        DataPlace::At(at) => {
+        DataPlace::Behind(at) => {
             octets::copy(out, at, &segment[1..]);
             progressed(header, at + n, n)
         }
-        DataPlace::Repeat => Reception {
+        DataPlace::Ignored => Reception {
             answer: Received::More,
             assembly: a,
         },
