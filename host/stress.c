@@ -525,6 +525,8 @@ static struct {
 #define GAINS 0x3F800000, 0x3F800000, 0x40000000, 0x3DCCCCCD, 0xBF800000, 0x7F7FFFFF, 0x3F800001, 0
 #define OFFSETS 0, 0, 0x80000000, 0x3F800000, 0xBF800002, 0x3DCCCCCD
 #define CODES 0x01, 0x03, 0x04, 0x41, 0x81
+#define PULSES 1, 100, 59999, 60000
+#define NO_PULSES 0, 60001, 65536, 65537
 
 /* ---- restart */
 
@@ -835,6 +837,16 @@ static void some_header(void) {
     }
 }
 
+/* Mostly one that a pulse may have, often next to a limit. */
+static uint32_t some_on_time(void) {
+    const uint32_t pulse = PICK(PULSES);
+    if (chance(85)) {
+        return pulse;
+    }
+    const uint32_t none = PICK(NO_PULSES);
+    return chance(60) ? none : any();
+}
+
 static void some_control(void) {
     const uint32_t count = chance(50) ? 1 : 1 + below(8);
     const int wide = chance(40);
@@ -860,7 +872,7 @@ static void some_control(void) {
         }
         put(code);
         put(chance(3) ? below(4) : 1);
-        put4(any());
+        put4(some_on_time());
         put4(below(1000));
         put(chance(2) ? below(256) : 0);
     }

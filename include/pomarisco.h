@@ -185,7 +185,9 @@ struct pomarisco_table_took {      /* taken: how many readings were taken before
     uint8_t refusal;
 };
 
-struct pomarisco_crob {            /* a control relay output block, and the output it is for */
+/* A control relay output block, and the output it is for. Times in milliseconds. From restart on, each one that a call hands over has an index below
+ * the outputs, code 01, 03, 04, 41 or 81 (hex), count 1, status 0 and, with 01, 41 and 81, the pulses, an on_time of 1 to 60,000. */
+struct pomarisco_crob {
     uint32_t on_time;
     uint32_t off_time;
     uint16_t index;

@@ -401,7 +401,10 @@ impl Outstation {
         };
         let statuses = control::statuses(&controls, self.setup.outputs);
         // "SELECT with all statuses 0 arms it".
-        if statuses.iter().all(|&status| status == 0) {
+        if controls.iter().zip(&statuses).all(|(control, &status)| {
+            status == 0
+                || on(Fault::PulseArms) && control::refused_for_time(control, self.setup.outputs)
+        }) {
             self.latch = Some(Latch { sequence, time: self.clock, objects: objects.to_vec() });
         }
         self.answer(sequence, 0, &control::echo(objects, &statuses))
@@ -425,7 +428,7 @@ impl Outstation {
             objects,
             self.setup.arm_time,
         );
-        let statuses = vec![status; controls.len()];
+        let statuses = control::operate_statuses(&controls, status);
         if status == 0 {
             operated.extend(controls);
         }
@@ -445,7 +448,9 @@ impl Outstation {
         };
         let statuses = control::statuses(&controls, self.setup.outputs);
         for (control, &status) in controls.iter().zip(&statuses) {
-            if status == 0 {
+            if status == 0
+                || on(Fault::PulseCarried) && control::refused_for_time(control, self.setup.outputs)
+            {
                 operated.push(*control);
             }
         }

@@ -13,6 +13,8 @@ const QUALIFIER_16: u8 = 0x28;
 const CROB: usize = 11;
 const CODE: usize = 0;
 const COUNT: usize = 1;
+const ON_TIME: usize = 2;
+const OFF_TIME: usize = 6;
 const STATUS: usize = 10;
 
 /// Statuses of 01.
@@ -22,6 +24,9 @@ const NO_SELECT: u8 = 2;
 const FORMAT_ERROR: u8 = 3;
 const NOT_SUPPORTED: u8 = 4;
 const INDEX_TWICE: u8 = 8;
+
+/// The longest pulse, in ms.
+const LONGEST: u32 = 60_000;
 
 /// A control output's index and its object's 11 bytes as they came.
 #[derive(Clone, Copy, Debug, PartialEq, Eq)]
@@ -89,6 +94,10 @@ fn status(earlier: &[Control], control: &Control, outputs: u8) -> u8 {
     if on(Fault::StatusOrder) && missing {
         return NOT_SUPPORTED;
     }
+    let wrong_pulse = wrong_pulse(&control.object);
+    if on(Fault::PulseBeforeStatus) && wrong_pulse {
+        return NOT_SUPPORTED;
+    }
     if control.object[STATUS] != 0 {
         return FORMAT_ERROR;
     }
@@ -101,12 +110,60 @@ fn status(earlier: &[Control], control: &Control, outputs: u8) -> u8 {
     if control.object[COUNT] != 1 {
         return NOT_SUPPORTED;
     }
+    // "tested after the count and before the repeated index" (02, 108)
+    if wrong_pulse && !on(Fault::PulseAfterIndex) {
+        return NOT_SUPPORTED;
+    }
     // "index already in this request", whatever the earlier one's own status (R5.5).
-    let twice = earlier.iter().any(|earlier| earlier.index == control.index);
+    let twice = earlier.iter().any(|earlier| {
+        earlier.index == control.index
+            && !(on(Fault::PulseIndexFree) && refused_for_time(earlier, outputs))
+    });
     if twice && !on(Fault::DuplicateIndexKept) {
         return INDEX_TWICE;
     }
+    if on(Fault::PulseAfterIndex) && wrong_pulse {
+        return NOT_SUPPORTED;
+    }
     SUCCESS
+}
+
+/// "For codes 01, 41 and 81 an on-time of 0 or above 60,000 ms gets status 4" (02, 108).
+fn wrong_pulse(object: &[u8; CROB]) -> bool {
+    let pulse = match object[CODE] {
+        0x01 => !on(Fault::Pulse01Untested),
+        0x41 => !on(Fault::Pulse41Untested),
+        0x81 => !on(Fault::Pulse81Untested),
+        0x03 | 0x04 => on(Fault::LatchTimed),
+        _ => false,
+    };
+    let place = if on(Fault::PulseOffTime) { OFF_TIME } else { ON_TIME };
+    let mut time = u32::from_le_bytes(object[place..place + 4].try_into().expect("four bytes"));
+    if on(Fault::PulseLowWord) {
+        time &= 0xFFFF;
+    }
+    let mut longest = LONGEST;
+    if on(Fault::Pulse60000Refused) {
+        longest -= 1;
+    }
+    if on(Fault::Pulse60001Taken) {
+        longest += 1;
+    }
+    pulse && (time == 0 && !on(Fault::Pulse0Taken) || time > longest)
+}
+
+/// Whether it is the on-time that gives 4: the tests before it are passed. For faults only.
+pub fn refused_for_time(control: &Control, outputs: u8) -> bool {
+    control.object[STATUS] == 0
+        && control.index < u16::from(outputs)
+        && control.object[COUNT] == 1
+        && wrong_pulse(&control.object)
+}
+
+/// The statuses of an OPERATE's objects: all the same, on-times are not looked at.
+pub fn operate_statuses(controls: &[Control], status: u8) -> Vec<u8> {
+    let tested = |control: &Control| on(Fault::PulseOnOperate) && wrong_pulse(&control.object);
+    controls.iter().map(|c| if tested(c) { NOT_SUPPORTED } else { status }).collect()
 }
 
 /// The one status of all of an OPERATE's objects.

@@ -86,6 +86,7 @@ impl<'a> Objects<'a> {
                 _ if outputs <= c.index => 4,
                 _ if !matches!(c.code, 0x01 | 0x03 | 0x04 | 0x41 | 0x81) => 4,
                 _ if c.count != 1 => 4,
+                _ if matches!(c.code, 0x01 | 0x41 | 0x81) && !(1..=60_000).contains(&c.on_time) => 4,
                 _ if again => 8,
                 _ => 0,
             };

@@ -1,21 +1,29 @@
 -- Laws of the loops over the objects and their statuses.
 -- Assumes nothing.
 use mathlib.Core.Path.{_≡_, refl, sym, ap, _∙_}
-use mathlib.Core.Bool.{true, false}
+use mathlib.Core.Bool.{Bool, true, false}
 use mathlib.Core.List.{List, [], _∷_, _++_}
 use Prim.Native.Nat.{ℕ, _+_, _-_, _≤_, _<_}
 use native.Mathlib.Omega.{arith}
-use borrow.Author.Tests.{eq-eqb, ne-eqb}
+use borrow.Author.Tests.{lt-ltb, eq-eqb, ne-eqb}
 use lib.ListN.{length, getD, take, drop, set, length-drop}
 use lib.Seq.{drop-drop, length-take-le}
 use Rattle.octets.specs.Bytes.{splice}
 use Rattle.octets.proofs.Splice.{splice-append, splice-cons}
+use Rattle.laws.specs.First.{first, _⇒_}
 use Rattle.laws.specs.Lists.{member}
 use Rattle.control.specs.declared.Crob.{Crob}
 use Rattle.control.specs.Objects.{noCrob, earlierOf}
-use Rattle.control.specs.Status.{statusOf, statuses, allZero, echoed, chosen}
+use Rattle.control.specs.Status.{knownCode, wrongPulse, statusOf, statuses, allZero, echoed, chosen}
 use Rattle.laws.proofs.Filling.{part-front, part-none}
 use Rattle.control.proofs.ObjectLaws.{earlier-more, earlier-none, earlier-next}
+
+-- ---- one object's status, its count found to be 1
+
+pub counted : (outputs : ℕ) (again : Bool) (c : Crob) → c .status ≡ 0 → c .index < outputs → knownCode (c .code) ≡ true → c .count ≡ 1
+    → statusOf outputs again c ≡ first (wrongPulse (c .code) (c .«on_time») ⇒ 4 ∷ again ⇒ 8 ∷ []) 0
+unfolding statusOf
+counted outputs again c s i k n = rw (eq-eqb _ _ s, lt-ltb _ _ i, k, eq-eqb _ _ n)
 
 -- ---- an index among those of the objects before
 

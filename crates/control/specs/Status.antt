@@ -1,7 +1,7 @@
 -- The status of each object of SELECT and direct operation, the echo, and the objects that are carried out.
 -- Assumes nothing.
 use Prim.Native.Nat.{ℕ, _+_}
-use mathlib.Core.Bool.{Bool, true, not, cond, _&&_}
+use mathlib.Core.Bool.{Bool, true, not, cond, _&&_, _||_}
 use mathlib.Core.List.{List, [], _∷_, _++_}
 use lib.ListN.{take, drop}
 use lib.Dec.{ltb, eqb}
@@ -15,8 +15,21 @@ use Rattle.control.specs.declared.Form.the-variants.{Wrong, Objects}
 abbrev pub knownCode : ℕ → Bool
 knownCode code = member code (0x01 ∷ 0x03 ∷ 0x04 ∷ 0x41 ∷ 0x81 ∷ [])
 
+-- document 02, 108: "codes 01, 41 and 81", IEEE 1815's pulses; 03 and 04 latch
+abbrev pub isPulse : ℕ → Bool
+isPulse code = member code (0x01 ∷ 0x41 ∷ 0x81 ∷ [])
+
+-- "60,000 ms", the longest pulse
+abbrev pub onTimeMax : ℕ
+onTimeMax = 60000
+
+-- "For codes 01, 41 and 81 an on-time of 0 or above 60,000 ms" (108)
+abbrev pub wrongPulse : ℕ → ℕ → Bool
+wrongPulse code onTime = isPulse code && (eqb onTime 0 || ltb onTimeMax onTime)
+
 -- "status of each, first that applies: status byte not 0, 3; no such output, 4; control code not 01, 03, 04, 41 or 81, 4;
--- count not 1, 4; index already in this request, 8 (house); else 0"
+-- count not 1, 4; index already in this request, 8 (house); else 0"; a wrong pulse "gets status 4, tested after the count and before
+-- the repeated index" (108)
 unfoldable pub statusOf : ℕ → Bool → Crob → ℕ
 statusOf outputs again c =
     first
@@ -24,6 +37,7 @@ statusOf outputs again c =
     ∷ not (ltb (c .index) outputs) ⇒ 4
     ∷ not (knownCode (c .code)) ⇒ 4
     ∷ not (eqb (c .count) 1) ⇒ 4
+    ∷ wrongPulse (c .code) (c .«on_time») ⇒ 4
     ∷ again ⇒ 8
     ∷ [])
     0

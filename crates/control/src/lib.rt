@@ -6,7 +6,7 @@ ghost use lib.ListN.{length, take, drop};
 ghost use Rattle.octets.specs.Bytes.{splice, valueAt};
 ghost use Rattle.laws.specs.Lists.{member};
 ghost use Rattle.control.specs.Objects.{objectsMax, answerMax, widthOf, span, formed, HasObjects, crobAt, crobs, listOf, Holding, earlierOf};
-ghost use Rattle.control.specs.Status.{knownCode, statusOf, statuses, allZero, echoed, echoOf, chosen};
+ghost use Rattle.control.specs.Status.{knownCode, isPulse, wrongPulse, statusOf, statuses, allZero, echoed, echoOf, chosen};
 use application::Fault;
 
 // A control request has at most so many objects.
@@ -15,6 +15,8 @@ pub const OBJECTS_MAX: usize = 8;
 pub const ECHO_MAX: usize = 109;
 // And its answer at most so many.
 pub const ANSWER_MAX: usize = 113;
+// A pulse has at most so many milliseconds.
+pub const ON_TIME_MAX: u32 = 60000;
 
 // One control relay output block with the index it is for. The status is the request's, as it came.
 #[repr(C)]
@@ -210,6 +212,32 @@ fn known_code(code: u8) -> bool
     code == 0x81
 }
 
+// One of the three codes that pulse: trip, close, or neither.
+fn is_pulse(code: u8) -> bool
+    ensures { λ r. ⌜ r ≡ isPulse code ⌝ }
+{
+    if code == 0x81 {
+        return true;
+    }
+    if code == 0x41 {
+        return true;
+    }
+    code == 0x01
+}
+
+// A pulse with no length, or too long a one.
+fn wrong_pulse(code: u8, on_time: u32) -> bool
+    ensures { λ r. ⌜ r ≡ wrongPulse code «on_time» ⌝ }
+{
+    if !is_pulse(code) {
+        return false;
+    }
+    if on_time == 0 {
+        return true;
+    }
+    ON_TIME_MAX < on_time
+}
+
 // The status of one object, for SELECT and direct operation.
 fn status(c: Crob, outputs: u16, again: bool) -> u8
     ensures { λ r. ⌜ r ≡ statusOf outputs again c ⌝ }
@@ -226,7 +254,8 @@ fn status(c: Crob, outputs: u16, again: bool) -> u8
     if c.count != 1 {
         return 4;
     }
-    if again { 8 } else { 0 }
+    let wrong = wrong_pulse(c.code, c.on_time);
+    if wrong { 4 } else { if again { 8 } else { 0 } }
 }
 
 // The status of each object, for SELECT and direct operation.

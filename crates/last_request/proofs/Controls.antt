@@ -37,7 +37,7 @@ use Rattle.last_request.specs.Operates.{
 
 -- ---- the objects with status 0 of an OPERATE are none or all
 
-chosen-none : (cs : List Crob) (s : ℕ) → (s ≡ 0 → ⊥) → chosen cs (replicate (length cs) s) ≡ []
+pub chosen-none : (cs : List Crob) (s : ℕ) → (s ≡ 0 → ⊥) → chosen cs (replicate (length cs) s) ≡ []
 unfolding chosen
 chosen-none [] s h = refl
 chosen-none (c ∷ cs) s h = rw (ne-eqb s 0 h) (chosen-none cs s h)

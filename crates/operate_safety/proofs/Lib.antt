@@ -2,3 +2,4 @@ pub mod Times
 pub mod Steps
 pub mod Gives
 pub mod Theorem
+pub mod Operable

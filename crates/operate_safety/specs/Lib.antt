@@ -1,1 +1,2 @@
 pub mod Operated
+pub mod Operable

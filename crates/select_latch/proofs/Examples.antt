@@ -35,10 +35,10 @@ pub rows : (t : ℕ) → Rows t
 unfolding controlEffect formed exact widthOf span value crobs statuses statusOf allZero echoed chosen operateStatus same objects asked did
 rows t = record { g = refl; h = refl; late = refl; i = refl }
 
--- direct operation: two objects with one index, 0 and 8; the last output and one past it; function 6 answers nothing
+-- direct operation: two pulses, of 1 and 60,000 ms, with one index, 0 and 8; the last output and one past it; function 6 answers nothing
 two : ℕ → ℕ → ℕ → ℕ → List ℕ
 two i s j t =
-    0x0C ∷ 0x01 ∷ 0x17 ∷ 0x02 ∷ i ∷ 0x41 ∷ 0x01 ∷ 0 ∷ 0 ∷ 0 ∷ 0 ∷ 0 ∷ 0 ∷ 0 ∷ 0 ∷ s ∷ j ∷ 0x81 ∷ 0x01 ∷ 0 ∷ 0 ∷ 0 ∷ 0 ∷ 0 ∷ 0 ∷ 0 ∷ 0 ∷ t ∷ []
+    0x0C ∷ 0x01 ∷ 0x17 ∷ 0x02 ∷ i ∷ 0x41 ∷ 0x01 ∷ 0x01 ∷ 0 ∷ 0 ∷ 0 ∷ 0 ∷ 0 ∷ 0 ∷ 0 ∷ s ∷ j ∷ 0x81 ∷ 0x01 ∷ 0x60 ∷ 0xEA ∷ 0 ∷ 0 ∷ 0 ∷ 0 ∷ 0 ∷ 0 ∷ t ∷ []
 
 twice : controlEffect 16 0 noSelect DirectOperate 0 0 (two 2 0 2 0) .echo ≡ two 2 0 2 8
 unfolding controlEffect formed exact widthOf span value crobs statuses statusOf echoed two

@@ -420,6 +420,12 @@ impl Pair {
         seen.note("DIRECT OPERATE carried out", function == 5 && !operated.is_empty());
         seen.note("DIRECT OPERATE NO RESPONSE carried out", kind == 1 && !operated.is_empty());
         seen.note("eight objects carried out", operated.len() == header::CONTROLS);
+        let pulse = one_pulse(bytes, second.setup.outputs);
+        let (carried, refused) = (operated.len() == 1, accepted && operated.is_empty());
+        seen.note("pulse of 0 ms not carried out", pulse == Some(0) && refused);
+        seen.note("pulse of 1 ms carried out", pulse == Some(1) && carried);
+        seen.note("pulse of 60,000 ms carried out", pulse == Some(60_000) && carried);
+        seen.note("pulse of 60,001 ms not carried out", pulse == Some(60_001) && refused);
         Ok(())
     }
 
@@ -708,6 +714,15 @@ fn same_assembly(library: &header::Assembly, second: &header::Assembly) -> Resul
         None => Ok(()),
         Some(found) => Err(format!("assembly{found} (the library, and the second program)")),
     }
+}
+
+/// The on-time of the one pulse of a direct operation that nothing else is wrong with.
+fn one_pulse(bytes: &[u8], outputs: u8) -> Option<u32> {
+    let [_, 5 | 6, 12, 1, 0x17, 1, index, 0x01 | 0x41 | 0x81, 1, times @ .., 0] = bytes else {
+        return None;
+    };
+    let on_time = times.get(..4)?.try_into().ok()?;
+    (times.len() == 8 && *index < outputs).then(|| u32::from_le_bytes(on_time))
 }
 
 fn same_operated(library: &header::Crobs, second: &[Control]) -> Result<(), String> {

@@ -404,6 +404,8 @@ const GAINS: [u32; 8] =
     [0x3F80_0000, 0x3F80_0000, 0x4000_0000, 0x3DCC_CCCD, 0xBF80_0000, 0x7F7F_FFFF, 0x3F80_0001, 0];
 const OFFSETS: [u32; 6] = [0, 0, 0x8000_0000, 0x3F80_0000, 0xBF80_0002, 0x3DCC_CCCD];
 const CODES: [u32; 5] = [0x01, 0x03, 0x04, 0x41, 0x81];
+const PULSES: [u32; 4] = [1, 100, 59_999, 60_000];
+const NO_PULSES: [u32; 4] = [0, 60_001, 65_536, 65_537];
 
 impl Generator {
     pub fn new(seed: u64) -> Generator {
@@ -828,12 +830,26 @@ impl Generator {
             bytes.push(code as u8);
             let times = if self.source.chance(3) { self.source.below(4) } else { 1 };
             bytes.push(times as u8);
-            let on_time = self.source.next();
+            let on_time = self.on_time();
             bytes.extend_from_slice(&on_time.to_le_bytes());
             let off_time = self.source.below(1000);
             bytes.extend_from_slice(&off_time.to_le_bytes());
             let status = if self.source.chance(2) { self.source.below(256) } else { 0 };
             bytes.push(status as u8);
+        }
+    }
+
+    /// Mostly one that a pulse may have, often next to a limit.
+    fn on_time(&mut self) -> u32 {
+        let pulse = self.source.pick(&PULSES);
+        if self.source.chance(85) {
+            return pulse;
+        }
+        let none = self.source.pick(&NO_PULSES);
+        if self.source.chance(60) {
+            none
+        } else {
+            self.source.next()
         }
     }
 

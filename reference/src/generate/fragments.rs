@@ -266,7 +266,8 @@ impl Generator {
         self.request(2, &objects);
     }
 
-    /// Mostly a control that gets status 0; function 3, 4, 5 or 6.
+    /// Mostly a control that gets status 0; function 3, 4, 5 or 6. After a SELECT that armed
+    /// nothing sometimes the OPERATE that would meet it.
     pub fn control_request(&mut self, function: u8) {
         let outputs = self.station().map_or(0, |o| usize::from(o.setup.outputs));
         let wide = self.random.chance(35);
@@ -296,12 +297,11 @@ impl Generator {
             } else {
                 self.random.pick(&[0x01, 0x03, 0x04, 0x41, 0x81])
             };
-            let times = self.random.chance(40);
             objects.push(code);
             objects.push(if self.random.chance(4) { self.random.pick(&[0, 2, 255]) } else { 1 });
-            for _ in 0..8 {
-                objects.push(if times { self.random.byte() } else { 0 });
-            }
+            objects.extend_from_slice(&self.on_time(code).to_le_bytes());
+            let off_time = if self.random.chance(40) { self.random.next() as u32 } else { 0 };
+            objects.extend_from_slice(&off_time.to_le_bytes());
             objects.push(if self.random.chance(5) { self.random.pick(&[1, 3, 128]) } else { 0 });
         }
         match self.random.below(40) {
@@ -318,6 +318,26 @@ impl Generator {
             _ => {}
         }
         self.request(function, &objects);
+        let unarmed = self.station().is_some_and(|o| o.latch.is_none());
+        if function == 3 && unarmed && self.random.chance(30) {
+            self.request(4, &objects);
+        }
+    }
+
+    /// An on-time: a pulse's mostly a right one, often next to a limit; another code's often 0.
+    fn on_time(&mut self, code: u8) -> u32 {
+        if !matches!(code, 0x01 | 0x41 | 0x81) && self.random.chance(50) {
+            return 0;
+        }
+        match self.random.below(40) {
+            0..=33 => self.random.pick(&[1, 100, 59_999, 60_000]),
+            34 => 0,
+            35 => 60_001,
+            36 => self.random.pick(&[65_535, 65_536, 65_537, 65_536 + 60_000, u32::MAX]),
+            37 => self.random.below(70_000) as u32,
+            38 => 1 << self.random.below(32),
+            _ => self.random.next() as u32,
+        }
     }
 
     pub fn read_request(&mut self) {

@@ -16,7 +16,8 @@
 //! - 256 held events and drops, then READ and CONFIRM, with drops before and after the READ, with
 //!   new events in between, at the confirm time and one later, and again on time after that;
 //! - SELECT, a repeat of it later, OPERATE at the arm time and one later, repeated, and with
-//!   another sequence, form, object or request in between;
+//!   another sequence, form, object or request in between; also after a SELECT that armed nothing;
+//! - pulses with on-times on both sides of each limit, also of an index already in the request;
 //! - repeats of every function, also with a READ in between;
 //! - static parts of 2,044 and 2,045 bytes, and such that little room is left for events.
 
