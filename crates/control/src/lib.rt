@@ -16,7 +16,7 @@ pub const ECHO_MAX: usize = 109;
 // And its answer at most so many.
 pub const ANSWER_MAX: usize = 113;
 // A pulse has at most so many milliseconds.
-pub const ON_TIME_MAX: u32 = 60000;
+const ON_TIME_MAX: u32 = 60000;
 
 // One control relay output block with the index it is for. The status is the request's, as it came.
 #[repr(C)]
