@@ -1,4 +1,4 @@
--- Laws of the loops over the objects and their statuses.
+-- Laws of one object's status, and of the loops over the objects and their statuses.
 -- Assumes nothing.
 use mathlib.Core.Path.{_≡_, refl, sym, ap, _∙_}
 use mathlib.Core.Bool.{Bool, true, false}
