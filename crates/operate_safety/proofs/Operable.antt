@@ -2,6 +2,7 @@
 -- only with objects that all have it.
 -- Assumes nothing.
 use mathlib.Core.Path.{_≡_, refl, sym, subst}
+use mathlib.Core.Bool.{false}
 use mathlib.Core.List.{List, [], _∷_, _++_}
 use Prim.Native.Nat.{ℕ, _+_}
 use borrow.Author.Tests.{eqb-true, eqb-false}
@@ -17,7 +18,7 @@ use Rattle.control.specs.Operable.{AllOperable}
 use Rattle.control.proofs.OperableLaws.{zeros-operable, chosen-operable}
 use Rattle.select_latch.specs.declared.ControlFunction.{ControlFunction}
 use Rattle.select_latch.specs.declared.ControlFunction.the-variants.{Select, Operate, DirectOperate, DirectOperateNoResponse}
-use Rattle.select_latch.specs.Select.{LatchView, noSelect, selected, operateStatus, byForm, controlEffect}
+use Rattle.select_latch.specs.Select.{LatchView, noSelect, selected, operateStatus, isSelect, isOperate, byForm, controlEffect}
 use Rattle.last_request.specs.Requests.{Request, Acted, Remembered, sequenceIn, functionIn, objectsIn, acted, rememberedAfter, repeated, outcome}
 use Rattle.last_request.proofs.Controls.{chosen-none, chosen-all, operate-zero}
 use Rattle.operate_safety.specs.Operable.{HandedOperable}
@@ -70,21 +71,18 @@ module _ (outputs arm : ℕ) where
         λ z. rw e at (subst LatchOperable (operate-zero arm l (sequenceIn r) (r .time) (objectsIn r) z .latched) armed) in
         record { carried = chosen-alike (crobs w n (drop (3 + w) (objectsIn r))) status all; latch = tt }
 
-    direct-ok : (x : Form) → ByForm DirectOperate x
-    direct-ok (Wrong y) = record { carried = tt; latch = tt }
-    direct-ok (Objects w n) = record { carried = chosen-operable outputs [] (crobs w n (drop (3 + w) (objectsIn r))); latch = tt }
-
-    unanswered-ok : (x : Form) → ByForm DirectOperateNoResponse x
-    unanswered-ok (Wrong y) = record { carried = tt; latch = tt }
-    unanswered-ok (Objects w n) = record { carried = chosen-operable outputs [] (crobs w n (drop (3 + w) (objectsIn r))); latch = tt }
+    -- with a response or without
+    direct-ok : (f : ControlFunction) → isSelect f ≡ false → isOperate f ≡ false → (x : Form) → ByForm f x
+    direct-ok f s d (Wrong y) = record { carried = tt; latch = tt }
+    direct-ok f s d (Objects w n) = rw (s, d) (record { carried = chosen-operable outputs [] (crobs w n (drop (3 + w) (objectsIn r))); latch = tt })
 
     acts-operable : ActsOperable (acted outputs arm l r)
     unfolding acted controlEffect
     acts-operable =
         split ActsOperable (eqb (functionIn r) 3) (λ _. select-ok (formed (objectsIn r)) refl)
         (λ _. split ActsOperable (eqb (functionIn r) 4) (λ _. operate-ok (formed (objectsIn r)) refl)
-        (λ _. split ActsOperable (eqb (functionIn r) 5) (λ _. direct-ok (formed (objectsIn r)))
-        (λ _. split ActsOperable (eqb (functionIn r) 6) (λ _. unanswered-ok (formed (objectsIn r)))
+        (λ _. split ActsOperable (eqb (functionIn r) 5) (λ _. direct-ok DirectOperate refl refl (formed (objectsIn r)))
+        (λ _. split ActsOperable (eqb (functionIn r) 6) (λ _. direct-ok DirectOperateNoResponse refl refl (formed (objectsIn r)))
         (λ _. record { carried = tt; latch = tt }))))
 
   -- ---- every list of requests
