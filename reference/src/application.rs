@@ -1,6 +1,6 @@
 //! Fragments: refusals, requests and their answers, READ, WRITE, CONFIRM, repeats.
 
-use crate::control::{self, Control, Latch};
+use crate::control::{self, Control, Group, Latch};
 use crate::events::Event;
 use crate::faults::{on, Fault};
 use crate::outstation::Outstation;
@@ -104,9 +104,16 @@ impl Outstation {
             OPERATE => self.operate(sequence, objects, latch, &mut operated),
             DIRECT_OPERATE => self.direct_operate(sequence, objects, &mut operated),
             DIRECT_OPERATE_NO_RESPONSE => {
-                self.direct_operate(sequence, objects, &mut operated);
-                self.last_request =
-                    Some(Request { bytes: bytes.to_vec(), answer: None, operated: Vec::new() });
+                let answer = self.direct_operate(sequence, objects, &mut operated);
+                if on(Fault::SetAnswered) && objects.first() == Some(&41) {
+                    lent[..answer.len()].copy_from_slice(&answer);
+                    return Ok(Outcome::Answer(answer.len(), operated));
+                }
+                self.last_request = Some(Request {
+                    bytes: bytes.to_vec(),
+                    answer: None,
+                    operated: operated.clone(),
+                });
                 return Ok(Outcome::Mute(operated));
             }
             _ => self.answer(sequence, FUNCTION_UNKNOWN, &[]),
@@ -130,8 +137,14 @@ impl Outstation {
         if last.bytes != bytes || (bytes[1] == READ && !on(Fault::ReadRepeats)) {
             return None;
         }
+        // What a fault carries out again.
+        let again = |control: &&Control| {
+            on(Fault::RepeatOperates) && last.answer.is_some()
+                || on(Fault::SetCarriedTwice) && control.group() == Group::SetPoints
+        };
+        let operated: Vec<Control> = last.operated.iter().filter(again).copied().collect();
         let Some(answer) = &last.answer else {
-            return Some(Outcome::Mute(Vec::new()));
+            return Some(Outcome::Mute(operated));
         };
         lent[..answer.len()].copy_from_slice(answer);
         if on(Fault::RepeatRebuilt) {
@@ -142,7 +155,6 @@ impl Outstation {
                 latch.time = time;
             }
         }
-        let operated = if on(Fault::RepeatOperates) { last.operated.clone() } else { Vec::new() };
         Some(Outcome::Answer(answer.len(), operated))
     }
 
@@ -389,8 +401,18 @@ impl Outstation {
         self.answer(sequence, fault, &[])
     }
 
+    /// The objects of a control request, or its fault.
+    fn controls(&self, objects: &[u8]) -> Result<Vec<Control>, u8> {
+        let controls = control::parse(objects)?;
+        let none = self.setup.set_points.is_empty() && Group::of(objects) == Group::SetPoints;
+        if none && on(Fault::SetUnknownWithout) {
+            return Err(OBJECT_UNKNOWN);
+        }
+        Ok(controls)
+    }
+
     fn select(&mut self, sequence: u8, objects: &[u8], latch: Option<Latch>) -> Vec<u8> {
-        let controls = match control::parse(objects) {
+        let controls = match self.controls(objects) {
             Ok(controls) => controls,
             Err(fault) => {
                 if on(Fault::LatchKept) {
@@ -399,13 +421,23 @@ impl Outstation {
                 return self.answer(sequence, fault, &[]);
             }
         };
-        let statuses = control::statuses(&controls, self.setup.outputs);
+        let mut group = Group::of(objects);
+        let statuses = control::statuses(&controls, &self.setup);
+        if latch.as_ref().is_some_and(|latch| latch.group != group) && on(Fault::SelectOtherKept) {
+            self.latch = latch;
+            return self.answer(sequence, 0, &control::echo(objects, &statuses));
+        }
+        if on(Fault::SetArmsRelays) {
+            group = Group::Relays;
+        }
         // "SELECT with all statuses 0 arms it".
         if controls.iter().zip(&statuses).all(|(control, &status)| {
             status == 0
-                || on(Fault::PulseArms) && control::refused_for_time(control, self.setup.outputs)
+                || control.on(Fault::PulseArms, Fault::SetArms)
+                    && control.refused_for_value(&self.setup)
         }) {
-            self.latch = Some(Latch { sequence, time: self.clock, objects: objects.to_vec() });
+            let time = self.clock;
+            self.latch = Some(Latch { group, sequence, time, objects: objects.to_vec() });
         }
         self.answer(sequence, 0, &control::echo(objects, &statuses))
     }
@@ -417,7 +449,7 @@ impl Outstation {
         latch: Option<Latch>,
         operated: &mut Vec<Control>,
     ) -> Vec<u8> {
-        let controls = match control::parse(objects) {
+        let controls = match self.controls(objects) {
             Ok(controls) => controls,
             Err(fault) => return self.answer(sequence, fault, &[]),
         };
@@ -428,7 +460,7 @@ impl Outstation {
             objects,
             self.setup.arm_time,
         );
-        let statuses = control::operate_statuses(&controls, status);
+        let statuses = control::operate_statuses(&controls, status, &self.setup);
         if status == 0 {
             operated.extend(controls);
         }
@@ -442,14 +474,15 @@ impl Outstation {
         objects: &[u8],
         operated: &mut Vec<Control>,
     ) -> Vec<u8> {
-        let controls = match control::parse(objects) {
+        let controls = match self.controls(objects) {
             Ok(controls) => controls,
             Err(fault) => return self.answer(sequence, fault, &[]),
         };
-        let statuses = control::statuses(&controls, self.setup.outputs);
+        let statuses = control::statuses(&controls, &self.setup);
         for (control, &status) in controls.iter().zip(&statuses) {
             if status == 0
-                || on(Fault::PulseCarried) && control::refused_for_time(control, self.setup.outputs)
+                || control.on(Fault::PulseCarried, Fault::SetCarried)
+                    && control.refused_for_value(&self.setup)
             {
                 operated.push(*control);
             }

@@ -11,13 +11,13 @@
 //! - NUMBER: `0`, or a digit 1 to 9 and more digits. No sign, no leading zeros.
 //! - SIGNED: NUMBER, or `-` and a NUMBER that is not `0`. So `-0` and `+1` are faults.
 //! - CC: two, F32: eight digits 0-9 A-F. HEX: `-`, or an even number of them, at least two.
-//! - The parts of RECORD, ANALOG and the line record are separated by exactly one comma.
+//! - The parts of RECORD, ANALOG, SETPOINT and the line record are separated by exactly one comma.
 //! - A value outside its word's range is a fault.
 //! - Order: a line that is no call is `fault`, outstation or not, and changes nothing; then a call
 //!   marked * with no outstation is `none`; then the call is made.
 
 use crate::application::Outcome;
-use crate::control::Control;
+use crate::control::{Control, Object};
 use crate::crc::check_bytes;
 use crate::events::Event;
 use crate::faults::{on, Fault};
@@ -26,6 +26,7 @@ use crate::link::{self, Heard, LineRecord};
 use crate::outstation::{Outstation, Setup};
 use crate::points::{Form, Gate, Reading, Taken, Value};
 use crate::receiver::Receiver;
+use crate::set_points::SetPoint;
 use crate::transport::Assembled;
 use crate::Refusal;
 
@@ -36,6 +37,8 @@ pub const LENT: usize = 65_536;
 pub const RECORDS: usize = 128;
 /// Words given at most for the binaries, and for the analogs, of a setup.
 pub const POINTS: usize = 64;
+/// Words given at most for the set points of a setup.
+pub const SET_POINTS: usize = 16;
 
 /// What lent bytes are filled with.
 const FILL: u8 = 0xA5;
@@ -344,9 +347,19 @@ fn put_operated(operated: &[Control], out: &mut Vec<u8>) {
     if operated.is_empty() {
         out.extend_from_slice(b" -");
     }
-    for control in operated {
-        out.extend_from_slice(format!(" {}:", control.index).as_bytes());
-        put_hex(&control.object, out);
+    for Control { index, object } in operated {
+        match object {
+            Object::Relay(bytes) => {
+                out.extend_from_slice(format!(" {index}:").as_bytes());
+                put_hex(bytes, out);
+            }
+            // `V@INDEX:HEX`, value and status bytes (02, 109)
+            Object::SetPoint(value, status) => {
+                out.extend_from_slice(format!(" {}@{index}:", value.variation()).as_bytes());
+                put_hex(&value.bytes(), out);
+                put_hex(&[*status], out);
+            }
+        }
     }
 }
 
@@ -410,7 +423,7 @@ pub fn parse(line: &[u8]) -> Option<Call> {
 }
 
 /// `OWN MASTER ARM CONFIRM NB NA NO`, then a word for each binary and each analog, 64 at most of
-/// each.
+/// each; then, or not, `s NS` and a word for each set point, 16 at most.
 fn setup(words: &[&[u8]]) -> Option<Setup> {
     let [own, master, arm, confirm, nb, na, no, points @ ..] = words else {
         return None;
@@ -419,13 +432,21 @@ fn setup(words: &[&[u8]]) -> Option<Setup> {
     let analog_count = number(na, 255)? as u8;
     let binary_words = usize::from(binary_count).min(POINTS);
     let analog_words = usize::from(analog_count).min(POINTS);
-    if points.len() != binary_words + analog_words {
+    let (binaries, rest) = points.split_at_checked(binary_words)?;
+    let (analogs, rest) = rest.split_at_checked(analog_words)?;
+    let binaries: Option<Vec<u8>> =
+        binaries.iter().map(|word| Some(number(word, 255)? as u8)).collect();
+    let analogs: Option<Vec<(u8, Form)>> = analogs.iter().map(|word| analog_word(word)).collect();
+    let (set_point_count, set_points) = match rest {
+        [] => (0, rest),
+        [b"s", count, set_points @ ..] => (number(count, 255)? as u8, set_points),
+        _ => return None,
+    };
+    if set_points.len() != usize::from(set_point_count).min(SET_POINTS) {
         return None;
     }
-    let binaries: Option<Vec<u8>> =
-        points[..binary_words].iter().map(|word| Some(number(word, 255)? as u8)).collect();
-    let analogs: Option<Vec<(u8, Form)>> =
-        points[binary_words..].iter().map(|word| analog_word(word)).collect();
+    let set_points: Option<Vec<SetPoint>> =
+        set_points.iter().map(|word| set_point_word(word)).collect();
     Some(Setup {
         own: number(own, 65_535)? as u16,
         master: number(master, 65_535)? as u16,
@@ -434,8 +455,10 @@ fn setup(words: &[&[u8]]) -> Option<Setup> {
         binary_count,
         analog_count,
         outputs: number(no, 255)? as u8,
+        set_point_count,
         binaries: binaries?,
         analogs: analogs?,
+        set_points: set_points?,
     })
 }
 
@@ -473,6 +496,20 @@ fn gate_words<L>(gate: &[u8], limit: &[u8], read: impl Fn(&[u8]) -> Option<L>) -
         (b"1", b"-") => Some(Gate::AnyChange),
         (b"2", _) => Some(Gate::Beyond(read(limit)?)),
         (b"3", _) => Some(Gate::Summed(read(limit)?)),
+        _ => None,
+    }
+}
+
+/// `KIND,LOW,HIGH` (02, 109).
+fn set_point_word(word: &[u8]) -> Option<SetPoint> {
+    let [kind, low, high] = commas(word)[..] else {
+        return None;
+    };
+    let whole = |word| signed(word, i64::MIN, i64::MAX);
+    match kind {
+        b"1" => Some(SetPoint::Whole32(whole(low)?, whole(high)?)),
+        b"2" => Some(SetPoint::Whole16(whole(low)?, whole(high)?)),
+        b"3" => Some(SetPoint::Float(float(low)?, float(high)?)),
         _ => None,
     }
 }
@@ -611,6 +648,19 @@ mod tests {
             answers("held\nheld \nbin 0 0 2 0\nbin 0 0 1 0\n# no\n\ncrc -\n"),
             "none\nfault\nfault\nnone\ncrc FFFF\n"
         );
+    }
+
+    #[test]
+    fn set_points_of_a_setup() {
+        let words = |words: &str| answers(&format!("setup 1 2 5000 5000 0 0 0{words}"));
+        assert_eq!(words(" s 0"), "ok\n");
+        assert_eq!(words(" s 2 1,-5,7 3,00000000,80000000"), "ok\n");
+        assert_eq!(words(" s 1 2,-32769,0"), "no 5\n");
+        assert_eq!(words(&format!(" s 17{}", " 1,0,0".repeat(16))), "no 5\n");
+        for wrong in [" s", " s 1", " s 0 1,0,0", " s 1 4,0,0", " s 1 3,0,0", " c 0", " S 0"] {
+            assert_eq!(words(wrong), "fault\n", "{wrong}");
+        }
+        assert_eq!(words(&format!(" s 17{}", " 1,0,0".repeat(17))), "fault\n");
     }
 
     #[test]

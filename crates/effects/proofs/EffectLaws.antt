@@ -115,8 +115,9 @@ effect-idle w q function time o = go (eqb function 2) (eqb function 3) (eqb func
     go false false false false false = refl
 
 -- its answer has at most 113 bytes
-pub effect-small : (seen : RequestContext) (q function time : ℕ) (o : List ℕ) (r : RequestEffect) (b a : List ℕ) → EffectMeetsWith r b a (λ u. effectBy (contextView seen u) q function time o)
+pub effect-small : (seen : RequestContext) (ws : List ℕ) (q function time : ℕ) (o : List ℕ) (r : RequestEffect) (b a : List ℕ)
+    → EffectMeetsWith r b a (λ u. effectBy (contextView seen ws u) q function time o)
     → r .size ≤ answerMax
-effect-small seen q function time o r b a worked =
+effect-small seen ws q function time o r b a worked =
     let u : BufferView = record { held = []; overflow = false } in
-    omega (arith, objects-most (contextView seen u) q function time o, worked u .size)
+    omega (arith, objects-most (contextView seen ws u) q function time o, worked u .size)

@@ -7,6 +7,7 @@ use mathlib.Core.List.{List, []}
 use lib.ListN.{length}
 use Rattle.octets.specs.Bytes.{splice}
 use Rattle.control.specs.Objects.{echoMax, Holding}
+use Rattle.control.specs.Status.{outputsOf}
 use Rattle.select_latch.specs.Select.{latchOf}
 use Rattle.events.specs.BufferView.{BufferView}
 use Rattle.application.specs.Response.{isFaultless, writeFault}
@@ -41,15 +42,15 @@ EffectMeetsWith r before after d = (k : BufferView) → EffectMeets r before aft
 abbrev pub EffectMeetsStill : RequestEffect → (OutstationView → S.RequestEffect) → Type 0
 EffectMeetsStill r d = (w : OutstationView) (lent : List ℕ) → EffectMeets r lent lent (d w)
 
--- the state as a request other than READ sees it, with these events
-abbrev pub contextView : RequestContext → BufferView → OutstationView
-contextView s k =
+-- the state as a request other than READ sees it, with these analog outputs' words and these events
+abbrev pub contextView : RequestContext → List ℕ → BufferView → OutstationView
+contextView s ws k =
     record {
       shared =
           record {
             armTime = s .«arm_time»;
             confirmTime = 0;
-            outputs = s .outputs;
+            outputs = outputsOf (s .outputs) ws;
             clock = 0;
             inputs = record { binaries = []; analogs = [] };
           };

@@ -8,9 +8,11 @@ ghost use Rattle.laws.specs.Limits.{fragmentMax};
 ghost use Rattle.outstation.specs.Requests.{isConfirmed};
 ghost use Rattle.outstation.specs.Step.{plainEffect, controlRequestEffect, effectBy};
 ghost use Rattle.effects.specs.Effects.{EffectMeetsWith, EffectMeetsStill, Confirms, contextView, writeEffectBy};
+use analog_outputs::ANALOG_OUTPUT_WORDS;
 use application::ApplicationSequence;
 use application::Fault;
-use control::Crobs;
+use control::ControlObjects;
+use control::OutputCounts;
 use outstation::Wait;
 use select_latch::ControlFunction;
 use select_latch::Latch;
@@ -24,9 +26,9 @@ pub enum Confirmation {
     },
 }
 
-// What a request other than READ sees of the state.
+// What a request other than READ sees of the state, beside the analog outputs' words.
 pub struct RequestContext {
-    pub outputs: u16,
+    pub outputs: OutputCounts,
     pub arm_time: u64,
     pub restarted: bool,
     pub latch: Latch,
@@ -37,7 +39,7 @@ pub struct RequestEffect {
     pub fault: Fault,
     pub con: bool,
     pub size: usize,
-    pub operated: Crobs,
+    pub operated: ControlObjects,
     pub wait: Wait,
     pub latch: Latch,
     pub restarted: bool,
@@ -138,6 +140,7 @@ fn write_effect(restarted: bool, s: &[u8]) -> RequestEffect
 
 fn control_request_effect(
     seen: RequestContext,
+    ws: &[u32; ANALOG_OUTPUT_WORDS],
     g: ControlFunction,
     q: ApplicationSequence,
     time: u64,
@@ -145,10 +148,11 @@ fn control_request_effect(
     out: &mut [u8],
 ) -> RequestEffect
     requires { ⌜ fragmentMax ≤ length (now out) ⌝ }
-    ensures { λ r. ⌜ EffectMeetsWith r (now (out .entry)) (now (out .exit)) (λ k. controlRequestEffect (contextView seen k) g (q .0) time (now (s .entry))) ⌝ }
+    ensures { λ r. ⌜ EffectMeetsWith r (now (out .entry)) (now (out .exit)) (λ k. controlRequestEffect (contextView seen (now (ws .entry)) k) g (q .0) time (now (s .entry))) ⌝ }
 {
     let latch = seen.latch;
-    let c = select_latch::control_effect(latch, seen.outputs, seen.arm_time, g, q, time, s, out);
+    let counts = seen.outputs;
+    let c = select_latch::control_effect(latch, counts, ws, seen.arm_time, g, q, time, s, out);
     let w = Wait::Idle;
     let fault = c.fault;
     let operated = c.carried;
@@ -173,6 +177,7 @@ pub fn either(a: bool, b: bool) -> bool
 // What a request other than READ does, by its function, of the bytes after control and function.
 pub fn effect_by(
     seen: RequestContext,
+    ws: &[u32; ANALOG_OUTPUT_WORDS],
     q: ApplicationSequence,
     function: u8,
     time: u64,
@@ -180,23 +185,24 @@ pub fn effect_by(
     out: &mut [u8],
 ) -> RequestEffect
     requires { ⌜ fragmentMax ≤ length (now out) ⌝ }
-    ensures { λ r. ⌜ EffectMeetsWith r (now (out .entry)) (now (out .exit)) (λ k. effectBy (contextView seen k) (q .0) function time (now (s .entry))) ⌝ }
+    ensures { λ r. ⌜ EffectMeetsWith r (now (out .entry)) (now (out .exit)) (λ k. effectBy (contextView seen (now (ws .entry)) k) (q .0) function time (now (s .entry))) ⌝ }
 {
     if function == 2 {
         return write_effect(seen.restarted, s);
     }
     if function == 3 {
-        return control_request_effect(seen, ControlFunction::Select, q, time, s, out);
+        return control_request_effect(seen, ws, ControlFunction::Select, q, time, s, out);
     }
     if function == 4 {
-        return control_request_effect(seen, ControlFunction::Operate, q, time, s, out);
+        return control_request_effect(seen, ws, ControlFunction::Operate, q, time, s, out);
     }
     if function == 5 {
-        return control_request_effect(seen, ControlFunction::DirectOperate, q, time, s, out);
+        return control_request_effect(seen, ws, ControlFunction::DirectOperate, q, time, s, out);
     }
     if function == 6 {
         return control_request_effect(
             seen,
+            ws,
             ControlFunction::DirectOperateNoResponse,
             q,
             time,

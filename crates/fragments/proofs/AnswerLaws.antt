@@ -20,7 +20,7 @@ use Rattle.read_headers.specs.Parse.{Parsed, headers, fault}
 use Rattle.static_objects.specs.Static.{askedOf}
 use Rattle.read.specs.Response.{bufferAfter, responseObjects}
 use Rattle.read.proofs.ResponseLaws.{response-fits}
-use Rattle.control.specs.declared.Crobs.{Crobs}
+use Rattle.control.specs.declared.ControlObjects.{ControlObjects}
 use Rattle.control.specs.Objects.{Holding}
 use Rattle.select_latch.specs.Select.{latchOf}
 use Rattle.last_request.specs.Repeat.{LastRequestView, kept, keptAnswer, isRepeat}
@@ -120,7 +120,7 @@ module _ (w s : OutstationView) (q time : ℕ) (f : List ℕ) (r : RequestEffect
           lent = answer-lent q r b a₁ a₂ d worked k marked put;
         })
 
-    pub read-given : (none : Crobs) → Holding none [] → m ≡ kept f []
+    pub read-given : (none : ControlObjects) → Holding none [] → m ≡ kept f []
         → AnsweredAs s (Fs.Answer (r .size)) none b a₂ (readStep w q time f d)
     unfolding readStep
     read-given none e keeps =
@@ -188,7 +188,7 @@ read-most w q time o =
 
 -- ---- a repeat
 
-module _ (w s : OutstationView) (function time : ℕ) (none : Crobs) (b : List ℕ) (same : s ≡ atTime time w) (no : Holding none []) where
+module _ (w s : OutstationView) (function time : ℕ) (none : ControlObjects) (b : List ℕ) (same : s ≡ atTime time w) (no : Holding none []) where
   repeat-silent : eqb function 6 ≡ true → AnsweredAs s Fs.Silent none b b (repeatStep w function time)
   unfolding repeatStep
   repeat-silent e = rw e (record { state = same; answer = ap silent (no .objects); size = refl; objects = no; lent = refl })

@@ -10,6 +10,7 @@ use lib.Dec.{eqb}
 use lib.ListN.{length, take}
 use Rattle.laws.specs.Limits.{eventsMax, fragmentMax}
 use Rattle.laws.specs.Lists.{some}
+use Rattle.laws.proofs.Choices.{by}
 use Rattle.octets.specs.Bytes.{splice}
 use Rattle.application.specs.declared.Fault.{Fault}
 use Rattle.application.specs.declared.Fault.the-variants.{Faultless}
@@ -23,10 +24,11 @@ use Rattle.read_headers.proofs.ParseLaws.{Told}
 use Rattle.static_objects.specs.Static.{askedOf}
 use Rattle.read.proofs.AskLaws.{told-asked}
 use Rattle.read.specs.Response.{bufferAfter, responseObjects, RepliedAs}
-use Rattle.control.specs.declared.Crobs.{Crobs}
+use Rattle.control.specs.declared.ControlObjects.{ControlObjects}
 use Rattle.control.specs.Objects.{answerMax, listOf, Holding}
 use Rattle.select_latch.specs.declared.Latch.{Latch}
-use Rattle.select_latch.specs.Select.{noSelect, latchOf}
+use Rattle.select_latch.specs.declared.ControlGroup.the-variants as G
+use Rattle.select_latch.specs.Select.{noSelect, selected, latchOf}
 use Rattle.last_request.specs.Repeat.{kept, lastIn, keptAnswer}
 use Rattle.outstation.specs.declared.Wait.{Wait}
 use Rattle.outstation.specs.declared.Wait.the-variants.{Idle, Awaiting}
@@ -48,7 +50,7 @@ use Rattle.event_store.specs.EventWords.{bufferIn, bufferViewIn}
 use Rattle.read.specs.declared.Reply.{Reply}
 use Rattle.last_request.specs.declared.LastLengths.{LastLengths}
 use Rattle.outstation.specs.declared.Head.{Head}
-use Rattle.outstation.specs.Lent.{Lent, HeadCountsWithin, installedOf, bufferStatus, waitOf, viewOf}
+use Rattle.outstation.specs.Lent.{Lent, HeadCountsWithin, installedOf, bufferStatus, groupIn, waitOf, viewOf}
 use Rattle.fragments.specs.declared.FragmentResult.{FragmentResult}
 use Rattle.fragments.specs.FragmentMeets.{fragmentRefusalNumber, answerBy, sizeBy, leftWith, readEffectBy, FragmentMeets, answeredBy, PartMeets, withHeld, ConfirmedHolds, ConfirmHolds, conBy, ReadHolds, lastLengths, withLast, RepeatHolds, LeftIn, ReadLeft, OtherHolds, contextIn}
 
@@ -110,9 +112,10 @@ confirmedHead h time count overflow =
       «request_kept» = h .«request_kept»;
       «latch_armed» = h .«latch_armed»;
       «latch_sequence» = h .«latch_sequence»;
+      «analog_outputs» = h .«analog_outputs»;
     }
 
-pub confirmed-in : (h : Head) (e e₁ : List ℕ) (time : ℕ) (showedOverflow droppedSince : Bool) (t t₁ : BufferStatus) (byte : ℕ) (none : Crobs) → t ≡ bufferStatus h
+pub confirmed-in : (h : Head) (e e₁ : List ℕ) (time : ℕ) (showedOverflow droppedSince : Bool) (t t₁ : BufferStatus) (byte : ℕ) (none : ControlObjects) → t ≡ bufferStatus h
     → (bufferViewIn e₁ t₁ ≡ released (bufferViewIn e t)) × (t₁ .count ≤ eventsMax) → holds byte ≡ cond (showedOverflow && not droppedSince) false (t₁ .overflow) → Holding none []
     → ConfirmedHolds h e time showedOverflow droppedSince (record { head = confirmedHead h time (t₁ .count) byte; answer = Fs.Confirmed; operated = none }) e₁
 unfolding confirmedStep waitOf
@@ -138,6 +141,7 @@ confirmed-in h e e₁ time showedOverflow droppedSince t t₁ byte none same gon
             request = c .request;
             answer = c .answer;
             objects = c .objects;
+            outputs = c .outputs;
           };
     }
 
@@ -152,7 +156,7 @@ effectFor f con size wait restarted =
       size = size;
       operated = record { items = []; count = 0 };
       wait = wait;
-      latch = record { armed = false; sequence = record { 0 = 0 }; time = 0; objects = []; len = 0 };
+      latch = record { armed = false; group = G.Crob; sequence = record { 0 = 0 }; time = 0; objects = []; len = 0 };
       restarted = restarted;
     }
 
@@ -205,13 +209,13 @@ module _ (w : OutstationView) (q time : ℕ) (b a : List ℕ) (k : BufferView) (
   read-worked (headers hs) t e = faultless e hs
   read-worked (fault g) t e = subst (λ (x : Fault). WorkedBy (fault x)) e (faulty (ap isFaultless e ∙ t))
 
--- the memory of a READ, by the latch's bytes
-abbrev pub memoryOf : (binaries analogs held request answer : List ℕ) → List ℕ → Lent
-memoryOf b a e p s o = record { binaries = b; analogs = a; held = e; request = p; answer = s; objects = o }
+-- the memory of a READ, by the latch's bytes and the analog outputs' words
+abbrev pub memoryOf : (binaries analogs held request answer : List ℕ) → (objects outputs : List ℕ) → Lent
+memoryOf b a e p s o u = record { binaries = b; analogs = a; held = e; request = p; answer = s; objects = o; outputs = u }
 
 -- a READ, of its reply r, the header put in front and the head that it leaves
 module _ (h : Head) (bw aw e p s : List ℕ) (q time : ℕ) (f e₁ p₁ s₁ : List ℕ) (r : Reply) (b a₁ a₂ : List ℕ) (con carried : Bool) (k : LastLengths)
-    (h₁ : Head) (none : Crobs) (hands : Holding none []) (left : ReadLeft h time (cond con (Awaiting (record { 0 = q }) time (holds (h .overflow)) false) Idle) k h₁)
+    (h₁ : Head) (none : ControlObjects) (hands : Holding none []) (left : ReadLeft h time (cond con (Awaiting (record { 0 = q }) time (holds (h .overflow)) false) Idle) k h₁)
     (keeps : (lastIn p₁ s₁ k ≡ kept f []) × (k .«request_len» ≡ length f) × (k .«answer_len» ≡ 0)) (short : length f ≤ fragmentMax) (room : fragmentMax ≤ length b) where
   -- the rest of what is known, by the status and the restart flag that the code has
   abbrev ReadBy : BufferStatus → Bool → Type 0
@@ -222,8 +226,8 @@ module _ (h : Head) (bw aw e p s : List ℕ) (q time : ℕ) (f e₁ p₁ s₁ : 
 
   of-head : ReadBy (bufferStatus h) (holds (h .restarted))
   unfolding bufferView latchOf
-  of-head g ec is put o =
-      let w : OutstationView = viewOf h (memoryOf bw aw e p s o) in
+  of-head g ec is put o v =
+      let w : OutstationView = viewOf h (memoryOf bw aw e p s o v) in
       let y : Parsed = askedOf (w .shared .inputs) (objectsOf f) in
       let d : RequestEffect = effectFor (r .fault) con (r .size) (waitBy w q time b a₁ u (r .fault) con carried (r .size) is con) (holds (h .restarted)) in
       let worked : EffectMeets d b a₁ (readEffectBy w q time y) = read-worked w q time b a₁ u (r .fault) con carried (r .size) is y (told-asked (w .shared .inputs) (objectsOf f)) (g .fault) ec (g .events) (g .size) (g .bytes) in
@@ -231,7 +235,7 @@ module _ (h : Head) (bw aw e p s : List ℕ) (q time : ℕ) (f e₁ p₁ s₁ : 
       let fits : r .size ≤ length b = omega (arith, read-most w q time (objectsOf f), worked .size, room) in
       record {
         result =
-            read-given w (viewOf h₁ (memoryOf bw aw e₁ p₁ s₁ o)) q time f d b a₁ _ worked u marked _ (lastIn p₁ s₁ k) (left o .view (memoryOf bw aw e₁ p₁ s₁ o)) refl a₂ put fits none hands
+            read-given w (viewOf h₁ (memoryOf bw aw e₁ p₁ s₁ o v)) q time f d b a₁ _ worked u marked _ (lastIn p₁ s₁ k) (left o .view (memoryOf bw aw e₁ p₁ s₁ o v)) refl a₂ put fits none hands
             (keeps .0);
         counted =
             λ c. left o .counted (omega (arith, short, keeps .1)) (omega (arith, keeps .2)) (c .objects) c;
@@ -270,9 +274,10 @@ headAt h time =
       «request_kept» = h .«request_kept»;
       «latch_armed» = h .«latch_armed»;
       «latch_sequence» = h .«latch_sequence»;
+      «analog_outputs» = h .«analog_outputs»;
     }
 
-pub repeated-in : (h : Head) (p s : List ℕ) (function time : ℕ) (none : Crobs) (b a : List ℕ) (n : ℕ) (is : FragmentAnswer) → Holding none []
+pub repeated-in : (h : Head) (p s : List ℕ) (function time : ℕ) (none : ControlObjects) (b a : List ℕ) (n : ℕ) (is : FragmentAnswer) → Holding none []
     → (a ≡ cond (eqb function 6) b (splice b 0 (keptAnswer (lastIn p s (lastLengths h)))))
     × (n ≡ cond (eqb function 6) 0 (length (keptAnswer (lastIn p s (lastLengths h)))))
     × (n ≤ answerMax) → fragmentMax ≤ length b → is ≡ cond (eqb function 6) Fs.Silent (Fs.Answer n)
@@ -292,35 +297,36 @@ repeated-in h p s function time none b a n is hands put room said m =
             request = c .request;
             answer = c .answer;
             objects = c .objects;
+            outputs = c .outputs;
           };
     }
 
 -- ---- any other request
 
-module _ (h : Head) (e p s o : List ℕ) (q function time : ℕ) (f e₁ p₁ s₁ o₁ : List ℕ) (r : RequestEffect) (b a₁ a₂ : List ℕ) (n : ℕ) (is : FragmentAnswer)
+module _ (h : Head) (e p s o ws : List ℕ) (q function time : ℕ) (f e₁ p₁ s₁ o₁ : List ℕ) (r : RequestEffect) (b a₁ a₂ : List ℕ) (n : ℕ) (is : FragmentAnswer)
     (k : LastLengths) (h₁ : Head) (left : LeftIn h time (r .restarted) Idle k (latchOf (r .latch)) (r .latch .len) h₁ o₁)
     (keeps : (lastIn p₁ s₁ k ≡ kept f (take n a₂)) × (k .«request_len» ≡ length f) × (k .«answer_len» ≡ length (take n a₂))) (short : length f ≤ fragmentMax)
     (small : length (take n a₂) ≤ answerMax) (room : fragmentMax ≤ length b) (said : is ≡ cond (eqb function 6) Fs.Silent (Fs.Answer n)) where
   -- the rest of what is known, by the status and the part of the state that the code has
   abbrev OtherBy : BufferStatus → RequestContext → Type 0
   OtherBy t seen =
-      EffectMeetsWith r b a₁ (λ u. effectBy (contextView seen u) q function time (objectsOf f)) → bufferViewIn e₁ t ≡ cleared (bufferViewIn e t)
+      EffectMeetsWith r b a₁ (λ u. effectBy (contextView seen ws u) q function time (objectsOf f)) → bufferViewIn e₁ t ≡ cleared (bufferViewIn e t)
       → (a₂ ≡ cond (eqb function 6) a₁ (splice a₁ 0 (responseOf q (r .con) (indicationsOf (bufferViewIn e₁ t) (r .restarted)) (r .fault))))
       × (n ≡ cond (eqb function 6) 0 (r .size))
-      → OtherHolds h (λ x y. memoryOf x y e p s o) q function time f (record { head = h₁; answer = is; operated = r .operated })
-      (λ x y. memoryOf x y e₁ p₁ s₁ o₁) b a₂
+      → OtherHolds h (λ x y. memoryOf x y e p s o ws) q function time f (record { head = h₁; answer = is; operated = r .operated })
+      (λ x y. memoryOf x y e₁ p₁ s₁ o₁ ws) b a₂
 
   of-seen : OtherBy (bufferStatus h) (contextIn h o)
   of-seen all clears put x y =
-      let w : OutstationView = viewOf h (memoryOf x y e p s o) in
+      let w : OutstationView = viewOf h (memoryOf x y e p s o ws) in
       let worked : EffectMeets r b a₁ (effectBy w q function time (objectsOf f)) = all (bufferViewIn e (bufferStatus h)) in
       let marked : bufferViewIn e₁ (bufferStatus h) ≡ effectBy w q function time (objectsOf f) .buffer = clears ∙ effect-buffer w q function time (objectsOf f) in
       let idle : Idle ≡ r .wait = sym (worked .wait ∙ effect-idle w q function time (objectsOf f)) in
-      let size : r .size ≤ answerMax = effect-small (contextIn h o) q function time (objectsOf f) r b a₁ all in
+      let size : r .size ≤ answerMax = effect-small (contextIn h o) ws q function time (objectsOf f) r b a₁ all in
       record {
         result =
-            request-any w (viewOf h₁ (memoryOf x y e₁ p₁ s₁ o₁)) q time f r b a₁ _ worked (bufferViewIn e₁ (bufferStatus h)) marked _ (lastIn p₁ s₁ k)
-            (left .view (memoryOf x y e₁ p₁ s₁ o₁))
+            request-any w (viewOf h₁ (memoryOf x y e₁ p₁ s₁ o₁ ws)) q time f r b a₁ _ worked (bufferViewIn e₁ (bufferStatus h)) marked _ (lastIn p₁ s₁ k)
+            (left .view (memoryOf x y e₁ p₁ s₁ o₁ ws))
             (λ i. record { restarted = r .restarted; wait = idle i; last = lastIn p₁ s₁ k; latch = latchOf (r .latch) })
             a₂ n is function (silent-objects w q function time (objectsOf f)) (put .0) (put .1) (omega (arith, size, room)) said (keeps .0);
         counted = λ c. left .counted (omega (arith, short, keeps .1)) (omega (arith, small, keeps .2)) (worked .counted) c;
@@ -363,7 +369,16 @@ leftHead h time restarted kind sequence sent showedOverflow droppedSince k held 
       «request_kept» = held;
       «latch_armed» = armed;
       «latch_sequence» = from;
+      «analog_outputs» = h .«analog_outputs»;
     }
+
+-- a latch in a head: its number says whether it is armed, and for what
+latch-left : (l : Latch) (n : ℕ) → (holds n ≡ l .armed) × (l .armed ≡ true → groupIn n ≡ l .group)
+    → latchOf (record { armed = holds n; group = groupIn n; sequence = l .sequence; time = l .time; objects = l .objects; len = l .len }) ≡ latchOf l
+unfolding latchOf
+latch-left l n e =
+    ap (λ (b : Bool). cond b (selected (groupIn n) (l .sequence .0) (l .time) (take (l .len) (l .objects))) noSelect) (e .0)
+    ∙ by (l .armed) (λ t. rw (t, e .1 t)) (λ t. rw t)
 
 module _ (h : Head) (time : ℕ) (k : LastLengths) (held : ℕ) (keeps : holds held ≡ k .held) where
   last-left : (p s : List ℕ)
@@ -394,10 +409,11 @@ module _ (h : Head) (time : ℕ) (k : LastLengths) (held : ℕ) (keeps : holds h
             };
         counted =
             λ request answer objects c.
-            record { binaries = c .binaries; analogs = c .analogs; events = c .events; request = request; answer = answer; objects = objects };
+            record { binaries = c .binaries; analogs = c .analogs; events = c .events; request = request; answer = answer; objects = objects; outputs = c .outputs };
       }
 
-  pub after-request : (restarted : Bool) (latch : Latch) (again armed : ℕ) → holds again ≡ restarted → holds armed ≡ latch .armed
+  pub after-request : (restarted : Bool) (latch : Latch) (again armed : ℕ) → holds again ≡ restarted
+      → (holds armed ≡ latch .armed) × (latch .armed ≡ true → groupIn armed ≡ latch .group)
       → LeftIn h time restarted Idle k (latchOf latch) (latch .len)
       (leftHead h time again 0 (h .«wait_sequence») (h .«wait_time») (h .«showed_overflow») (h .«dropped_since») k held armed (latch .sequence .0) (latch .time) (latch .len))
       (latch .objects)
@@ -416,15 +432,13 @@ module _ (h : Head) (time : ℕ) (k : LastLengths) (held : ℕ) (keeps : holds h
                           restarted = er i;
                           wait = Idle;
                           last = last-left (m .request) (m .answer) i;
-                          latch =
-                              latchOf
-                              (record { armed = ea i; sequence = latch .sequence; time = latch .time; objects = latch .objects; len = latch .len });
+                          latch = latch-left latch armed ea i;
                         };
                   };
             };
         counted =
             λ request answer objects c.
-            record { binaries = c .binaries; analogs = c .analogs; events = c .events; request = request; answer = answer; objects = objects };
+            record { binaries = c .binaries; analogs = c .analogs; events = c .events; request = request; answer = answer; objects = objects; outputs = c .outputs };
       }
 
 -- ---- the step of a CONFIRM, by what it comes to

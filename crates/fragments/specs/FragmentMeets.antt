@@ -15,8 +15,8 @@ use Rattle.application.specs.Fragment.{objectsOf}
 use Rattle.application.specs.Response.{isFaultless}
 use Rattle.read_headers.specs.Parse.{Parsed, headers, fault}
 use Rattle.static_objects.specs.Static.{askedOf}
-use Rattle.control.specs.declared.Crob.{Crob}
-use Rattle.control.specs.declared.Crobs.{Crobs}
+use Rattle.control.specs.declared.ControlObject.{ControlObject}
+use Rattle.control.specs.declared.ControlObjects.{ControlObjects}
 use Rattle.control.specs.Objects.{echoMax, answerMax, listOf, Holding}
 use Rattle.select_latch.specs.Select.{LatchView, noSelect}
 use Rattle.last_request.specs.Repeat.{isRepeat, lastIn}
@@ -26,7 +26,7 @@ use Rattle.event_store.specs.EventWords.{bufferViewIn}
 use Rattle.outstation.specs.declared.Head.{Head}
 use Rattle.outstation.specs.declared.Wait.{Wait}
 use Rattle.outstation.specs.OutstationView.{OutstationView, SessionView, withClock, withInputs, withBuffer, withSession, withShared, withMaster}
-use Rattle.outstation.specs.Lent.{Lent, Outstation, outstationView, HeadCountsWithin, CountsWithin, bufferStatus, waitOf, viewOf}
+use Rattle.outstation.specs.Lent.{Lent, Outstation, outstationView, HeadCountsWithin, CountsWithin, bufferStatus, outputCounts, groupIn, waitOf, viewOf}
 use Rattle.outstation.specs.Step.{Answer, took, answers, silent, accepts, refuses, handed, outputAfter, Result, fragment, step, readEffect, plainEffect, readStep, repeatStep, requestStep, effectBy, confirmStep, confirmedStep}
 use Rattle.outstation.specs.Step as S
 use Rattle.effects.specs.declared.RequestContext.{RequestContext}
@@ -44,7 +44,7 @@ fragmentRefusalNumber R.NotConfirmed = 32
 fragmentRefusalNumber R.OutputTooSmall = 33
 
 -- what each answer means; d the lent bytes after the call
-abbrev pub answerBy : FragmentAnswer → List ℕ → List Crob → Answer
+abbrev pub answerBy : FragmentAnswer → List ℕ → List ControlObject → Answer
 answerBy (Fs.Answer n) d operated = answers (take n d) operated
 answerBy Fs.Silent d operated = silent operated
 answerBy Fs.Confirmed d operated = accepts
@@ -54,7 +54,7 @@ answerBy (Fs.Refused why) d operated = refuses (fragmentRefusalNumber why)
 pub record Answered : Type 0 where
   pub state : Outstation
   pub answer : FragmentAnswer
-  pub operated : Crobs
+  pub operated : ControlObjects
 
 abbrev pub fragmentAnswer : Answered → List ℕ → Answer
 fragmentAnswer r d = answerBy (r .answer) d (listOf (r .operated))
@@ -75,7 +75,7 @@ sizeIn (refuses n) = 0
 
 -- the answer a with these objects, of a call that left the state s and had these lent bytes before and after, is this step's: state, answer,
 -- its length, objects handed to the host, each lent byte
-pub record AnsweredAs (s : OutstationView) (a : FragmentAnswer) (operated : Crobs) (before after : List ℕ) (x : Result) : Type 0 where
+pub record AnsweredAs (s : OutstationView) (a : FragmentAnswer) (operated : ControlObjects) (before after : List ℕ) (x : Result) : Type 0 where
   pub state : s ≡ x .state
   pub answer : answerBy a after (listOf operated) ≡ x .answer
   pub size : sizeBy a ≡ sizeIn (x .answer)
@@ -132,7 +132,7 @@ requestBy w q function time f =
 
 abbrev pub withHeld : List ℕ → Lent → Lent
 withHeld e m =
-    record { binaries = m .binaries; analogs = m .analogs; held = e; request = m .request; answer = m .answer; objects = m .objects }
+    record { binaries = m .binaries; analogs = m .analogs; held = e; request = m .request; answer = m .answer; objects = m .objects; outputs = m .outputs }
 
 abbrev pub ConfirmedHolds : Head → List ℕ → (time : ℕ) (showedOverflow droppedSince : Bool) → FragmentResult → List ℕ → Type 0
 ConfirmedHolds h e time showedOverflow droppedSince r e₁ =
@@ -151,12 +151,12 @@ RequestHolds h m q function time f r m₁ before after = PartMeets h r m₁ befo
 abbrev pub conBy : Fault → (carried overflow : Bool) → Bool
 conBy f carried overflow = isFaultless f && (carried || overflow)
 
--- of a READ, whatever the latch's bytes
-abbrev pub ReadHolds : Head → (List ℕ → Lent) → (q time : ℕ) (f : List ℕ) → FragmentResult → (List ℕ → Lent) → (before after : List ℕ) → Type 0
+-- of a READ, whatever the latch's bytes and the analog outputs' words
+abbrev pub ReadHolds : Head → (List ℕ → List ℕ → Lent) → (q time : ℕ) (f : List ℕ) → FragmentResult → (List ℕ → List ℕ → Lent) → (before after : List ℕ) → Type 0
 ReadHolds h m q time f r m₁ before after =
-    (o : List ℕ)
-    → PartMeets h r (m₁ o) before after
-    (readStep (viewOf h (m o)) q time f (readEffectBy (viewOf h (m o)) q time (askedOf (viewOf h (m o) .shared .inputs) (objectsOf f))))
+    (o u : List ℕ)
+    → PartMeets h r (m₁ o u) before after
+    (readStep (viewOf h (m o u)) q time f (readEffectBy (viewOf h (m o u)) q time (askedOf (viewOf h (m o u) .shared .inputs) (objectsOf f))))
 
 -- whether there is a last request, and its lengths
 abbrev pub lastLengths : Head → LastLengths
@@ -164,7 +164,7 @@ lastLengths h = record { held = holds (h .«request_kept»); «request_len» = h
 
 abbrev pub withLast : (request answer : List ℕ) → Lent → Lent
 withLast request answer m =
-    record { binaries = m .binaries; analogs = m .analogs; held = m .held; request = request; answer = answer; objects = m .objects }
+    record { binaries = m .binaries; analogs = m .analogs; held = m .held; request = request; answer = answer; objects = m .objects; outputs = m .outputs }
 
 -- of a repeat, whatever else is lent
 abbrev pub RepeatHolds : Head → (request answer : List ℕ) → (function time : ℕ) → FragmentResult → (before after : List ℕ) → Type 0
@@ -184,12 +184,13 @@ OtherHolds h m q function time f r m₁ before after =
 abbrev pub contextIn : Head → List ℕ → RequestContext
 contextIn h objects =
     record {
-      outputs = h .outputs;
+      outputs = outputCounts h;
       «arm_time» = h .«arm_time»;
       restarted = holds (h .restarted);
       latch =
           record {
             armed = holds (h .«latch_armed»);
+            group = groupIn (h .«latch_armed»);
             sequence = record { 0 = h .«latch_sequence» };
             time = h .«latch_time»;
             objects = objects;
@@ -202,7 +203,7 @@ contextIn h objects =
 
 abbrev pub withObjects : List ℕ → Lent → Lent
 withObjects o m =
-    record { binaries = m .binaries; analogs = m .analogs; held = m .held; request = m .request; answer = m .answer; objects = o }
+    record { binaries = m .binaries; analogs = m .analogs; held = m .held; request = m .request; answer = m .answer; objects = o; outputs = m .outputs }
 
 pub record LeftIn (h : Head) (time : ℕ) (restarted : Bool) (wait : Wait) (k : LastLengths) (l : LatchView) (n : ℕ) (r : Head) (o : List ℕ) : Type 0 where
   pub view : (m : Lent)

@@ -1,6 +1,6 @@
 // A fragment on a head by value and lent memory: refused, a CONFIRM, a READ, a repeat, or another request.
 ghost use mathlib.Core.Path.{_≡_};
-ghost use mathlib.Core.Bool.{cond, false};
+ghost use mathlib.Core.Bool.{cond, true, false};
 ghost use mathlib.Core.List.{[]};
 ghost use Prim.Native.Nat.{_≤_};
 ghost use lib.Dec.{eqb};
@@ -11,6 +11,7 @@ ghost use Rattle.application.specs.Response.{responseOf};
 ghost use Rattle.control.specs.Objects.{Holding, answerMax};
 ghost use Rattle.select_latch.specs.Select.{latchOf};
 ghost use Rattle.last_request.specs.Repeat.{keptAnswer, lastIn};
+ghost use Rattle.outstation.specs.Lent.{groupIn};
 ghost use Rattle.outstation.specs.Step.{indicationsOf};
 ghost use Rattle.event_store.specs.EventWords.{bufferViewIn};
 ghost use Rattle.words.specs.Numbers.{holds};
@@ -29,14 +30,16 @@ ghost use Rattle.fragments.specs.FragmentMeets.{
   LeftIn,
   ReadLeft,
 };
+use analog_outputs::ANALOG_OUTPUT_WORDS;
 use application::ApplicationSequence;
 use application::FRAGMENT_MAX;
 use application::Fault;
 use application::Fragment;
 use application::Indications;
 use control::ANSWER_MAX;
-use control::Crobs;
+use control::ControlObjects;
 use control::ECHO_MAX;
+use control::OutputCounts;
 use effects::Confirmation;
 use effects::RequestContext;
 use effects::RequestEffect;
@@ -48,6 +51,7 @@ use outstation::Wait;
 use point_store::ANALOG_WORDS;
 use point_store::BINARY_WORDS;
 use point_store::Installed;
+use select_latch::ControlGroup;
 use select_latch::Latch;
 
 // Why a fragment is refused.
@@ -77,7 +81,7 @@ pub enum FragmentAnswer {
 pub struct FragmentResult {
     pub head: Head,
     pub answer: FragmentAnswer,
-    pub operated: Crobs,
+    pub operated: ControlObjects,
 }
 
 // What an answer says beside its objects and the indications of the state.
@@ -235,9 +239,9 @@ fn answer_read(
     out: &mut [u8],
 ) -> FragmentResult
     requires { ⌜ (2 ≤ length (now f)) × (length (now f) ≤ fragmentMax) × (fragmentMax ≤ length (now out)) ⌝ }
-    ensures { λ r. ⌜ ReadHolds h (λ o. record { binaries = now (binaries .entry); analogs = now (analogs .entry); held = now (held .entry); request = now (request .entry); answer = now (answer .entry); objects = o })
+    ensures { λ r. ⌜ ReadHolds h (λ o u. record { binaries = now (binaries .entry); analogs = now (analogs .entry); held = now (held .entry); request = now (request .entry); answer = now (answer .entry); objects = o; outputs = u })
         (q .0) time (now (f .entry)) r
-        (λ o. record { binaries = now (binaries .entry); analogs = now (analogs .entry); held = now (held .exit); request = now (request .exit); answer = now (answer .exit); objects = o })
+        (λ o u. record { binaries = now (binaries .entry); analogs = now (analogs .entry); held = now (held .exit); request = now (request .exit); answer = now (answer .exit); objects = o; outputs = u })
         (now (out .entry)) (now (out .exit)) ⌝ }
 {
     let n = Installed {
@@ -331,20 +335,50 @@ fn repeat_request(
 
 // ---- any other request
 
+// What the latch is armed for, by the head's number.
+fn group_in(n: u8) -> ControlGroup
+    ensures { λ r. ⌜ r ≡ groupIn n ⌝ }
+{
+    if n == 1 {
+        ControlGroup::Crob
+    } else {
+        ControlGroup::AnalogOutput
+    }
+}
+
+// The number of a latch that is armed for this group, or is not armed.
+fn latch_byte(armed: bool, group: ControlGroup) -> u8
+    ensures { λ r. ⌜ (holds r ≡ armed) × (armed ≡ true → groupIn r ≡ group) ⌝ }
+{
+    if !armed {
+        return 0;
+    }
+    match group {
+        ControlGroup::Crob => 1,
+        ControlGroup::AnalogOutput => 2,
+    }
+}
+
 // What it sees of the state: the latch is loaded by value.
 fn context_of(h: Head, objects: &[u8; ECHO_MAX]) -> RequestContext
     ensures { λ r. ⌜ r ≡ contextIn h (now (objects .entry)) ⌝ }
 {
     let bytes = *objects;
+    let group = group_in(h.latch_armed);
     let latch = Latch {
         armed: outstation::truth(h.latch_armed),
+        group: group,
         sequence: ApplicationSequence(h.latch_sequence),
         time: h.latch_time,
         objects: bytes,
         len: h.latch_len,
     };
+    let counts = OutputCounts {
+        relays: h.outputs,
+        analog: h.analog_outputs,
+    };
     RequestContext {
-        outputs: h.outputs,
+        outputs: counts,
         arm_time: h.arm_time,
         restarted: outstation::truth(h.restarted),
         latch: latch,
@@ -390,6 +424,7 @@ fn after_request(
     ensures { λ r. ⌜ LeftIn h time restarted Wait.Idle k (latchOf latch) (latch .len) r (now (objects .exit)) ⌝ }
 {
     let bytes = latch.objects;
+    let group = latch.group;
     *objects = bytes;
     let mut next = h;
     next.clock = time;
@@ -398,7 +433,7 @@ fn after_request(
     next.request_kept = outstation::truth_byte(k.held);
     next.request_len = k.request_len;
     next.answer_len = k.answer_len;
-    next.latch_armed = outstation::truth_byte(latch.armed);
+    next.latch_armed = latch_byte(latch.armed, group);
     next.latch_sequence = latch.sequence.0;
     next.latch_time = latch.time;
     next.latch_len = latch.len;
@@ -412,6 +447,7 @@ fn answer_request(
     request: &mut [u8; FRAGMENT_MAX],
     answer: &mut [u8; ANSWER_MAX],
     objects: &mut [u8; ECHO_MAX],
+    outputs: &[u32; ANALOG_OUTPUT_WORDS],
     q: ApplicationSequence,
     function: u8,
     time: u64,
@@ -419,13 +455,13 @@ fn answer_request(
     out: &mut [u8],
 ) -> FragmentResult
     requires { ⌜ (2 ≤ length (now f)) × (length (now f) ≤ fragmentMax) × (fragmentMax ≤ length (now out)) ⌝ }
-    ensures { λ r. ⌜ OtherHolds h (λ b a. record { binaries = b; analogs = a; held = now (held .entry); request = now (request .entry); answer = now (answer .entry); objects = now (objects .entry) })
+    ensures { λ r. ⌜ OtherHolds h (λ b a. record { binaries = b; analogs = a; held = now (held .entry); request = now (request .entry); answer = now (answer .entry); objects = now (objects .entry); outputs = now (outputs .entry) })
         (q .0) function time (now (f .entry)) r
-        (λ b a. record { binaries = b; analogs = a; held = now (held .exit); request = now (request .exit); answer = now (answer .exit); objects = now (objects .exit) })
+        (λ b a. record { binaries = b; analogs = a; held = now (held .exit); request = now (request .exit); answer = now (answer .exit); objects = now (objects .exit); outputs = now (outputs .entry) })
         (now (out .entry)) (now (out .exit)) ⌝ }
 {
     let seen = context_of(h, objects);
-    let d = effects::effect_by(seen, q, function, time, &f[2..], out);
+    let d = effects::effect_by(seen, outputs, q, function, time, &f[2..], out);
     let operated = d.operated;
     let t = outstation::buffer_status(h);
     event_store::clear(held, t);
@@ -452,6 +488,7 @@ fn take_request(
     request: &mut [u8; FRAGMENT_MAX],
     answer: &mut [u8; ANSWER_MAX],
     objects: &mut [u8; ECHO_MAX],
+    outputs: &[u32; ANALOG_OUTPUT_WORDS],
     q: ApplicationSequence,
     function: u8,
     time: u64,
@@ -459,9 +496,9 @@ fn take_request(
     out: &mut [u8],
 ) -> FragmentResult
     requires { ⌜ (2 ≤ length (now f)) × (length (now f) ≤ fragmentMax) × (fragmentMax ≤ length (now out)) ⌝ }
-    ensures { λ r. ⌜ RequestHolds h (record { binaries = now (binaries .entry); analogs = now (analogs .entry); held = now (held .entry); request = now (request .entry); answer = now (answer .entry); objects = now (objects .entry) })
+    ensures { λ r. ⌜ RequestHolds h (record { binaries = now (binaries .entry); analogs = now (analogs .entry); held = now (held .entry); request = now (request .entry); answer = now (answer .entry); objects = now (objects .entry); outputs = now (outputs .entry) })
         (q .0) function time (now (f .entry)) r
-        (record { binaries = now (binaries .entry); analogs = now (analogs .entry); held = now (held .exit); request = now (request .exit); answer = now (answer .exit); objects = now (objects .exit) })
+        (record { binaries = now (binaries .entry); analogs = now (analogs .entry); held = now (held .exit); request = now (request .exit); answer = now (answer .exit); objects = now (objects .exit); outputs = now (outputs .entry) })
         (now (out .entry)) (now (out .exit)) ⌝ }
 {
     if function == 1 {
@@ -470,7 +507,19 @@ fn take_request(
     if last_request::is_repeat(request, answer, last_of(h), f) {
         return repeat_request(h, request, answer, function, time, out);
     }
-    answer_request(h, held, request, answer, objects, q, function, time, f, out)
+    answer_request(
+        h,
+        held,
+        request,
+        answer,
+        objects,
+        outputs,
+        q,
+        function,
+        time,
+        f,
+        out,
+    )
 }
 
 // A fragment from the master, and the lent output for its answer.
@@ -482,13 +531,14 @@ pub fn fragment(
     request: &mut [u8; FRAGMENT_MAX],
     answer: &mut [u8; ANSWER_MAX],
     objects: &mut [u8; ECHO_MAX],
+    outputs: &[u32; ANALOG_OUTPUT_WORDS],
     time: u64,
     f: &[u8],
     out: &mut [u8],
 ) -> FragmentResult
-    ensures { λ r. ⌜ FragmentHolds h (record { binaries = now (binaries .entry); analogs = now (analogs .entry); held = now (held .entry); request = now (request .entry); answer = now (answer .entry); objects = now (objects .entry) })
+    ensures { λ r. ⌜ FragmentHolds h (record { binaries = now (binaries .entry); analogs = now (analogs .entry); held = now (held .entry); request = now (request .entry); answer = now (answer .entry); objects = now (objects .entry); outputs = now (outputs .entry) })
         time (now (f .entry)) r
-        (record { binaries = now (binaries .entry); analogs = now (analogs .entry); held = now (held .exit); request = now (request .exit); answer = now (answer .exit); objects = now (objects .exit) })
+        (record { binaries = now (binaries .entry); analogs = now (analogs .entry); held = now (held .exit); request = now (request .exit); answer = now (answer .exit); objects = now (objects .exit); outputs = now (outputs .entry) })
         (now (out .entry)) (now (out .exit)) ⌝ }
 {
     if outstation::bad_time(h.clock, time) {
@@ -512,6 +562,7 @@ pub fn fragment(
             request,
             answer,
             objects,
+            outputs,
             sequence,
             function,
             time,

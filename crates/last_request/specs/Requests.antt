@@ -6,7 +6,8 @@ use mathlib.Core.List.{List, [], _∷_, _++_}
 use lib.Dec.{eqb}
 use Rattle.laws.specs.First.{first, _⇒_}
 use Rattle.application.specs.Fragment.{controlOf, sequenceOf, functionOf, objectsOf}
-use Rattle.control.specs.declared.Crob.{Crob}
+use Rattle.control.specs.declared.ControlObject.{ControlObject}
+use Rattle.control.specs.Status.{Outputs}
 use Rattle.select_latch.specs.declared.ControlFunction.{ControlFunction}
 use Rattle.select_latch.specs.declared.ControlFunction.the-variants.{Select, Operate, DirectOperate, DirectOperateNoResponse}
 use Rattle.select_latch.specs.Select.{LatchView, noSelect, controlEffect}
@@ -35,7 +36,7 @@ InOrder (r ∷ s ∷ h) = (s .time ≤ r .time) × InOrder (s ∷ h)
 
 -- what a request hands to the host, and the latch after it
 pub record Acted : Type 0 where
-  pub carried : List Crob
+  pub carried : List ControlObject
   pub latch : LatchView
 
 -- what is kept between requests
@@ -43,8 +44,8 @@ pub record Remembered : Type 0 where
   pub last : LastRequestView
   pub latch : LatchView
 
--- with so many outputs and this arm time
-module _ (outputs arm : ℕ) where
+-- with these outputs and this arm time
+module _ (outputs : Outputs) (arm : ℕ) where
   abbrev pub controls : ControlFunction → LatchView → Request → Acted
   controls f l r =
       record {
@@ -78,7 +79,7 @@ module _ (outputs arm : ℕ) where
   repeated h r = isRepeat (rememberedAfter h .last) (r .bytes)
 
   -- what it hands to the host: of a repeat nothing
-  abbrev pub handsOver : List Request → Request → List Crob
+  abbrev pub handsOver : List Request → Request → List ControlObject
   handsOver h r = cond (repeated h r) [] (acted (rememberedAfter h .latch) r .carried)
 
   -- what it is answered: of a repeat the same answer again
@@ -86,7 +87,7 @@ module _ (outputs arm : ℕ) where
   answered h r = cond (repeated h r) (keptAnswer (rememberedAfter h .last)) (r .answer)
 
   -- all that a history has handed to the host, in the order asked
-  unfoldable pub outcome : List Request → List Crob
+  unfoldable pub outcome : List Request → List ControlObject
   outcome [] = []
   outcome (r ∷ h) = outcome h ++ handsOver h r
 

@@ -12,13 +12,15 @@ use Rattle.laws.specs.Limits.{pointsMax}
 use Rattle.laws.specs.Lists.{all}
 use Rattle.laws.proofs.AllLaws.{refuted}
 use Rattle.points.specs.Setup.{classOk, analogOk}
-use Rattle.outstation.specs.Setup.{Setup, binaryClasses, analogSetups, setupOk}
+use Rattle.analog_outputs.specs.Output.{outputOk}
+use Rattle.outstation.specs.Setup.{Setup, binaryClasses, analogSetups, analogOutputs, setupOk}
 
 -- the limits that are tests of numbers
 pub record Bounds (u : Setup) : Type 0 where
   pub binaries : u .«binary_count» ≤ pointsMax
   pub analogs : u .«analog_count» ≤ pointsMax
   pub outputs : u .outputs ≤ 16
+  pub analogOutputs : u .«analog_output_count» ≤ 16
   pub own : u .own ≤ 65519
   pub master : u .master ≤ 65519
   pub differ : u .own ≡ u .master → ⊥
@@ -42,7 +44,8 @@ bounds u h =
     let a = first (leb (u .«binary_count») pointsMax) _ h in
     let b = first (leb (u .«analog_count») pointsMax) _ (a .1) in
     let d = first (leb (u .outputs) 16) _ (b .1) in
-    let e = first (leb (u .own) 65519) _ (d .1) in
+    let l = first (leb (u .«analog_output_count») 16) _ (d .1) in
+    let e = first (leb (u .own) 65519) _ (l .1) in
     let f = first (leb (u .master) 65519) _ (e .1) in
     let g = first (not (eqb (u .own) (u .master))) _ (f .1) in
     let i = first (leb (u .«arm_time») 64000) _ (g .1) in
@@ -52,6 +55,7 @@ bounds u h =
       binaries = leb-true _ _ (a .0);
       analogs = leb-true _ _ (b .0);
       outputs = leb-true _ _ (d .0);
+      analogOutputs = leb-true _ _ (l .0);
       own = leb-true _ _ (e .0);
       master = leb-true _ _ (f .0);
       differ = unlike _ _ (g .0);
@@ -66,13 +70,14 @@ broken u h = sym (refuted (setupOk u) (λ e. h (bounds u e)))
 
 -- a setup that keeps them is as good as its inputs
 module _ (u : Setup) (b : Bounds u) where
-  kept : setupOk u ≡ (all (map classOk (binaryClasses u)) && (all (map analogOk (analogSetups u)) && true))
+  kept : setupOk u ≡ (all (map classOk (binaryClasses u)) && (all (map analogOk (analogSetups u)) && (all (map outputOk (analogOutputs u)) && true)))
   unfolding setupOk
   kept =
       rw (
         le-leb _ _ (b .binaries),
         le-leb _ _ (b .analogs),
         le-leb _ _ (b .outputs),
+        le-leb _ _ (b .analogOutputs),
         le-leb _ _ (b .own),
         le-leb _ _ (b .master),
         ne-eqb _ _ (b .differ),
@@ -81,10 +86,7 @@ module _ (u : Setup) (b : Bounds u) where
         le-leb _ _ (b .confirm),
       )
 
-  and-true : (t : Bool) → t ≡ (t && true)
-  and-true true = refl
-  and-true false = refl
-
-  pub good-classes : (t : Bool) → all (map classOk (take (u .«binary_count») (u .classes))) ≡ true → t ≡ all (map analogOk (take (u .«analog_count») (u .analogs))) → t ≡ setupOk u
-  unfolding binaryClasses analogSetups
-  good-classes t h e = rw (kept, h) (e ∙ and-true _)
+  pub good-setup : all (map classOk (take (u .«binary_count») (u .classes))) ≡ true → all (map analogOk (take (u .«analog_count») (u .analogs))) ≡ true
+      → all (map outputOk (take (u .«analog_output_count») (u .«analog_outputs»))) ≡ true → true ≡ setupOk u
+  unfolding binaryClasses analogSetups analogOutputs
+  good-setup h e o = rw (kept, h, e, o)

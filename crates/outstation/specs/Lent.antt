@@ -5,8 +5,13 @@ use mathlib.Core.Bool.{cond}
 use mathlib.Core.List.{List}
 use lib.Dec.{eqb}
 use Rattle.laws.specs.Limits.{pointsMax, eventsMax, fragmentMax}
+use Rattle.analog_outputs.specs.Output.{analogOutputsMax}
+use Rattle.control.specs.declared.OutputCounts.{OutputCounts}
 use Rattle.control.specs.Objects.{echoMax, answerMax}
+use Rattle.control.specs.Status.{outputsOf}
 use Rattle.points.specs.PointsView.{PointsView}
+use Rattle.select_latch.specs.declared.ControlGroup.{ControlGroup}
+use Rattle.select_latch.specs.declared.ControlGroup.the-variants as G
 use Rattle.select_latch.specs.Select.{latchOf}
 use Rattle.last_request.specs.Repeat.{lastIn}
 use Rattle.words.specs.Numbers.{holds}
@@ -19,7 +24,8 @@ use Rattle.outstation.specs.declared.Wait.the-variants.{Idle, Awaiting}
 use Rattle.outstation.specs.declared.Head.{Head}
 use Rattle.outstation.specs.OutstationView.{SessionView, OutstationView}
 
--- what is lent: the points' words, the held events' words, the last request, its answer, the object bytes of the select latch
+-- what is lent: the points' words, the held events' words, the last request, its answer, the object bytes of the select latch, the analog
+-- outputs' words
 pub record Lent : Type 0 where
   pub binaries : List ℕ
   pub analogs : List ℕ
@@ -27,6 +33,7 @@ pub record Lent : Type 0 where
   pub request : List ℕ
   pub answer : List ℕ
   pub objects : List ℕ
+  pub outputs : List ℕ
 
 -- ---- the parts
 
@@ -35,6 +42,14 @@ installedOf h = record { binaries = h .«binary_count»; analogs = h .«analog_c
 
 abbrev pub bufferStatus : Head → BufferStatus
 bufferStatus h = record { count = h .«event_count»; overflow = holds (h .overflow) }
+
+-- how many outputs of each kind are installed
+abbrev pub outputCounts : Head → OutputCounts
+outputCounts h = record { relays = h .outputs; analog = h .«analog_outputs» }
+
+-- 1: armed for relays; any other number but 0: for analog outputs
+abbrev pub groupIn : ℕ → ControlGroup
+groupIn n = cond (eqb n 1) G.Crob G.AnalogOutput
 
 -- kind 0: nothing is awaited
 unfoldable pub waitOf : Head → Wait
@@ -53,6 +68,7 @@ sessionIn h m =
           latchOf
           (record {
             armed = holds (h .«latch_armed»);
+            group = groupIn (h .«latch_armed»);
             sequence = record { 0 = h .«latch_sequence» };
             time = h .«latch_time»;
             objects = m .objects;
@@ -66,7 +82,13 @@ abbrev pub viewWith : Head → PointsView → Lent → OutstationView
 viewWith h i m =
     record {
       shared =
-          record { armTime = h .«arm_time»; confirmTime = h .«confirm_time»; outputs = h .outputs; clock = h .clock; inputs = i };
+          record {
+            armTime = h .«arm_time»;
+            confirmTime = h .«confirm_time»;
+            outputs = outputsOf (outputCounts h) (m .outputs);
+            clock = h .clock;
+            inputs = i;
+          };
       master = record { buffer = bufferViewIn (m .held) (bufferStatus h); session = sessionIn h m };
     }
 
@@ -92,6 +114,7 @@ pub record HeadCountsWithin (h : Head) : Type 0 where
   pub request : h .«request_len» ≤ fragmentMax
   pub answer : h .«answer_len» ≤ answerMax
   pub objects : h .«latch_len» ≤ echoMax
+  pub outputs : h .«analog_outputs» ≤ analogOutputsMax
 
 abbrev pub CountsWithin : Outstation → Type 0
 CountsWithin o = HeadCountsWithin (o .head)
@@ -112,7 +135,13 @@ withWords w m =
       request = m .request;
       answer = m .answer;
       objects = m .objects;
+      outputs = m .outputs;
     }
+
+-- with other analog outputs' words
+abbrev pub withOutputs : List ℕ → Lent → Lent
+withOutputs os m =
+    record { binaries = m .binaries; analogs = m .analogs; held = m .held; request = m .request; answer = m .answer; objects = m .objects; outputs = os }
 
 -- an outstation with these words, m all else that is lent
 abbrev pub on : Head → Words → Lent → Outstation

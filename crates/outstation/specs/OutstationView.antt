@@ -14,13 +14,16 @@ use Rattle.select_latch.specs.Select.{LatchView, noSelect}
 use Rattle.last_request.specs.Repeat.{LastRequestView, nothing}
 use Rattle.outstation.specs.declared.Wait.{Wait}
 use Rattle.outstation.specs.declared.Wait.the-variants.{Idle}
-use Rattle.outstation.specs.Setup.{Setup, binaryClasses, analogSetups}
+use Rattle.analog_outputs.specs.Output.{analogOutputsMax}
+use Rattle.analog_outputs.specs.OutputWords.{noOutput}
+use Rattle.control.specs.Status.{Outputs}
+use Rattle.outstation.specs.Setup.{Setup, binaryClasses, analogSetups, outputsSetUp}
 
--- what all masters share: the times that are set up, the number of outputs, the clock and the points
+-- what all masters share: the times that are set up, the outputs, the clock and the points
 pub record SharedView : Type 0 where
   pub armTime : ℕ
   pub confirmTime : ℕ
-  pub outputs : ℕ
+  pub outputs : Outputs
   pub clock : ℕ
   pub inputs : PointsView
 
@@ -74,7 +77,7 @@ restarted u =
           record {
             armTime = u .«arm_time»;
             confirmTime = u .«confirm_time»;
-            outputs = u .outputs;
+            outputs = outputsSetUp u;
             clock = 0;
             inputs = record { binaries = map freshBinary (binaryClasses u); analogs = map freshAnalog (analogSetups u) };
           };
@@ -94,4 +97,6 @@ bareSetup =
       «analog_count» = 0;
       classes = replicate pointsMax 0;
       analogs = replicate pointsMax (record { class = 0; kind = Ks.Int32 W.Never });
+      «analog_output_count» = 0;
+      «analog_outputs» = replicate analogOutputsMax noOutput;
     }

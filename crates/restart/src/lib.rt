@@ -1,5 +1,5 @@
-// Restart (document 01, "The cubicle's equipment"), step by step: a setup in numbers is tested while its fresh points go into the lent words;
-// the head then says that nothing is held, awaited, kept or selected. Whoever has the setup walks its analogs: the exported call a lent slice,
+// Restart (document 01, "The cubicle's equipment"), step by step: a setup in numbers is tested while its fresh points and its analog outputs go
+// into the lent words; the head then says that nothing is held, awaited, kept or selected. Whoever has the setup walks its analogs: the exported call a lent slice,
 // a program in Rattle an array of its own.
 ghost use mathlib.Core.Path.{_≡_};
 ghost use mathlib.Core.Bool.{true};
@@ -9,9 +9,14 @@ ghost use lib.ListN.{length, take, set};
 ghost use Rattle.laws.specs.Lists.{all};
 ghost use Rattle.laws.specs.Limits.{pointsMax};
 ghost use Rattle.points.specs.Setup.{classOk, analogOk, freshBinary, freshAnalog};
+ghost use Rattle.analog_outputs.specs.Output.{analogOutputsMax, outputOk};
+ghost use Rattle.analog_outputs.specs.OutputWords.{outputsIn};
 ghost use Rattle.outstation.specs.Setup.{setupOk};
 ghost use Rattle.point_store.specs.PointWords.{binariesIn, analogsIn};
-ghost use Rattle.restart.specs.Restart.{analogSetupOf, setupWith, frontOk, beginRestart, analogsLeft, addAnalog, finishRestart};
+ghost use Rattle.restart.specs.Restart.{analogSetupOf, outputsGiven, setupWith, frontOk, Fresh, beginRestart, analogsLeft, addAnalog, finishRestart};
+use analog_outputs::ANALOG_OUTPUTS_MAX;
+use analog_outputs::ANALOG_OUTPUT_WORDS;
+use analog_outputs::AnalogOutputWords;
 use outstation::Head;
 use point_store::ANALOG_WORDS;
 use point_store::BINARY_WORDS;
@@ -29,7 +34,7 @@ pub const ARM_TIME_MAX: u32 = 64000;
 
 pub const CONFIRM_TIME_MAX: u32 = 60000;
 
-// What is set up beside the points.
+// What is set up beside the inputs. Of the analog outputs the first `analog_output_count` count.
 #[repr(C)]
 pub struct SetupWords {
     pub arm_time: u32,
@@ -37,6 +42,8 @@ pub struct SetupWords {
     pub own: u16,
     pub master: u16,
     pub outputs: u16,
+    pub analog_output_count: u16,
+    pub analog_outputs: [AnalogOutputWords; ANALOG_OUTPUTS_MAX],
 }
 
 // An analog input. Kind 0: a 32-bit point; 1: a 16-bit point; any other: a float point, with a gain and an offset, the bits of floats. Gate 0: never;
@@ -95,7 +102,7 @@ fn analog_setup_of(w: AnalogSetupWords) -> AnalogSetup
 
 // Whether the limits that are tests of numbers are kept, with so many binaries and analogs.
 fn limits_ok(s: SetupWords, binaries: usize, analogs: usize) -> bool
-    ensures { λ r. ⌜ r ≡ setupOk (setupWith s binaries [] analogs []) ⌝ }
+    ensures { λ r. ⌜ r ≡ setupOk (setupWith s binaries [] analogs [] []) ⌝ }
 {
     if POINTS_MAX < binaries {
         return false;
@@ -104,6 +111,9 @@ fn limits_ok(s: SetupWords, binaries: usize, analogs: usize) -> bool
         return false;
     }
     if OUTPUTS_MAX < s.outputs {
+        return false;
+    }
+    if ANALOG_OUTPUTS_MAX < s.analog_output_count as usize {
         return false;
     }
     if ADDRESS_MAX < s.own {
@@ -146,18 +156,41 @@ fn fresh_binaries(binaries: &mut [u32; BINARY_WORDS], classes: &[u8]) -> bool
     true
 }
 
+// Stores the analog outputs, up to the first whose ends are not allowed.
+fn fresh_outputs(outputs: &mut [u32; ANALOG_OUTPUT_WORDS], s: SetupWords) -> bool
+    requires { ⌜ s .«analog_output_count» ≤ analogOutputsMax ⌝ }
+    ensures { λ r. ⌜ (r ≡ all (map outputOk (take (s .«analog_output_count») (outputsGiven s)))) × (r ≡ true → take (s .«analog_output_count») (outputsIn (now (outputs .exit))) ≡ take (s .«analog_output_count») (outputsGiven s)) ⌝ }
+{
+    let n = s.analog_output_count as usize;
+    let mut i: usize = 0;
+    while i < n {
+        let w = s.analog_outputs[i];
+        let o = analog_outputs::output_of(w.kind as u32, w.low, w.high);
+        if analog_outputs::output_ok(o) {
+            analog_outputs::store_output(outputs, i, w);
+            i += 1;
+        } else {
+            return false;
+        }
+    }
+    true
+}
+
 // All but the analogs.
 pub fn begin_restart(
     s: SetupWords,
     classes: &[u8],
     analogs: usize,
     binaries: &mut [u32; BINARY_WORDS],
+    outputs: &mut [u32; ANALOG_OUTPUT_WORDS],
 ) -> RestartProgress
-    ensures { λ r. ⌜ (r ≡ beginRestart (frontOk s (now (classes .entry)) analogs)) × (frontOk s (now (classes .entry)) analogs ≡ true → take (length (now (classes .entry))) (binariesIn (now (binaries .exit))) ≡ map freshBinary (now (classes .entry))) ⌝ }
+    ensures { λ r. ⌜ (r ≡ beginRestart (frontOk s (now (classes .entry)) analogs)) × Fresh s (now (classes .entry)) analogs (now (binaries .exit)) (now (outputs .exit)) ⌝ }
 {
     if limits_ok(s, classes.len(), analogs) {
         if fresh_binaries(binaries, classes) {
-            return RestartProgress { at: 0, refusal: 0 };
+            if fresh_outputs(outputs, s) {
+                return RestartProgress { at: 0, refusal: 0 };
+            }
         }
     }
     RestartProgress { at: 0, refusal: 5 }
@@ -222,6 +255,7 @@ pub fn finish_restart(s: SetupWords, binaries: usize, g: RestartProgress) -> Res
         request_kept: 0,
         latch_armed: 0,
         latch_sequence: 0,
+        analog_outputs: 0,
     };
     if g.refusal == 0 {
         h.arm_time = s.arm_time as u64;
@@ -229,6 +263,7 @@ pub fn finish_restart(s: SetupWords, binaries: usize, g: RestartProgress) -> Res
         h.binary_count = binaries;
         h.analog_count = g.at;
         h.outputs = s.outputs;
+        h.analog_outputs = s.analog_output_count;
         return Restarted {
             head: h,
             refusal: 0,

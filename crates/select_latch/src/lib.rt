@@ -3,9 +3,11 @@ ghost use mathlib.Core.Path.{_≡_};
 ghost use Prim.Native.Nat.{_≤_, _<_};
 ghost use lib.ListN.{length, take};
 ghost use Rattle.octets.specs.Bytes.{splice};
-ghost use Rattle.control.specs.Objects.{objectsMax, echoMax, answerMax, HasObjects, listOf, Holding};
-ghost use Rattle.control.specs.Status.{echoOf};
+ghost use Rattle.control.specs.Objects.{objectsMax, echoMax, answerMax, valueSize, HasObjects, listOf, Holding};
+ghost use Rattle.control.specs.Status.{outputsOf, echoOf};
 ghost use Rattle.select_latch.specs.Select.{
+  groupOf,
+  sameGroup,
   noSelect,
   selected,
   latchOf,
@@ -20,12 +22,15 @@ ghost use Rattle.select_latch.specs.Select.{
   controlEffect,
   ControlHolds,
 };
+use analog_outputs::ANALOG_OUTPUT_WORDS;
 use application::ApplicationSequence;
 use application::Fault;
-use control::Crobs;
+use control::ControlObjects;
 use control::ECHO_MAX;
 use control::Form;
 use control::OBJECTS_MAX;
+use control::ObjectKind;
+use control::OutputCounts;
 
 // The functions 3 to 6.
 pub enum ControlFunction {
@@ -35,9 +40,16 @@ pub enum ControlFunction {
     DirectOperateNoResponse,
 }
 
-// Empty, or armed with a SELECT's sequence, time and object bytes.
+// What a latch is armed for: relays, group 12, or analog outputs, group 41.
+pub enum ControlGroup {
+    Crob,
+    AnalogOutput,
+}
+
+// Empty, or armed for a group with a SELECT's sequence, time and object bytes.
 pub struct Latch {
     pub armed: bool,
+    pub group: ControlGroup,
     pub sequence: ApplicationSequence,
     pub time: u64,
     pub objects: [u8; ECHO_MAX],
@@ -48,7 +60,7 @@ pub struct Latch {
 pub struct Controlled {
     pub fault: Fault,
     pub len: usize,
-    pub carried: Crobs,
+    pub carried: ControlObjects,
     pub latch: Latch,
 }
 
@@ -57,8 +69,10 @@ pub fn empty() -> Latch
     ensures { λ r. ⌜ (latchOf r ≡ noSelect) × (r .len ≤ echoMax) ⌝ }
 {
     let objects = [0u8; ECHO_MAX];
+    let group = ControlGroup::Crob;
     Latch {
         armed: false,
+        group: group,
         sequence: ApplicationSequence(0),
         time: 0,
         objects: objects,
@@ -66,15 +80,16 @@ pub fn empty() -> Latch
     }
 }
 
-// Armed by a SELECT with these object bytes.
-fn arm(sequence: ApplicationSequence, time: u64, o: &[u8]) -> Latch
+// Armed for a group by a SELECT with these object bytes.
+fn arm(group: ControlGroup, sequence: ApplicationSequence, time: u64, o: &[u8]) -> Latch
     requires { ⌜ length (now o) ≤ echoMax ⌝ }
-    ensures { λ r. ⌜ (latchOf r ≡ selected (sequence .0) time (now (o .entry))) × (r .len ≤ echoMax) ⌝ }
+    ensures { λ r. ⌜ (latchOf r ≡ selected group (sequence .0) time (now (o .entry))) × (r .len ≤ echoMax) ⌝ }
 {
     let mut objects = [0u8; ECHO_MAX];
     octets::copy(&mut objects, 0, o);
     Latch {
         armed: true,
+        group: group,
         sequence: sequence,
         time: time,
         objects: objects,
@@ -82,17 +97,52 @@ fn arm(sequence: ApplicationSequence, time: u64, o: &[u8]) -> Latch
     }
 }
 
+fn group_of(kind: ObjectKind) -> ControlGroup
+    ensures { λ r. ⌜ r ≡ groupOf kind ⌝ }
+{
+    match kind {
+        ObjectKind::Crob => ControlGroup::Crob,
+        ObjectKind::Int32 => ControlGroup::AnalogOutput,
+        ObjectKind::Int16 => ControlGroup::AnalogOutput,
+        ObjectKind::Float32 => ControlGroup::AnalogOutput,
+    }
+}
+
+fn is_crob(g: ControlGroup) -> bool
+    ensures { λ r. ⌜ r ≡ sameGroup ControlGroup.Crob g ⌝ }
+{
+    match g {
+        ControlGroup::Crob => true,
+        ControlGroup::AnalogOutput => false,
+    }
+}
+
+fn same_group(a: ControlGroup, b: ControlGroup) -> bool
+    ensures { λ r. ⌜ r ≡ sameGroup a b ⌝ }
+{
+    let crob = is_crob(b);
+    match a {
+        ControlGroup::Crob => crob,
+        ControlGroup::AnalogOutput => !crob,
+    }
+}
+
 // The status of every object of an OPERATE.
 pub fn operate_status(
     latch: Latch,
     arm_time: u64,
+    group: ControlGroup,
     sequence: ApplicationSequence,
     time: u64,
     o: &[u8],
 ) -> u8
-    ensures { λ r. ⌜ r ≡ operateStatus «arm_time» (latchOf latch) (sequence .0) time (now (o .entry)) ⌝ }
+    ensures { λ r. ⌜ r ≡ operateStatus «arm_time» (latchOf latch) group (sequence .0) time (now (o .entry)) ⌝ }
 {
     if !latch.armed {
+        return 2;
+    }
+    let armed_for = latch.group;
+    if !same_group(armed_for, group) {
         return 2;
     }
     let objects = latch.objects;
@@ -146,19 +196,25 @@ pub fn is_unanswered(f: ControlFunction) -> bool
 }
 
 // The status of each object; s is that of an OPERATE.
-fn statuses_by(f: ControlFunction, cs: Crobs, outputs: u16, s: u8) -> [u8; OBJECTS_MAX]
+fn statuses_by(
+    f: ControlFunction,
+    cs: ControlObjects,
+    counts: OutputCounts,
+    ws: &[u32; ANALOG_OUTPUT_WORDS],
+    s: u8,
+) -> [u8; OBJECTS_MAX]
     requires { ⌜ cs .count ≤ objectsMax ⌝ }
-    ensures { λ r. ⌜ (take (cs .count) r ≡ statusesBy f outputs s (listOf cs)) × (length r ≡ objectsMax) ⌝ }
+    ensures { λ r. ⌜ (take (cs .count) r ≡ statusesBy f (outputsOf counts (now (ws .entry))) s (listOf cs)) × (length r ≡ objectsMax) ⌝ }
 {
     if is_operate(f) {
         [s; OBJECTS_MAX]
     } else {
-        control::statuses(cs, outputs)
+        control::statuses(cs, counts, ws)
     }
 }
 
 // The objects to hand to the host.
-fn carry(f: ControlFunction, cs: Crobs, ss: [u8; OBJECTS_MAX]) -> Crobs
+fn carry(f: ControlFunction, cs: ControlObjects, ss: [u8; OBJECTS_MAX]) -> ControlObjects
     ensures { λ r. ⌜ Holding r (carriedBy f (listOf cs) (take (cs .count) ss)) ⌝ }
 {
     if is_select(f) {
@@ -171,6 +227,7 @@ fn carry(f: ControlFunction, cs: Crobs, ss: [u8; OBJECTS_MAX]) -> Crobs
 // The latch after a request with these statuses.
 fn latch_after(
     f: ControlFunction,
+    group: ControlGroup,
     ss: [u8; OBJECTS_MAX],
     n: usize,
     sequence: ApplicationSequence,
@@ -178,11 +235,11 @@ fn latch_after(
     o: &[u8],
 ) -> Latch
     requires { ⌜ length (now o) ≤ echoMax ⌝ }
-    ensures { λ r. ⌜ (latchOf r ≡ latchBy f (take n ss) (sequence .0) time (now (o .entry))) × (r .len ≤ echoMax) ⌝ }
+    ensures { λ r. ⌜ (latchOf r ≡ latchBy f group (take n ss) (sequence .0) time (now (o .entry))) × (r .len ≤ echoMax) ⌝ }
 {
     if is_select(f) {
         if control::all_zero(ss, n) {
-            arm(sequence, time, o)
+            arm(group, sequence, time, o)
         } else {
             empty()
         }
@@ -196,26 +253,28 @@ fn answer(
     f: ControlFunction,
     out: &mut [u8],
     o: &[u8],
+    kind: ObjectKind,
     w: usize,
     n: usize,
     ss: [u8; OBJECTS_MAX],
 ) -> usize
-    requires { ⌜ (answerMax ≤ length (now out)) × HasObjects w n (now o) ⌝ }
+    requires { ⌜ (answerMax ≤ length (now out)) × HasObjects kind w n (now o) ⌝ }
     ensures { λ r. ⌜
-        (now (out .exit) ≡ splice (now (out .entry)) 4 (echoBy f (echoOf w (take n ss) (now (o .entry)))))
-        × (r ≡ length (echoBy f (echoOf w (take n ss) (now (o .entry))))) ⌝ }
+        (now (out .exit) ≡ splice (now (out .entry)) 4 (echoBy f (echoOf w (valueSize kind) (take n ss) (now (o .entry)))))
+        × (r ≡ length (echoBy f (echoOf w (valueSize kind) (take n ss) (now (o .entry))))) ⌝ }
 {
     if is_unanswered(f) {
         0
     } else {
-        control::put_echo(out, o, w, n, ss)
+        control::put_echo(out, o, kind, w, n, ss)
     }
 }
 
 // What a control request with these object bytes does.
 pub fn control_effect(
     latch: Latch,
-    outputs: u16,
+    counts: OutputCounts,
+    ws: &[u32; ANALOG_OUTPUT_WORDS],
     arm_time: u64,
     f: ControlFunction,
     sequence: ApplicationSequence,
@@ -224,7 +283,7 @@ pub fn control_effect(
     out: &mut [u8],
 ) -> Controlled
     requires { ⌜ answerMax ≤ length (now out) ⌝ }
-    ensures { λ r. ⌜ ControlHolds r (now (out .entry)) (now (out .exit)) (controlEffect outputs «arm_time» (latchOf latch) f (sequence .0) time (now (o .entry))) ⌝ }
+    ensures { λ r. ⌜ ControlHolds r (now (out .entry)) (now (out .exit)) (controlEffect (outputsOf counts (now (ws .entry))) «arm_time» (latchOf latch) f (sequence .0) time (now (o .entry))) ⌝ }
 {
     match control::header(o) {
         Form::Wrong(fault) => Controlled {
@@ -233,16 +292,17 @@ pub fn control_effect(
             carried: control::none(),
             latch: empty(),
         },
-        Form::Objects { width, count } => {
-            let cs = control::objects(o, width, count);
-            let s = operate_status(latch, arm_time, sequence, time, o);
-            let ss = statuses_by(f, cs, outputs, s);
-            let len = answer(f, out, o, width, count, ss);
+        Form::Objects { kind, width, count } => {
+            let group = group_of(kind);
+            let cs = control::objects(o, kind, width, count);
+            let s = operate_status(latch, arm_time, group, sequence, time, o);
+            let ss = statuses_by(f, cs, counts, ws, s);
+            let len = answer(f, out, o, kind, width, count, ss);
             Controlled {
                 fault: Fault::Faultless,
                 len: len,
                 carried: carry(f, cs, ss),
-                latch: latch_after(f, ss, count, sequence, time, o),
+                latch: latch_after(f, group, ss, count, sequence, time, o),
             }
         }
     }

@@ -1,9 +1,12 @@
 //! Requests, confirmations and controls.
 
+use crate::control::{self, Group, Object};
 use crate::outstation::Setup;
 use crate::points::Form;
+use crate::set_points::{SetPoint, SetValue};
 
 use super::random::hex;
+use super::readings::FLOATS;
 use super::Generator;
 
 impl Generator {
@@ -155,7 +158,7 @@ impl Generator {
         operate.extend_from_slice(&latch.objects);
         let mut select = vec![0xC0 | latch.sequence, 3];
         select.extend_from_slice(&latch.objects);
-        match self.random.below(20) {
+        match self.random.below(23) {
             0..=3 => self.frag(clock, &operate),
             4..=6 => self.frag(end, &operate),
             7..=9 => self.frag(end + 1, &operate),
@@ -198,6 +201,21 @@ impl Generator {
                 self.frag(clock, &operate);
             }
             17 => self.repeat_call(),
+            18 | 19 => {
+                // The same bytes under another header, or a zero of the other sign.
+                let objects = match (self.random.below(3), latch.group) {
+                    (0, _) => other_group(&latch.objects),
+                    (1, Group::SetPoints) => other_variation(&latch.objects),
+                    _ => other_zeros(&latch.objects),
+                };
+                operate.truncate(2);
+                operate.extend_from_slice(&objects);
+                self.frag(clock, &operate);
+            }
+            20 if self.random.chance(25) => {
+                self.call("restart".into());
+                self.frag(0, &operate);
+            }
             _ => {
                 self.frag(clock, &operate);
                 self.frag(clock, &operate);
@@ -269,7 +287,8 @@ impl Generator {
     /// Mostly a control that gets status 0; function 3, 4, 5 or 6. After a SELECT that armed
     /// nothing sometimes the OPERATE that would meet it.
     pub fn control_request(&mut self, function: u8) {
-        let outputs = self.station().map_or(0, |o| usize::from(o.setup.outputs));
+        let Some(setup) = self.station().map(|o| o.setup.clone()) else { return };
+        let sets = self.random.chance(if setup.set_points.is_empty() { 8 } else { 60 });
         let wide = self.random.chance(35);
         let count = match self.random.below(12) {
             0 => 8,
@@ -277,38 +296,16 @@ impl Generator {
             2..=5 => self.random.between(2, 4),
             _ => 1,
         };
-        let mut objects = vec![12, 1, if wide { 0x28 } else { 0x17 }, count as u8];
-        if wide {
-            objects.push(if self.random.chance(3) { 1 } else { 0 });
-        }
-        for place in 0..count {
-            // Mostly different outputs.
-            let mut index =
-                if self.random.chance(80) { place } else { self.random.below(outputs + 2) };
-            if wide && self.random.chance(4) {
-                index += 256;
-            }
-            objects.push(index as u8);
-            if wide {
-                objects.push((index >> 8) as u8);
-            }
-            let code = if self.random.chance(5) {
-                self.random.byte()
-            } else {
-                self.random.pick(&[0x01, 0x03, 0x04, 0x41, 0x81])
-            };
-            objects.push(code);
-            objects.push(if self.random.chance(4) { self.random.pick(&[0, 2, 255]) } else { 1 });
-            objects.extend_from_slice(&self.on_time(code).to_le_bytes());
-            let off_time = if self.random.chance(40) { self.random.next() as u32 } else { 0 };
-            objects.extend_from_slice(&off_time.to_le_bytes());
-            objects.push(if self.random.chance(5) { self.random.pick(&[1, 3, 128]) } else { 0 });
-        }
+        let mut objects = if sets {
+            self.set_points(&setup, wide, count)
+        } else {
+            self.relays(&setup, wide, count)
+        };
         match self.random.below(40) {
             0 => objects.truncate(self.random.below(objects.len())),
             1 => objects.push(0),
-            2 => objects[0] = self.random.pick(&[41, 10, 0, 60]),
-            3 => objects[1] = self.random.pick(&[0, 2, 3]),
+            2 => objects[0] = self.random.pick(&[41, 12, 10, 0, 60, 40, 42]),
+            3 => objects[1] = self.random.pick(&[0, 1, 2, 3, 4]),
             4 => objects[2] = self.random.pick(&[0x00, 0x06, 0x07, 0x27, 0x18]),
             5 => objects[3] ^= 1 << self.random.below(4),
             6 => objects.extend_from_slice(&[12, 1, 0x17, 1, 0]),
@@ -321,6 +318,123 @@ impl Generator {
         let unarmed = self.station().is_some_and(|o| o.latch.is_none());
         if function == 3 && unarmed && self.random.chance(30) {
             self.request(4, &objects);
+        }
+    }
+
+    /// A header and so many CROBs.
+    fn relays(&mut self, setup: &Setup, wide: bool, count: usize) -> Vec<u8> {
+        let outputs = usize::from(setup.outputs);
+        let mut objects = self.control_header(12, 1, wide, count);
+        for place in 0..count {
+            // Mostly different outputs.
+            let index = if self.random.chance(80) { place } else { self.random.below(outputs + 2) };
+            self.control_index(index, wide, &mut objects);
+            let code = if self.random.chance(5) {
+                self.random.byte()
+            } else {
+                self.random.pick(&[0x01, 0x03, 0x04, 0x41, 0x81])
+            };
+            objects.push(code);
+            objects.push(if self.random.chance(4) { self.random.pick(&[0, 2, 255]) } else { 1 });
+            objects.extend_from_slice(&self.on_time(code).to_le_bytes());
+            let off_time = if self.random.chance(40) { self.random.next() as u32 } else { 0 };
+            objects.extend_from_slice(&off_time.to_le_bytes());
+            objects.push(if self.random.chance(5) { self.random.pick(&[1, 3, 128]) } else { 0 });
+        }
+        objects
+    }
+
+    /// A header of group 41 and so many objects, mostly for different set points of its kind.
+    fn set_points(&mut self, setup: &Setup, wide: bool, count: usize) -> Vec<u8> {
+        let points = &setup.set_points;
+        let variation = if points.is_empty() {
+            self.random.pick(&[1, 2, 3])
+        } else {
+            self.random.pick(points).variation()
+        };
+        let alike: Vec<usize> =
+            (0..points.len()).filter(|&place| points[place].variation() == variation).collect();
+        let first = self.random.below(alike.len().max(1));
+        let mut objects = self.control_header(41, variation, wide, count);
+        for place in 0..count {
+            let index = if alike.is_empty() || self.random.chance(6) {
+                self.random.below(points.len() + 2)
+            } else if self.random.chance(5) {
+                self.random.pick(&alike)
+            } else {
+                alike[(first + place) % alike.len()]
+            };
+            self.control_index(index, wide, &mut objects);
+            let value = self.set_value(points.get(index).copied(), variation);
+            objects.extend_from_slice(&value.bytes());
+            objects.push(if self.random.chance(4) { self.random.pick(&[1, 4, 128]) } else { 0 });
+        }
+        objects
+    }
+
+    fn control_header(&mut self, group: u8, variation: u8, wide: bool, count: usize) -> Vec<u8> {
+        let mut header = vec![group, variation, if wide { 0x28 } else { 0x17 }, count as u8];
+        if wide {
+            header.push(if self.random.chance(3) { 1 } else { 0 });
+        }
+        header
+    }
+
+    fn control_index(&mut self, mut index: usize, wide: bool, objects: &mut Vec<u8>) {
+        if wide && self.random.chance(4) {
+            index += 256;
+        }
+        objects.push(index as u8);
+        if wide {
+            objects.push((index >> 8) as u8);
+        }
+    }
+
+    /// A value of that variation: mostly within the set point's ends, often an end or next to one.
+    fn set_value(&mut self, point: Option<SetPoint>, variation: u8) -> SetValue {
+        let inside = self.random.chance(85);
+        match point {
+            Some(SetPoint::Whole32(low, high) | SetPoint::Whole16(low, high)) => {
+                let value = match self.random.below(6) {
+                    0 | 1 if inside => low,
+                    2 | 3 if inside => high,
+                    _ if inside => low + self.random.below((high - low + 1) as usize) as i64,
+                    0 | 1 => low - 1,
+                    2 | 3 => high + 1,
+                    4 => self.random.pick(&[-low, -high, low ^ 0x8000, high ^ 0x8000]),
+                    _ => self.random.next() as i64,
+                };
+                match variation {
+                    1 => SetValue::Whole32(value as i32),
+                    2 => SetValue::Whole16(value as i16),
+                    _ => SetValue::Float(value as f32),
+                }
+            }
+            Some(SetPoint::Float(low, high)) => {
+                let zero = low <= 0.0 && 0.0 <= high;
+                let value = match self.random.below(8) {
+                    0 | 1 if inside => low,
+                    2 | 3 if inside => high,
+                    4..=6 if inside && zero => self.random.pick(&[0.0, -0.0]),
+                    _ if inside => low / 2.0 + high / 2.0,
+                    0 | 1 => low.next_down(),
+                    2 | 3 => high.next_up(),
+                    4 => self.random.pick(&[-low, -high]),
+                    5 => f32::from_bits(self.random.pick(&[0x7F80_0000, 0xFF80_0000])),
+                    6 => f32::from_bits(self.random.pick(&[0x7FC0_0000, 0x7F80_0001, 0xFFFF_FFFF])),
+                    _ => f32::from_bits(self.random.pick(&FLOATS)),
+                };
+                match variation {
+                    1 => SetValue::Whole32(value as i32),
+                    2 => SetValue::Whole16(value as i16),
+                    _ => SetValue::Float(value),
+                }
+            }
+            None => match variation {
+                1 => SetValue::Whole32(self.random.next() as i32),
+                2 => SetValue::Whole16(self.random.next() as i16),
+                _ => SetValue::Float(f32::from_bits(self.random.pick(&FLOATS))),
+            },
         }
     }
 
@@ -411,6 +525,8 @@ impl Generator {
         }
         if self.random.chance(2) {
             header[0] = self.random.byte();
+        } else if self.random.chance(1) {
+            header[0] = self.random.pick(&[12, 40, 41, 42]);
         }
         header
     }
@@ -476,20 +592,59 @@ fn analog_size(setup: &Setup, start: usize, end: usize) -> usize {
     size
 }
 
+/// A control request's objects: how wide its indices are, and its bytes past the header.
+fn past_header(objects: &[u8]) -> (usize, &[u8]) {
+    let width = if objects[2] == 0x17 { 1 } else { 2 };
+    (width, &objects[3 + width..])
+}
+
 /// The same controls with the other qualifier.
 fn other_form(objects: &[u8]) -> Vec<u8> {
-    let mut other = vec![12, 1];
-    if objects[2] == 0x17 {
-        other.extend_from_slice(&[0x28, objects[3], 0]);
-        for object in objects[4..].chunks(12) {
-            other.extend_from_slice(&[object[0], 0]);
-            other.extend_from_slice(&object[1..]);
+    let (width, rest) = past_header(objects);
+    let mut other = objects[..2].to_vec();
+    other.extend(if width == 1 { vec![0x28, objects[3], 0] } else { vec![0x17, objects[3]] });
+    for object in rest.chunks(rest.len() / usize::from(objects[3])) {
+        other.push(object[0]);
+        if width == 1 {
+            other.push(0);
         }
-    } else {
-        other.extend_from_slice(&[0x17, objects[3]]);
-        for object in objects[5..].chunks(13) {
-            other.push(object[0]);
-            other.extend_from_slice(&object[2..]);
+        other.extend_from_slice(&object[width..]);
+    }
+    other
+}
+
+/// The same bytes as objects of the other group, where its size divides them; else one of them.
+fn other_group(objects: &[u8]) -> Vec<u8> {
+    let (width, rest) = past_header(objects);
+    let (group, variation, each) =
+        if Group::of(objects) == Group::Relays { (41, 1, width + 5) } else { (12, 1, width + 11) };
+    let count = (rest.len() / each).clamp(1, 8);
+    let mut other = vec![group, variation, objects[2], count as u8, 0];
+    other.truncate(3 + width);
+    other.extend(rest.iter().copied().chain(std::iter::repeat(0)).take(count * each));
+    other
+}
+
+/// The same bytes as set points of the other variation of that size; of 16 bits there is none.
+fn other_variation(objects: &[u8]) -> Vec<u8> {
+    let mut other = objects.to_vec();
+    other[1] = match other[1] {
+        1 => 3,
+        3 => 1,
+        variation => variation,
+    };
+    other
+}
+
+/// The same set points, each float zero with the other sign; relays as they are.
+fn other_zeros(objects: &[u8]) -> Vec<u8> {
+    let (width, rest) = past_header(objects);
+    let mut other = objects.to_vec();
+    let controls = control::parse(objects).unwrap_or_default();
+    for (place, control) in controls.iter().enumerate() {
+        if let Object::SetPoint(SetValue::Float(0.0), _) = control.object {
+            let end = 3 + width + (place + 1) * rest.len() / controls.len();
+            other[end - 2] ^= 0x80;
         }
     }
     other

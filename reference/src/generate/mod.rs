@@ -18,6 +18,8 @@
 //! - SELECT, a repeat of it later, OPERATE at the arm time and one later, repeated, and with
 //!   another sequence, form, object or request in between; also after a SELECT that armed nothing;
 //! - pulses with on-times on both sides of each limit, also of an index already in the request;
+//! - set points at their ends, next to them and not finite, of another kind, of both zeros; OPERATE
+//!   of the same bytes, and of them under another header or with a zero of the other sign;
 //! - repeats of every function, also with a READ in between;
 //! - static parts of 2,044 and 2,045 bytes, and such that little room is left for events.
 

@@ -8,7 +8,7 @@ use super::{Generator, Kind};
 
 /// Floats worth trying: zeros, subnormals, normal ends, largest, near ties, plain, not finite.
 #[rustfmt::skip]
-const FLOATS: [u32; 26] = [
+pub const FLOATS: [u32; 26] = [
     0x0000_0000, 0x8000_0000, 0x0000_0001, 0x8000_0001, 0x007F_FFFF, 0x0080_0000, 0x8080_0000,
     0x3F80_0000, 0xBF80_0000, 0x3F80_0001, 0x3F7F_FFFF, 0x4000_0000, 0x3F00_0000, 0x4120_0000,
     0xC120_0000, 0x3DCC_CCCD, 0x4B80_0000, 0x7F7F_FFFF, 0xFF7F_FFFF, 0x7F00_0000, 0xFF00_0000,
@@ -66,6 +66,40 @@ impl Generator {
         }
     }
 
+    /// A set point: often ends of a narrow range, so that values next to them are soon drawn.
+    pub fn set_point_word(&mut self) -> String {
+        let kind = self.random.pick(&[1, 2, 3, 3]);
+        if kind == 3 {
+            let (mut low, mut high) = match self.random.below(6) {
+                0 => (0xFF7F_FFFF, 0x7F7F_FFFF),
+                1 => self.random.pick(&[(0, 0x8000_0000), (0x8000_0000, 0), (0, 0)]),
+                2 | 3 => self.random.pick(&[(0xBF80_0000, 0x3F80_0000), (0x8000_0001, 1)]),
+                _ => (self.float_word(true), self.float_word(true)),
+            };
+            if f32::from_bits(low) > f32::from_bits(high) {
+                (low, high) = (high, low);
+            }
+            return format!("3,{low:08X},{high:08X}");
+        }
+        let (least, most) = if kind == 1 {
+            (i64::from(i32::MIN), i64::from(i32::MAX))
+        } else {
+            (i64::from(i16::MIN), i64::from(i16::MAX))
+        };
+        let (low, high) = match self.random.below(6) {
+            0 => (least, most),
+            1 => self.random.pick(&[(0, 0), (least, least), (most, most), (-1, -1)]),
+            2 => (-1 - self.random.below(300) as i64, self.random.below(300) as i64),
+            3 => (-300, -256),
+            4 => (254 + self.random.below(3) as i64, 257),
+            _ => {
+                let low = least + self.random.below(60_000) as i64;
+                (low, low + self.random.below(5000) as i64)
+            }
+        };
+        format!("{kind},{low},{high}")
+    }
+
     pub fn setup_call(&mut self) {
         let style = self.random.below(6);
         let (nb, na) = match style {
@@ -96,19 +130,28 @@ impl Generator {
             let word = self.analog_word(class, kind);
             words.push(word);
         }
+        let mut sets = 0;
+        if self.random.chance(75) {
+            sets = self.random.pick(&[0, 1, 2, 3, 8, 8, 15, 16, 16]);
+            words.extend(["s".into(), sets.to_string()]);
+            for _ in 0..sets {
+                let word = self.set_point_word();
+                words.push(word);
+            }
+        }
         let odd = if self.kind == Kind::Readings { 40 } else { 12 };
         if self.random.chance(odd) {
-            self.break_limit(&mut words, nb, na);
+            self.break_limit(&mut words, nb, na, sets);
         }
         self.call(format!("setup {}", words.join(" ")));
         self.given = vec![0; 64];
     }
 
     /// One limit broken, or met exactly.
-    pub fn break_limit(&mut self, words: &mut [String], nb: usize, na: usize) {
+    pub fn break_limit(&mut self, words: &mut [String], nb: usize, na: usize, sets: usize) {
         let any_point =
             |random: &mut Random, from: usize, n: usize| 7 + from + random.below(n.max(1));
-        match self.random.below(12) {
+        match self.random.below(15) {
             0 => words[0] = self.random.pick(&["65519", "65520", "65535"]).into(),
             1 => words[1] = self.random.pick(&["65519", "65520", "65535", "0"]).into(),
             2 => words[1] = words[0].clone(),
@@ -144,6 +187,34 @@ impl Generator {
                         "1,5,3F800000,00000000,2,80000001",
                     ])
                     .into();
+            }
+            12 if sets == 16 => {
+                words[7 + nb + na + 1] = self.random.pick(&["16", "17", "255"]).into();
+            }
+            13 if sets > 0 => {
+                let place = any_point(&mut self.random, nb + na + 2, sets);
+                words[place] = self
+                    .random
+                    .pick(&[
+                        "1,-2147483649,0",
+                        "1,-2147483648,2147483648",
+                        "2,-32769,32767",
+                        "2,0,32768",
+                        "1,1,0",
+                        "2,-5,-6",
+                        "1,-9223372036854775808,9223372036854775807",
+                        "3,00000001,00000000",
+                        "3,00000000,80000001",
+                        "3,FF800000,00000000",
+                        "3,BF800000,7F800000",
+                        "3,7FC00000,3F800000",
+                    ])
+                    .into();
+            }
+            14 if sets > 0 => {
+                let place = any_point(&mut self.random, nb + na + 2, sets);
+                let (low, high) = (self.float_word(false), self.float_word(false));
+                words[place] = format!("3,{low:08X},{high:08X}");
             }
             _ => {}
         }

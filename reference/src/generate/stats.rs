@@ -45,21 +45,29 @@ impl Generator {
                 }
                 if ["03", "04", "05"].contains(&function.as_str()) && bytes.len() > 8 {
                     let (width, head) = if byte(6) == 0x17 { (1, 8) } else { (2, 9) };
-                    let mut at = head + width + 10;
+                    let (what, size) = match (byte(4), byte(5)) {
+                        (41, 2) => ("set point, ", 3),
+                        (41, _) => ("set point, ", 5),
+                        _ => ("", 11),
+                    };
+                    let mut at = head + width + size - 1;
                     while 2 * at < bytes.len() {
-                        self.count(format!("status {} of function {function}", byte(at)));
-                        at += width + 11;
+                        self.count(format!("{what}status {} of function {function}", byte(at)));
+                        at += width + size;
                     }
                 }
                 if ops != "-" {
-                    self.count(format!("carried out by function {function}"));
+                    let what = if ops.contains('@') { "set point, " } else { "" };
+                    self.count(format!("{what}carried out by function {function}"));
                 }
             }
             ["mute", ops, ..] => {
-                self.count(format!(
-                    "mute, carried out: {}",
-                    if ops == "-" { "none" } else { "some" }
-                ));
+                let what = match ops {
+                    "-" => "none",
+                    _ if ops.contains('@') => "set points",
+                    _ => "relays",
+                };
+                self.count(format!("mute, carried out: {what}"));
             }
             ["held", n, ..] => {
                 let held = if n == "256" { "held 256" } else { "held" };

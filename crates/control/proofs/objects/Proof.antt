@@ -12,19 +12,19 @@ use Rattle.control.proofs.objects.Tie as tie
 add-h : tie.Need-add-h
 add-h c =
     let s = c .before in
-    let fit = formed-fits (s .args .o .now) (s .args .w) (s .args .n) (s .pre) in
+    let fit = formed-fits (s .args .o .now) (s .args .kind) (s .args .w) (s .args .n) (s .pre) in
     omega arith
 
 sub-taken : tie.Need-sub-taken
 sub-taken c =
     let s = c .before in
-    let fit = formed-fits (s .args .o .now) (s .args .w) (s .args .n) (s .pre) in
+    let fit = formed-fits (s .args .o .now) (s .args .kind) (s .args .w) (s .args .n) (s .pre) in
     omega arith
 
 part-taken-start : tie.Need-part-taken-start
 part-taken-start c =
     let s = c .before in
-    let fit = formed-fits (s .args .o .now) (s .args .w) (s .args .n) (s .pre) in
+    let fit = formed-fits (s .args .o .now) (s .args .kind) (s .args .w) (s .args .n) (s .pre) in
     omega arith
 
 part-taken-end : tie.Need-part-taken-end
@@ -33,7 +33,7 @@ part-taken-end c = search needs
 taken-requires : tie.Need-taken-requires
 taken-requires c κs =
     let s = c .before .before in
-    let fit = formed-fits (s .args .o .now) (s .args .w) (s .args .n) (s .pre) in
+    let fit = formed-fits (s .args .o .now) (s .args .kind) (s .args .w) (s .args .n) (s .pre) in
     (simp (length-take, length-drop) (omega arith), fit .narrow, fit .few)
 
 returns : tie.Need-returns

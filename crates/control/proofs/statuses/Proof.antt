@@ -7,8 +7,8 @@ use Prim.Native.Nat.{ℕ, _≤_, _+_, _-_}
 use native.Mathlib.Omega.{arith}
 use borrow.Author.Needs.{needs}
 use lib.ListN.{length, getD, take, drop, length-set}
-use Rattle.control.specs.Objects.{noCrob, earlierOf, listOf}
-use Rattle.control.specs.Status.{statusOf, statuses}
+use Rattle.control.specs.Objects.{noObject, earlierOf, listOf}
+use Rattle.control.specs.Status.{outputsOf, statusOf, statuses}
 use Rattle.laws.proofs.Loops.{length-mapped}
 use Rattle.laws.proofs.Filling.{stored, finished, part-none, clamped}
 use Rattle.control.proofs.StatusLaws.{statuses-step, statuses-nil, earlier-start}
@@ -16,11 +16,11 @@ use Rattle.control.proofs.statuses.Statement.{statement}
 use Rattle.control.proofs.statuses.Tie as tie
 
 abbrev Inv-loop : tie.InvT-loop
-Inv-loop outputs cs n ss₀ i₀ ss i =
-    (take i ss ++ statuses outputs (earlierOf (cs .items) i) (drop i (take n (cs .items))) ≡ statuses outputs [] (take n (cs .items))) × (length ss ≡ 8) × (i ≤ n)
+Inv-loop counts ws cs n ss₀ i₀ ss i =
+    (take i ss ++ statuses (outputsOf counts ws) (earlierOf (cs .items) i) (drop i (take n (cs .items))) ≡ statuses (outputsOf counts ws) [] (take n (cs .items))) × (length ss ≡ 8) × (i ≤ n)
 
 abbrev μ-loop : tie.MeasureT-loop
-μ-loop outputs cs n ss₀ i₀ ss i = n - i
+μ-loop counts ws cs n ss₀ i₀ ss i = n - i
 
 filled-requires : tie.Need-filled-requires Inv-loop μ-loop
 filled-requires c κs = search needs
@@ -28,7 +28,7 @@ filled-requires c κs = search needs
 loop-holds : tie.Need-loop-holds Inv-loop μ-loop
 loop-holds c =
     let a = c .before .args in
-    (ap (λ (e : List ℕ). statuses (a .outputs) e (take (c .filled .result) (a .t1 .items))) (earlier-start (a .t1 .items)), refl, omega arith)
+    (ap (λ (e : List ℕ). statuses (outputsOf (a .counts) (a .ws .now)) e (take (c .filled .result) (a .t1 .items))) (earlier-start (a .t1 .items)), refl, omega arith)
 
 mul-c : tie.Need-mul-c Inv-loop μ-loop
 mul-c c = omega arith
@@ -58,10 +58,10 @@ loop-again c =
     let few = l .before .filled .ensures in
     let a = l .before .before .args in
     let h : length (a .t1 .items) ≡ 8 = search (length-mapped, needs) in
-    let v = c .status .ensures ∙ ap (λ (t : Bool). statusOf (a .outputs) t (getD (a .t1 .items) (l .loop .i) noCrob)) (c .before .seen .ensures) in (
+    let v = c .status .ensures ∙ ap (λ (t : Bool). statusOf (outputsOf (a .counts) (a .ws .now)) t (getD (a .t1 .items) (l .loop .i) noObject)) (c .before .seen .ensures) in (
       stored (l .loop .ss) (l .loop .i) (c .status .result) _ _ (omega arith)
-          (statuses-step (a .outputs) (a .t1 .items) n (l .loop .i) (omega arith) (omega arith)
-          ∙ ap (λ (x : ℕ). x ∷ statuses (a .outputs) (earlierOf (a .t1 .items) (l .loop .i + 1)) (drop (l .loop .i + 1) (take n (a .t1 .items)))) (sym v))
+          (statuses-step (outputsOf (a .counts) (a .ws .now)) (a .t1 .items) n (l .loop .i) (omega arith) (omega arith)
+          ∙ ap (λ (x : ℕ). x ∷ statuses (outputsOf (a .counts) (a .ws .now)) (earlierOf (a .t1 .items) (l .loop .i + 1)) (drop (l .loop .i + 1) (take n (a .t1 .items)))) (sym v))
           ∙ l .loop .inv .0,
       simp length-set (omega arith),
       omega arith,
@@ -79,10 +79,10 @@ returns c =
       sym (clamped (l .loop .ss) 8 (a .t1 .count) n (l .loop .inv .1) few)
           ∙ ap (λ (k : ℕ). take k (l .loop .ss)) e
           ∙ finished (take (l .loop .i) (l .loop .ss)) _ _
-          (ap (statuses (a .outputs) (earlierOf (a .t1 .items) (l .loop .i))) (part-none (a .t1 .items) n (l .loop .i) (omega arith) (omega arith))
-          ∙ statuses-nil (a .outputs) (earlierOf (a .t1 .items) (l .loop .i)))
+          (ap (statuses (outputsOf (a .counts) (a .ws .now)) (earlierOf (a .t1 .items) (l .loop .i))) (part-none (a .t1 .items) n (l .loop .i) (omega arith) (omega arith))
+          ∙ statuses-nil (outputsOf (a .counts) (a .ws .now)) (earlierOf (a .t1 .items) (l .loop .i)))
           (l .loop .inv .0)
-          ∙ ap (statuses (a .outputs) []) (clamped (a .t1 .items) 8 (a .t1 .count) n h few),
+          ∙ ap (statuses (outputsOf (a .counts) (a .ws .now)) []) (clamped (a .t1 .items) 8 (a .t1 .count) n h few),
       l .loop .inv .1,
     )
 

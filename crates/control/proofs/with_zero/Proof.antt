@@ -6,8 +6,8 @@ use Prim.Native.Nat.{_≤_, _-_}
 use native.Mathlib.Omega.{arith}
 use borrow.Author.Needs.{needs}
 use lib.ListN.{length, getD, take, drop, length-set}
-use Rattle.control.specs.Objects.{noCrob, listOf}
-use Rattle.control.specs.declared.Crob.{Crob}
+use Rattle.control.specs.Objects.{noObject, listOf}
+use Rattle.control.specs.declared.ControlObject.{ControlObject}
 use Rattle.control.specs.Status.{chosen}
 use Rattle.laws.proofs.Loops.{length-mapped}
 use Rattle.laws.proofs.Filling.{stored, finished, clamped}
@@ -65,7 +65,7 @@ loop-again c =
     let a = l .before .before .before .args in
     let h : length (a .t1 .items) ≡ 8 = search (length-mapped, needs) in
     let k : length (a .t2) ≡ 8 = search needs in (
-      stored (l .loop .next .items) (l .loop .j) (getD (a .t1 .items) (l .loop .i) noCrob) _ _ (omega arith)
+      stored (l .loop .next .items) (l .loop .j) (getD (a .t1 .items) (l .loop .i) noObject) _ _ (omega arith)
           (chosen-yes (a .t1 .items) (a .t2) n (l .loop .i) (omega arith) (omega arith) (omega arith) (c .if1 .taken))
           ∙ l .loop .inv .0,
       simp length-set (omega arith),
@@ -84,7 +84,7 @@ loop-again-2 c =
     let a = l .before .before .before .args in
     let h : length (a .t1 .items) ≡ 8 = search (length-mapped, needs) in
     let k : length (a .t2) ≡ 8 = search needs in (
-      ap (λ (x : List Crob). take (l .loop .j) (l .loop .next .items) ++ x)
+      ap (λ (x : List ControlObject). take (l .loop .j) (l .loop .next .items) ++ x)
           (chosen-no (a .t1 .items) (a .t2) n (l .loop .i) (omega arith) (omega arith) (omega arith) (c .if1 .left))
           ∙ l .loop .inv .0,
       l .loop .inv .1,

@@ -4,6 +4,7 @@ use mathlib.Core.Path.{refl, ap}
 use Prim.Native.Nat.{ℕ, _+_}
 use native.Mathlib.Omega.{arith}
 use borrow.Author.Needs.{needs}
+use Rattle.control.specs.Status.{outputsOf}
 use Rattle.select_latch.specs.Select.{latchOf}
 use Rattle.last_request.proofs.ReplyLaws.{echo-most}
 use Rattle.effects.proofs.control_request_effect.Statement.{statement}
@@ -12,10 +13,10 @@ use Rattle.effects.proofs.control_request_effect.Tie as tie
 control-effect-requires : tie.Need-control-effect-requires
 control-effect-requires c κs = search needs
 
-add-t15 : tie.Need-add-t15
-add-t15 c =
-    let a = c .before .before .before .before .before .before .before .before .before .before .args in
-    let most = echo-most (a .seen .outputs) (a .seen .«arm_time») (latchOf (a .seen .latch)) (a .g) (a .q .0) (a .time) (a .s .now) in
+add-t17 : tie.Need-add-t17
+add-t17 c =
+    let a = c .before .before .before .before .before .before .before .before .before .before .before .args in
+    let most = echo-most (outputsOf (a .seen .outputs) (a .ws .now)) (a .seen .«arm_time») (latchOf (a .seen .latch)) (a .g) (a .q .0) (a .time) (a .s .now) in
     let len = c .before .before .before .before .before .control-effect .ensures .len in
     omega (arith, most, len)
 
@@ -43,6 +44,6 @@ control-request-effect-spec =
     tie.close
     (tie.spec
     control-effect-requires
-    add-t15
+    add-t17
     same-length
     returns)

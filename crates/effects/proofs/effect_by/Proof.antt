@@ -10,7 +10,7 @@ write-effect-requires : tie.Need-write-effect-requires
 write-effect-requires c κs = search needs
 
 returns : tie.Need-returns
-returns c = λ k. rw (eq-eqb _ _ (c .before .if1 .taken)) (c .write-effect .ensures (contextView (c .before .before .before .before .args .seen) k) (c .before .before .before .before .args .out .now))
+returns c = λ k. rw (eq-eqb _ _ (c .before .if1 .taken)) (c .write-effect .ensures (contextView (c .before .before .before .before .args .seen) (c .before .before .before .before .args .ws .now) k) (c .before .before .before .before .args .out .now))
 
 control-request-effect-requires : tie.Need-control-request-effect-requires
 control-request-effect-requires c κs = search needs
@@ -67,7 +67,7 @@ returns-6 : tie.Need-returns-6
 returns-6 c =
     λ k.
     rw (ne-eqb _ _ (c .before .before .before .before .before .if1 .left), ne-eqb _ _ (c .before .before .before .before .if2 .left), ne-eqb _ _ (c .before .before .before .if3 .left), ne-eqb _ _ (c .before .before .if4 .left), ne-eqb _ _ (c .before .if5 .left))
-    (c .plain-effect .ensures (contextView (c .before .before .before .before .before .before .before .before .args .seen) k) (c .before .before .before .before .before .before .before .before .args .out .now))
+    (c .plain-effect .ensures (contextView (c .before .before .before .before .before .before .before .before .args .seen) (c .before .before .before .before .before .before .before .before .args .ws .now) k) (c .before .before .before .before .before .before .before .before .args .out .now))
 
 pub effect-by-spec : {M : Type 1} → statement M
 effect-by-spec =

@@ -11,13 +11,13 @@ truth-byte-requires c κs = search needs
 truth-byte-requires-2 : tie.Need-truth-byte-requires-2
 truth-byte-requires-2 c κs = search needs
 
-truth-byte-requires-3 : tie.Need-truth-byte-requires-3
-truth-byte-requires-3 c κs = search needs
+latch-byte-requires : tie.Need-latch-byte-requires
+latch-byte-requires c κs = search needs
 
 returns : tie.Need-returns
 returns c =
     let a = c .before .before .before .before .args in
-    after-request (a .h) (a .time) (a .k) _ (c .before .truth-byte2 .ensures) (a .restarted) (a .latch) _ _ (c .before .before .truth-byte .ensures) (c .truth-byte3 .ensures)
+    after-request (a .h) (a .time) (a .k) _ (c .before .truth-byte2 .ensures) (a .restarted) (a .latch) _ _ (c .before .before .truth-byte .ensures) (c .latch-byte .ensures)
 
 pub after-request-spec : {M : Type 1} → statement M
 after-request-spec =
@@ -25,5 +25,5 @@ after-request-spec =
     (tie.spec
     truth-byte-requires
     truth-byte-requires-2
-    truth-byte-requires-3
+    latch-byte-requires
     returns)

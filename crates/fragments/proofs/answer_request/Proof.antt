@@ -25,14 +25,14 @@ module _ (c : tie.After-put-answer) where
   small : c .before .before .before .before .before .before .before .before .before .effect-by .result .size ≤ 113
   small =
       let a = start .args in
-      effect-small (c .before .before .before .before .before .before .before .before .before .before .before .before .context-of .result) (a .q .0) (a .function) (a .time) (take (length (a .f .now) - 2) (drop 2 (a .f .now))) (c .before .before .before .before .before .before .before .before .before .effect-by .result) (a .out .now) _
+      effect-small (c .before .before .before .before .before .before .before .before .before .before .before .before .context-of .result) (a .outputs .now) (a .q .0) (a .function) (a .time) (take (length (a .f .now) - 2) (drop 2 (a .f .now))) (c .before .before .before .before .before .before .before .before .before .effect-by .result) (a .out .now) _
       (c .before .before .before .before .before .before .before .before .before .effect-by .ensures)
 
   less : c .put-answer .result ≤ 113
   less = kept-most (eqb (start .args .function) 6) (c .put-answer .result) (c .before .before .before .before .before .before .before .before .before .effect-by .result .size) (c .put-answer .ensures .1) small
 
   same : length (c .put-answer .last .0) ≡ length (start .args .out .now)
-  same = c .put-answer .kept .0 ∙ c .before .before .before .before .before .before .before .before .before .effect-by .kept .1 .1 .1 .1 .1 .0
+  same = c .put-answer .kept .0 ∙ c .before .before .before .before .before .before .before .before .before .effect-by .kept .1 .1 .1 .1 .1 .1 .0
 
 context-of-requires : tie.Need-context-of-requires
 context-of-requires c κs = search needs
@@ -92,10 +92,10 @@ returns c =
     let seen = c .before .before .before .before .before .before .before .before .before .before .before .before .before .before .before .before .before .before .before .before .before .before .context-of in
     let pa = p .put-answer in
     let short : length (take (pa .result) (pa .last .0)) ≤ 113 = simp length-take (omega (arith, less p)) in
-    other-in (a .h) (a .held .now) (a .request .now) (a .answer .now) (a .objects .now) (a .q .0) (a .function) (a .time) (a .f .now) _ _ _ _ (dd .result) (a .out .now) _ _
+    other-in (a .h) (a .held .now) (a .request .now) (a .answer .now) (a .objects .now) (a .outputs .now) (a .q .0) (a .function) (a .time) (a .f .now) _ _ _ _ (dd .result) (a .out .now) _ _
     (pa .result) _ (c .before .before .before .before .remember .result) (c .before .after-request .result) (c .before .after-request .ensures) (c .before .before .before .before .remember .ensures) (s .pre .1) short (s .pre .2)
     (c .answer-as .ensures) _ (seen .result) (c .before .before .before .before .before .before .before .before .before .before .before .before .before .before .before .buffer-status .ensures) (seen .ensures)
-    (λ (u : BufferView). subst (λ (x : List ℕ). EffectMeets (dd .result) (a .out .now) (dd .last .1 .1 .1 .1 .1 .0) (effectBy (contextView (seen .result) u) (a .q .0) (a .function) (a .time) x)) (to-end (a .f .now) 2) (dd .ensures u))
+    (λ (u : BufferView). subst (λ (x : List ℕ). EffectMeets (dd .result) (a .out .now) (dd .last .1 .1 .1 .1 .1 .1 .0) (effectBy (contextView (seen .result) (a .outputs .now) u) (a .q .0) (a .function) (a .time) x)) (to-end (a .f .now) 2) (dd .ensures u))
     (c .before .before .before .before .before .before .before .before .before .before .before .before .before .clear .ensures) (pa .ensures)
 
 pub answer-request-spec : {M : Type 1} → statement M

@@ -21,7 +21,7 @@ use Rattle.fragments.proofs.fragment.Tie as tie
 abbrev mem : tie.Start → Lent
 mem s =
     let a = s .args in
-    record { binaries = a .binaries .now; analogs = a .analogs .now; held = a .held .now; request = a .request .now; answer = a .answer .now; objects = a .objects .now }
+    record { binaries = a .binaries .now; analogs = a .analogs .now; held = a .held .now; request = a .request .now; answer = a .answer .now; objects = a .objects .now; outputs = a .outputs .now }
 
 abbrev unit : tie.Start → Outstation
 unit s = record { head = s .args .h; lent = mem s }

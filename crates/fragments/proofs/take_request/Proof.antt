@@ -16,7 +16,7 @@ use Rattle.fragments.proofs.take_request.Tie as tie
 abbrev mem : tie.Start → Lent
 mem s =
     let a = s .args in
-    record { binaries = a .binaries .now; analogs = a .analogs .now; held = a .held .now; request = a .request .now; answer = a .answer .now; objects = a .objects .now }
+    record { binaries = a .binaries .now; analogs = a .analogs .now; held = a .held .now; request = a .request .now; answer = a .answer .now; objects = a .objects .now; outputs = a .outputs .now }
 
 abbrev was : tie.Start → OutstationView
 was s = viewOf (s .args .h) (mem s)
@@ -33,7 +33,7 @@ returns c =
     let s = c .before .before .before .before .before .before .before .before .before .before in
     let a = s .args in
     let r = c .before .before .answer-read in
-    by-read (was s) (a .q .0) (a .function) (a .time) (a .f .now) (PartMeets (a .h) (r .result) _ (a .out .now) _) (eq-eqb _ _ (c .before .before .before .before .before .before .before .if1 .taken)) (r .ensures (a .objects .now))
+    by-read (was s) (a .q .0) (a .function) (a .time) (a .f .now) (PartMeets (a .h) (r .result) _ (a .out .now) _) (eq-eqb _ _ (c .before .before .before .before .before .before .before .if1 .taken)) (r .ensures (a .objects .now) (a .outputs .now))
 
 last-of-requires : tie.Need-last-of-requires
 last-of-requires c κs = search needs

@@ -19,7 +19,7 @@ returns : tie.Need-returns
 unfolding latchOf
 returns c =
     let a = c .before .before .before .before .args in (
-      ap (selected (a .sequence .0) (a .time)) (ap (take (length (a .o .now))) (c .before .copy .ensures) ∙ stored-splice _ 0 (a .o .now) (omega arith)),
+      ap (selected (a .group) (a .sequence .0) (a .time)) (ap (take (length (a .o .now))) (c .before .copy .ensures) ∙ stored-splice _ 0 (a .o .now) (omega arith)),
       c .before .before .before .before .pre,
     )
 
