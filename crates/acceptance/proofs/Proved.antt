@@ -28,7 +28,7 @@ use Rattle.outstation.specs.Step as S
 use Rattle.acceptance.specs.Acceptance.{Acceptance}
 
 pub acceptance : Acceptance
-unfolding restarted U.setupOk U.binaryClasses U.analogSetups freshAnalog
+unfolding restarted U.setupOk U.binaryClasses U.analogSetups U.analogOutputs freshAnalog
     S.step S.readingStep S.takenWith S.raise S.fragmentStep S.readStep S.requestStep S.confirmStep S.confirmedStep
     R.applyReading R.badTime P.readBinary P.readFloat P.isReported P.isRaised limitedOf X.ofBits X.toBits X.mul X.add
     Q.ask Q.isConfirmed F.classified F.malformed A.headersOf H.frontHeader H.objectOf H.classHeader A.asksFor
@@ -36,6 +36,6 @@ unfolding restarted U.setupOk U.binaryClasses U.analogSetups freshAnalog
     staticBytes rangeBytes pointObjects pointBytes encoded runs allBytes objectBytes O.le O.value
     eventBytes carriedEvents carriedObjects carriedBytes
     I.responseOf I.writeFault isRepeat same
-    L.controlEffect L.operateStatus C.formed C.exact C.widthOf C.span C.crobs T.statuses T.statusOf T.allZero T.echoed T.chosen
+    L.controlEffect L.operateStatus C.formed C.formedAs C.exact C.widthOf C.span C.objects T.statuses T.statusOf T.relayCan T.allZero T.echoed T.chosen
 acceptance =
     record { setups = refl; aToH = refl; aToLate = refl; aToI = refl; releases = refl; jAlone = refl; frameSizes = refl }

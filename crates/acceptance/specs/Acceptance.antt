@@ -12,7 +12,8 @@ use Rattle.points.specs.declared.WholeGate.the-variants as W
 use Rattle.points.specs.declared.FloatGate.the-variants as F
 use Rattle.points.specs.declared.AnalogKind.the-variants as Ks
 use Rattle.points.specs.declared.AnalogSetup.{AnalogSetup}
-use Rattle.control.specs.declared.Crob.{Crob}
+use Rattle.control.specs.declared.Command.the-variants as C
+use Rattle.control.specs.declared.ControlObject.{ControlObject}
 use Rattle.outstation.specs.Setup.{Setup}
 use Rattle.outstation.specs.declared.Measured.{Measured}
 use Rattle.outstation.specs.declared.Measured.the-variants as Ms
@@ -45,6 +46,8 @@ tableSetup binaries analogs classes kinds =
       «analog_count» = analogs;
       classes = classes;
       analogs = kinds;
+      «analog_output_count» = 0;
+      «analog_outputs» = [];
     }
 
 -- a place of the array that is not used
@@ -129,8 +132,8 @@ objects status =
     0x0C ∷ 0x01 ∷ 0x17 ∷ 0x01 ∷ 0x05 ∷ 0x03 ∷ 0x01 ∷ 0x00 ∷ 0x00 ∷ 0x00 ∷ 0x00 ∷ 0x00 ∷ 0x00 ∷ 0x00 ∷ 0x00 ∷ status ∷ []
 
 -- the one object as it is handed to the host
-abbrev pub output5 : Crob
-output5 = record { index = 0x05; code = 0x03; count = 0x01; «on_time» = 0; «off_time» = 0; status = 0x00 }
+abbrev pub output5 : ControlObject
+output5 = record { index = 0x05; status = 0x00; command = C.Crob (record { code = 0x03; count = 0x01; «on_time» = 0; «off_time» = 0 }) }
 
 -- when g's SELECT comes
 abbrev pub selectTime : ℕ

@@ -22,6 +22,8 @@ use Rattle.outstation.specs.declared.Measured.the-variants as Ms
 use Rattle.outstation.specs.Setup as U
 use Rattle.outstation.specs.Readings as R
 use Rattle.outstation.specs.Requests as Q
+use Rattle.analog_outputs.specs.Output.{analogOutputsMax}
+use Rattle.analog_outputs.specs.OutputWords.{noOutput}
 use Rattle.outstation.specs.Step.{Call, reading, fragment}
 use Rattle.book.specs.Book as B
 use Rattle.book.specs.Book.{Book, BookAnswer, takes, refuses, carries, accepts, hold!, built!, confirmed!, released, enter, bookOf}
@@ -40,6 +42,8 @@ oneBinary =
       «analog_count» = 0;
       classes = 1 ∷ replicate 63 0;
       analogs = replicate pointsMax (record { class = 0; kind = Ks.Int32 W.Never });
+      «analog_output_count» = 0;
+      «analog_outputs» = replicate analogOutputsMax noOutput;
     }
 
 -- the binary is so, from this time on

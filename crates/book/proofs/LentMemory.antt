@@ -1,4 +1,4 @@
--- A head and lent memory for the states of the run in `Run`: one binary, events of it alone. The words are laid out as `point_store/PointWords` and
+-- A head and lent memory for the states of the run in `Run`: one binary, events of it alone, no analog output. The words are laid out as `point_store/PointWords` and
 -- `event_store/EventWords` read them.
 -- Assumes nothing.
 use Prim.Native.Nat.{ℕ, zero, suc, _+_, _*_, _-_, _/_, _%_, _^_, _≤_, _<_}
@@ -17,6 +17,7 @@ use Rattle.events.specs.declared.Held.{Held}
 use Rattle.events.specs.declared.Shown.{Shown}
 use Rattle.events.specs.declared.Shown.the-variants.{State, Analog}
 use Rattle.events.specs.BufferView.{bufferView}
+use Rattle.analog_outputs.specs.Output.{analogOutputsMax}
 use Rattle.control.specs.Objects.{echoMax, answerMax}
 use Rattle.select_latch.specs.Select.{noSelect, latchOf}
 use Rattle.last_request.specs.Repeat.{LastRequestView, nothing, kept, lastIn}
@@ -103,7 +104,7 @@ headFor w =
       «request_len» = length (requestIn (w .master .session .last));
       «answer_len» = length (answerIn (w .master .session .last));
       «latch_len» = 0;
-      outputs = w .shared .outputs;
+      outputs = w .shared .outputs .relays;
       overflow = bit (w .master .buffer .overflow);
       restarted = bit (w .master .session .restarted);
       waiting = waitingIn (w .master .session .wait);
@@ -113,6 +114,7 @@ headFor w =
       «request_kept» = bit (isKept (w .master .session .last));
       «latch_armed» = 0;
       «latch_sequence» = 0;
+      «analog_outputs» = 0;
     }
 
 abbrev lentFor : OutstationView → List ℕ → List ℕ → Lent
@@ -124,6 +126,7 @@ lentFor w b e =
       request = padded fragmentMax (requestIn (w .master .session .last));
       answer = padded answerMax (answerIn (w .master .session .last));
       objects = replicate echoMax 0;
+      outputs = replicate (3 * analogOutputsMax) 0;
     }
 
 abbrev pub outstationFor : OutstationView → Outstation
@@ -206,6 +209,7 @@ wait-for w = go (w .master .session .wait)
 pub record Fits (w : OutstationView) : Type 0 where
   pub binaries : take (length (w .shared .inputs .binaries)) (binariesIn (outstationFor w .lent .binaries)) ≡ w .shared .inputs .binaries
   pub analogs : w .shared .inputs .analogs ≡ []
+  pub outputs : w .shared .outputs .analog ≡ []
   pub events : Coded (w .master .buffer .held)
   pub few : length (w .master .buffer .held) ≤ eventsMax
   pub latch : w .master .session .latch ≡ noSelect
@@ -219,7 +223,7 @@ view-for w f =
           record {
             armTime = w .shared .armTime;
             confirmTime = w .shared .confirmTime;
-            outputs = w .shared .outputs;
+            outputs = record { relays = w .shared .outputs .relays; analog = sym (f .outputs) k };
             clock = w .shared .clock;
             inputs = record { binaries = f .binaries k; analogs = sym (f .analogs) k };
           };

@@ -20,15 +20,15 @@ use Rattle.application.specs.Fragment.{classified, functionOf, sequenceOf, cont
 use Rattle.application.specs.Response.{responseOf, faultBits, weight}
 use Rattle.read_headers.specs.declared.Header.{Header}
 use Rattle.read_headers.specs.Parse.{Parsed, headers, fault}
-use Rattle.control.specs.declared.Crob.{Crob}
+use Rattle.control.specs.declared.ControlObject.{ControlObject}
 use Rattle.control.specs.declared.Form.{Form}
 use Rattle.control.specs.declared.Form.the-variants.{Wrong, Objects}
-use Rattle.control.proofs.ObjectLaws.{crobs-length}
-use Rattle.control.specs.Objects.{formed, crobs, crobsBy}
-use Rattle.control.specs.Status.{statuses, echoWith}
+use Rattle.control.proofs.ObjectLaws.{objects-length}
+use Rattle.control.specs.Objects.{formed, objects, objectsBy}
+use Rattle.control.specs.Status.{Outputs, statuses, echoWith}
 use Rattle.select_latch.specs.declared.ControlFunction.{ControlFunction}
 use Rattle.select_latch.specs.declared.ControlFunction.the-variants.{Select, Operate, DirectOperate}
-use Rattle.select_latch.specs.Select.{LatchView, isUnanswered, statusesBy, operateStatus, byForm, controlEffect}
+use Rattle.select_latch.specs.Select.{groupOf, LatchView, isUnanswered, statusesBy, operateStatus, byForm, controlEffect}
 use Rattle.last_request.specs.Repeat.{LastRequestView, nothing, kept, isRepeat, keptAnswer}
 use Rattle.last_request.proofs.ReplyLaws.{length-by}
 use Rattle.events.specs.BufferView.{BufferView, cleared}
@@ -138,17 +138,17 @@ effect-ends w q function time o =
 -- the echo by a form, with some status for each object
 pub record Echo (x : Form) (o echo : List ℕ) : Type 0 where
   pub statuses : List ℕ
-  pub each : length statuses ≡ length (crobsBy x o)
+  pub each : length statuses ≡ length (objectsBy x o)
   pub is : echo ≡ echoWith x statuses o
 
-module _ (outputs arm : ℕ) (l : LatchView) (g : ControlFunction) (u : isUnanswered g ≡ false) (q time : ℕ) (o : List ℕ) where
+module _ (outputs : Outputs) (arm : ℕ) (l : LatchView) (g : ControlFunction) (u : isUnanswered g ≡ false) (q time : ℕ) (o : List ℕ) where
   echo-form : (x : Form) → Echo x o (byForm x outputs arm l g q time o .echo)
   echo-form (Wrong y) = record { statuses = []; each = refl; is = refl }
-  echo-form (Objects w n) =
-      let cs : List Crob = crobs w n (drop (3 + w) o) in
-      let ss : List ℕ = statusesBy g outputs (operateStatus arm l q time o) cs in
-      let k : length ss ≡ length cs = length-by g outputs (operateStatus arm l q time o) cs in
-      record { statuses = ss; each = k; is = rw (u, take-all n ss (le-of-eq (k ∙ crobs-length w n (drop (3 + w) o)))) }
+  echo-form (Objects j w n) =
+      let cs : List ControlObject = objects j w n (drop (3 + w) o) in
+      let ss : List ℕ = statusesBy g outputs (operateStatus arm l (groupOf j) q time o) cs in
+      let k : length ss ≡ length cs = length-by g outputs (operateStatus arm l (groupOf j) q time o) cs in
+      record { statuses = ss; each = k; is = rw (u, take-all n ss (le-of-eq (k ∙ objects-length j w n (drop (3 + w) o)))) }
 
   echo-of : Echo (formed o) o (controlEffect outputs arm l g q time o .echo)
   unfolding controlEffect

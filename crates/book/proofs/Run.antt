@@ -119,7 +119,7 @@ stateAt clock held overflow session =
           record {
             armTime = 5000;
             confirmTime = 5000;
-            outputs = 16;
+            outputs = record { relays = 16; analog = [] };
             clock = clock;
             inputs = record { binaries = record { class = 1; seen = true; state = true; flags = 1; «reported_flags» = 1 } ∷ []; analogs = [] };
           };
@@ -160,9 +160,9 @@ pub counted-at : (clock : ℕ) (held : List Held) (overflow restarted : Bool) (w
     → length (bytesOf m) ≤ fragmentMax → length (keptAnswer m) ≤ answerMax
     → CountsWithin (outstationFor (stateAt clock held overflow (sessionWith restarted wait m)))
 counted-at clock held overflow restarted wait nothing e f a =
-    record { binaries = omega arith; analogs = omega arith; events = e; request = omega arith; answer = omega arith; objects = omega arith }
+    record { binaries = omega arith; analogs = omega arith; events = e; request = omega arith; answer = omega arith; objects = omega arith; outputs = omega arith }
 counted-at clock held overflow restarted wait (kept g b) e f a =
-    record { binaries = omega arith; analogs = omega arith; events = e; request = f; answer = a; objects = omega arith }
+    record { binaries = omega arith; analogs = omega arith; events = e; request = f; answer = a; objects = omega arith; outputs = omega arith }
 
 -- each of these states has its head and memory
 coded-events : (carried : Bool) (n time : ℕ) (on : Bool) (l : List Held) → time + n ≤ 2 ^ 48 → Coded l → Coded (events carried n time on ++ l)
@@ -179,16 +179,16 @@ coded-256 carried = coded-events carried 226 1 true newest (omega arith) coded-n
 pub fits-at : (clock : ℕ) (held : List Held) (overflow restarted : Bool) (wait : D.Wait) (m : LastRequestView) → length held ≤ eventsMax → Coded held
     → Fits (stateAt clock held overflow (sessionWith restarted wait m))
 unfolding binariesIn records tab chunk binaryOf
-fits-at clock held overflow restarted wait m few coded = record { binaries = refl; analogs = refl; events = coded; few = few; latch = refl }
+fits-at clock held overflow restarted wait m few coded = record { binaries = refl; analogs = refl; outputs = refl; events = coded; few = few; latch = refl }
 
 pub fits-restarted : Fits (restarted oneBinary)
-unfolding restarted U.binaryClasses U.analogSetups binariesIn records tab chunk binaryOf
-fits-restarted = record { binaries = refl; analogs = refl; events = none-coded; few = omega arith; latch = refl }
+unfolding restarted U.binaryClasses U.analogSetups U.analogOutputs binariesIn records tab chunk binaryOf
+fits-restarted = record { binaries = refl; analogs = refl; outputs = refl; events = none-coded; few = omega arith; latch = refl }
 
 -- ---- each step
 
 pub by-table : step (table readings) (restarted oneBinary) ≡ record { state = w₁; answer = took 258 4 }
-unfolding restarted U.binaryClasses U.analogSetups S.step S.tableFrom S.takenWith S.raise R.applyReading R.badTime P.readBinary P.isReported P.isRaised K.pushed
+unfolding restarted U.binaryClasses U.analogSetups U.analogOutputs S.step S.tableFrom S.takenWith S.raise R.applyReading R.badTime P.readBinary P.isReported P.isRaised K.pushed
 by-table = refl
 
 abbrev pub class1 : Classes

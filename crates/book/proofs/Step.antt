@@ -14,9 +14,9 @@ use Rattle.laws.specs.Limits.{fragmentMax, eventsMax}
 use Rattle.laws.specs.Outcome.{Outcome, accepted, refused}
 use Rattle.laws.specs.Lists.{count, isNil, member, same}
 use Rattle.application.specs.Fragment.{functionOf, objectsOf}
-use Rattle.control.specs.declared.Crob.{Crob}
+use Rattle.control.specs.declared.ControlObject.{ControlObject}
 use Rattle.control.specs.Objects.{formed}
-use Rattle.control.specs.Status.{echoWith}
+use Rattle.control.specs.Status.{Outputs, echoWith}
 use Rattle.select_latch.specs.Select.{LatchView, noSelect}
 use Rattle.last_request.specs.Repeat.{LastRequestView, nothing, kept, isRepeat, keptAnswer}
 use Rattle.events.specs.declared.Event.{Event}
@@ -25,7 +25,7 @@ use Rattle.events.specs.BufferView.{pushed, newly, marked}
 use Rattle.event_objects.specs.Events.{eventsBytes}
 use Rattle.static_objects.specs.Static.{staticBytes}
 use Rattle.read_headers.specs.declared.Header.{Header}
-use Rattle.outstation.specs.Setup.{Setup}
+use Rattle.outstation.specs.Setup.{Setup, outputsSetUp}
 use Rattle.outstation.specs.declared.Reading.{Reading}
 use Rattle.outstation.specs.declared.Wait as D
 use Rattle.outstation.specs.declared.Wait.the-variants.{Idle, Awaiting}
@@ -49,7 +49,7 @@ use Rattle.book.proofs.Requests.{Bears, effect-bears, response-long, re
 -- what the book does not keep; shown: whether the awaited response showed IIN2.3
 pub record Extra : Type 0 where
   pub armTime : ℕ
-  pub outputs : ℕ
+  pub outputs : Outputs
   pub restarted : Bool
   pub last : LastRequestView
   pub latch : LatchView
@@ -236,7 +236,7 @@ read-stored : (f answer : List ℕ) (a : Answer) → eqb (functionOf f) 1 ≡ tr
 read-stored f answer a t = λ e. absurd (let g : true ≡ false = sym t ∙ e in let z : _≡_ {A = ℕ} 0 1 = cc in omega arith)
 
 -- the response's IIN2.3 is the overflow
-response-of : (h : List HistoryEntry) (q : ℕ) (d : RequestEffect) (operated : List Crob) → ((d .buffer .overflow ≡ true) ↔ Pending h)
+response-of : (h : List HistoryEntry) (q : ℕ) (d : RequestEffect) (operated : List ControlObject) → ((d .buffer .overflow ≡ true) ↔ Pending h)
     → Response h (answers (S.responseBytes q d) operated)
 response-of h q d operated p =
     record {
@@ -246,7 +246,7 @@ response-of h q d operated p =
       overflow = rw (response-bit q (d .con) (S.indications d) (d .fault) (d .objects)) p;
     }
 
-building-of : (h : List HistoryEntry) (q : ℕ) (d : RequestEffect) (operated : List Crob) (o : List ℕ) → d .objects ≡ o
+building-of : (h : List HistoryEntry) (q : ℕ) (d : RequestEffect) (operated : List ControlObject) (o : List ℕ) → d .objects ≡ o
     → ((d .buffer .overflow ≡ true) ↔ Pending h) → Building h (answers (S.responseBytes q d) operated) o
 unfolding response-of
 building-of h q d operated o e p =
@@ -257,7 +257,7 @@ building-of h q d operated o e p =
     }
 
 -- its objects are those that the book says
-told-of : (h : List HistoryEntry) (last : Answer) (rows : List Row) (answer : BookAnswer) (q : ℕ) (d : RequestEffect) (operated : List Crob) → Bears answer (d .objects)
+told-of : (h : List HistoryEntry) (last : Answer) (rows : List Row) (answer : BookAnswer) (q : ℕ) (d : RequestEffect) (operated : List ControlObject) → Bears answer (d .objects)
     → ((d .buffer .overflow ≡ true) ↔ Pending h)
     → (keptBy answer last (answers (S.responseBytes q d) operated) ≡ answers (S.responseBytes q d) operated)
     × AnswerAgrees h last rows answer (answers (S.responseBytes q d) operated)
@@ -456,7 +456,7 @@ start-ok u =
       extra =
           record {
             armTime = u .«arm_time»;
-            outputs = u .outputs;
+            outputs = outputsSetUp u;
             restarted = true;
             last = nothing;
             latch = noSelect;

@@ -257,7 +257,7 @@ pub record Witness (u : Setup) (o : Outstation) (cs : List Call) (l : List Answe
   pub released : count rowReleased (bookAfter cs (bookOf u) .master .rows) ≡ 226
 
 pub witness : Witness oneBinary (outstationFor (restarted oneBinary)) calls ans (outstationFor w₇)
-unfolding setupOk U.binaryClasses U.analogSetups
+unfolding setupOk U.binaryClasses U.analogSetups U.analogOutputs
 witness =
     record {
       accepted = refl;

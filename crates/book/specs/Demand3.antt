@@ -9,8 +9,8 @@ use mathlib.Core.List.{List, [], _∷_, _++_, map, List·Memᴰ}
 use lib.ListN.{length, getD, drop}
 use Rattle.laws.specs.Limits.{eventsMax}
 use Rattle.laws.specs.Lists.{filter, count, member}
-use Rattle.control.specs.declared.Crob.{Crob}
-use Rattle.control.specs.Objects.{formed, crobsBy}
+use Rattle.control.specs.declared.ControlObject.{ControlObject}
+use Rattle.control.specs.Objects.{formed, objectsBy}
 use Rattle.control.specs.Status.{echoWith}
 use Rattle.events.specs.declared.Event.{Event}
 use Rattle.events.specs.declared.Held.{Held}
@@ -50,7 +50,7 @@ overflowBit bytes = eqb (getD bytes 3 0 / 8 % 2) 1
 -- a response newly built: its IIN2.3 stood exactly when Pending, h the history before the call
 pub record Response (h : List HistoryEntry) (a : Answer) : Type 0 where
   pub bytes : List ℕ
-  pub operated : List Crob
+  pub operated : List ControlObject
   pub is : a ≡ answers bytes operated
   pub overflow : (overflowBit bytes ≡ true) ↔ Pending h
 
@@ -63,12 +63,12 @@ pub record Building (h : List HistoryEntry) (a : Answer) (o : List ℕ) : Type 0
 -- a control request's, o its object bytes: "The answer echoes header and objects with status"; a wrong form has no objects
 pub record Echoing (h : List HistoryEntry) (a : Answer) (o : List ℕ) : Type 0 where
   pub statuses : List ℕ
-  pub each : length statuses ≡ length (crobsBy (formed o) o)
+  pub each : length statuses ≡ length (objectsBy (formed o) o)
   pub building : Building h a (echoWith (formed o) statuses o)
 
 -- function 6
 pub record Unanswered (a : Answer) : Type 0 where
-  pub operated : List Crob
+  pub operated : List ControlObject
   pub is : a ≡ silent operated
 
 -- a repeat: "the same answer again, nothing done", so nothing is handed to the host

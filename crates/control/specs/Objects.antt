@@ -3,7 +3,7 @@
 -- Assumes nothing.
 use mathlib.Core.Path.{_≡_}
 use Prim.Native.Nat.{ℕ, zero, suc, _+_}
-use mathlib.Core.Bool.{Bool, not, cond}
+use mathlib.Core.Bool.{Bool, true, false, not, cond}
 use mathlib.Core.List.{List, [], _∷_}
 use lib.ListN.{length, getD, take, drop}
 use lib.Dec.{ltb, leb, eqb}
@@ -101,6 +101,11 @@ commandAt K.Int32 at b = C.AnalogOutput (Vs.Int32 (toZ w32 (valueAt 4 at b)))
 commandAt K.Int16 at b = C.AnalogOutput (Vs.Int16 (toZ w16 (valueAt 2 at b)))
 commandAt K.Float32 at b = C.AnalogOutput (Vs.Float32 (ofBits binary32 (valueAt 4 at b)))
 
+-- it is asked of a relay
+abbrev pub forCrob : Command → Bool
+forCrob (C.Crob c) = true
+forCrob (C.AnalogOutput v) = false
+
 -- index, what is asked, status
 abbrev pub objectAt : ObjectKind → ℕ → List ℕ → ControlObject
 objectAt k w b = record { index = valueAt w 0 b; status = getD b (w + valueSize k) 0; command = commandAt k w b }
@@ -123,6 +128,13 @@ listOf c = take (c .count) (c .items)
 pub record Holding (c : ControlObjects) (xs : List ControlObject) : Type 0 where
   pub objects : listOf c ≡ xs
   pub count : c .count ≡ length xs
+
+-- for a relay, or for an analog output
+abbrev pub isCrob : ControlObject → Bool
+isCrob c = forCrob (c .command)
+
+abbrev pub isAnalogOutput : ControlObject → Bool
+isAnalogOutput c = not (forCrob (c .command))
 
 abbrev pub noObject : ControlObject
 noObject = record { index = 0; status = 0; command = C.Crob (record { code = 0; count = 0; «on_time» = 0; «off_time» = 0 }) }

@@ -4,8 +4,9 @@ use Prim.Native.Nat.{ℕ}
 use mathlib.Core.Path.{_≡_, refl, sym, ap, subst, _∙_}
 use mathlib.Core.List.{List}
 use lib.ListN.{length}
-use Rattle.control.specs.declared.Crob.{Crob}
+use Rattle.control.specs.declared.ControlObject.{ControlObject}
 use Rattle.control.specs.Objects.{listOf}
+use Rattle.control.specs.Status.{Outputs}
 use Rattle.last_request.specs.Requests.{Request}
 use Rattle.outstation.specs.Lent.{Outstation, outstationView}
 use Rattle.outstation.specs.Step.{Call, fragment, Answer, Result, handed, step}
@@ -27,7 +28,7 @@ module _ (o : Outstation) (time : ℕ) (f lent after : List ℕ) (r : Answered) 
   given-handed = g .operated .objects
 
   given-counted : r .operated .count ≡ length (listOf (r .operated))
-  given-counted = g .operated .count ∙ sym (ap (λ (l : List Crob). length l) (g .operated .objects))
+  given-counted = g .operated .count ∙ sym (ap (λ (l : List ControlObject). length l) (g .operated .objects))
 
   -- what the struct holds is what the answer hands over
   given-over : listOf (r .operated) ≡ handed (fragmentAnswer r after)
@@ -42,7 +43,7 @@ gives-step o o₁ c a (gaveTable d) = did-step o o₁ c a d
 gives-step o o₁ c a (gaveFragment {time} {f} r lent after g) = given-step o time f lent after r g
 
 -- what is told of the answer's objects holds of those handed over
-pub gives-handing : (outputs arm : ℕ) (h : List Request) (o o₁ : Outstation) (c : Call) (a : Answer) (g : Gives o c a o₁)
+pub gives-handing : (outputs : Outputs) (arm : ℕ) (h : List Request) (o o₁ : Outstation) (c : Call) (a : Answer) (g : Gives o c a o₁)
     → Handing outputs arm h (requestOf c (outstationView o)) a (handed a) → Handing outputs arm h (requestOf c (outstationView o)) a (handedOver g)
 unfolding requestOf
 gives-handing outputs arm h o o₁ c a (gaveReading d) x = record { reply = x .reply; none = refl }

@@ -12,6 +12,7 @@ use Rattle.laws.specs.Outcome.{Outcome, accepted, refused}
 use Rattle.laws.proofs.SameLaws.{same-refl}
 use Rattle.application.specs.Fragment as F
 use Rattle.application.specs.Fragment.{classified, functionOf, sequenceOf, controlOf, isConfirm, objectsOf}
+use Rattle.control.specs.Status.{Outputs}
 use Rattle.select_latch.specs.Select.{LatchView, noSelect}
 use Rattle.events.specs.BufferView.{BufferView, pushed, released}
 use Rattle.events.specs.declared.Event.{Event}
@@ -25,7 +26,7 @@ use Rattle.last_request.proofs.Controls.{controls-safe}
 use Rattle.outstation.specs.declared.Reading.{Reading}
 use Rattle.outstation.specs.declared.Wait.{Wait}
 use Rattle.outstation.specs.declared.Wait.the-variants.{Idle, Awaiting}
-use Rattle.outstation.specs.Setup.{Setup}
+use Rattle.outstation.specs.Setup.{Setup, analogOutputs, outputsSetUp}
 use Rattle.outstation.specs.OutstationView.{OutstationView, MasterView, withMaster, restarted}
 use Rattle.outstation.specs.Readings.{badTime, ReadingEffect, applyReading}
 use Rattle.outstation.specs.Requests.{Ask, malformed, confirms, asks, ask, readAsk, isConfirmed}
@@ -51,7 +52,7 @@ effect-acts w r n =
     (λ d. rw d (by (eqb n 6) (λ e. rw e) (λ e. rw e)))))))))
 
 -- a READ is no repeat, hands over nothing and empties the latch
-read-acts : (outputs arm : ℕ) (l : LatchView) (r : Request) → functionIn r ≡ 1 → acted outputs arm l r ≡ record { carried = []; latch = noSelect }
+read-acts : (outputs : Outputs) (arm : ℕ) (l : LatchView) (r : Request) → functionIn r ≡ 1 → acted outputs arm l r ≡ record { carried = []; latch = noSelect }
 unfolding acted
 read-acts outputs arm l r f = rw f
 
@@ -66,7 +67,7 @@ kept-again : (f answer : List ℕ) → (functionOf f ≡ 1 → ⊥) → isRepeat
 unfolding isRepeat
 kept-again f answer n = rw (ne-eqb (functionOf f) 1 n, same-refl f)
 
-module _ (outputs arm : ℕ) where
+module _ (outputs : Outputs) (arm : ℕ) where
   -- the request that is kept has the bytes of the latest
   latest-again : (p : Request) (h : List Request) → (functionIn p ≡ 1 → ⊥) → isRepeat (rememberedAfter outputs arm (p ∷ h) .last) (p .bytes) ≡ true
   unfolding rememberedAfter
@@ -117,7 +118,7 @@ ask-split P i f m d r o =
     (λ t. rw t (by (isConfirm f) (λ c. rw c (d (sequenceOf (controlOf f)) (eqb (F.unsOf (controlOf f)) 1)))
     (λ c. rw c (by (eqb (functionOf f) 1) (λ e. rw e (r e (sequenceOf (controlOf f)) (askedOf i (objectsOf f)))) (λ e. rw e o)))))
 
-module _ (outputs arm : ℕ) where
+module _ (outputs : Outputs) (arm : ℕ) where
   abbrev pub view : List Request → Extra → OutstationView
   view h x =
       record {
@@ -320,7 +321,7 @@ module _ (outputs arm : ℕ) where
   pub step-ok : (c : Call) (w : OutstationView) (h : List Request) → Sim w h → Does h (requestOf c w) (S.step c w)
   step-ok c w h m = rw (m .is) (step-view h (m .extra) (m .since) c)
 
-pub start-ok : (u : Setup) → Sim (u .outputs) (u .«arm_time») (restarted u) []
+pub start-ok : (u : Setup) → Sim (outputsSetUp u) (u .«arm_time») (restarted u) []
 unfolding restarted rememberedAfter
 start-ok u =
     record {

@@ -3,9 +3,11 @@
 use mathlib.Core.Path.{_≡_, refl, sym, ap, _∙_}
 use mathlib.Core.List.{List, [], _∷_, _++_, append-nil, append-assoc}
 use Prim.Native.Nat.{ℕ}
-use Rattle.control.specs.declared.Crob.{Crob}
+use Rattle.control.specs.declared.ControlObject.{ControlObject}
+use Rattle.control.specs.Status.{Outputs}
 use Rattle.last_request.specs.Requests.{Request, outcome}
 use Rattle.last_request.proofs.Controls.{controls-safe}
+use Rattle.outstation.specs.Setup.{outputsSetUp}
 use Rattle.outstation.specs.OutstationView.{OutstationView, restarted}
 use Rattle.outstation.specs.Lent.{Outstation, outstationView}
 use Rattle.outstation.specs.Step.{Call, Answer, Result, step}
@@ -13,10 +15,11 @@ use Rattle.book.specs.Demand3.{Ran, none, more}
 use Rattle.operate_safety.specs.Operated.{requestOf, requestsAfter, requestsOf, Gives, handedOver, allHanded, Handing, OperatedOnlySelected}
 use Rattle.operate_safety.proofs.Steps.{Sim, Does, step-ok, start-ok}
 use Rattle.operate_safety.proofs.Gives.{gives-step, gives-handing, gives-counted}
+use Rattle.operate_safety.proofs.Apart.{handing-apart}
 
-module _ (outputs arm : ℕ) where
+module _ (outputs : Outputs) (arm : ℕ) where
   -- what a call hands over is what its requests add
-  adds : (h rs : List Request) (a : Answer) (over : List Crob) → Handing outputs arm h rs a over
+  adds : (h rs : List Request) (a : Answer) (over : List ControlObject) → Handing outputs arm h rs a over
       → outcome outputs arm (rs ++ h) ≡ outcome outputs arm h ++ over
   unfolding outcome
   adds h [] a over x = rw (x .none) (sym (append-nil (outcome outputs arm h)))
@@ -24,11 +27,11 @@ module _ (outputs arm : ℕ) where
   adds h (r ∷ s ∷ rs) a over x = absurd x
 
   -- after a list of calls that handed over these objects
-  pub record Kept (h : List Request) (cs : List Call) (over : List Crob) (w w₂ : OutstationView) : Type 0 where
+  pub record Kept (h : List Request) (cs : List Call) (over : List ControlObject) (w w₂ : OutstationView) : Type 0 where
     pub sim : Sim outputs arm w₂ (requestsAfter cs w h)
     pub total : outcome outputs arm (requestsAfter cs w h) ≡ outcome outputs arm h ++ over
 
-  one-more : (h : List Request) (c : Call) (cs : List Call) (a : Answer) (over rest : List Crob) (w w₁ w₂ : OutstationView)
+  one-more : (h : List Request) (c : Call) (cs : List Call) (a : Answer) (over rest : List ControlObject) (w w₁ w₂ : OutstationView)
       → Handing outputs arm h (requestOf c w) a over → w₁ ≡ step c w .state → Kept (requestOf c w ++ h) cs rest w₁ w₂
       → Kept h (c ∷ cs) (over ++ rest) w w₂
   one-more h c cs a over rest w w₁ w₂ x s k =
@@ -36,7 +39,7 @@ module _ (outputs arm : ℕ) where
         sim = rw (← s) (k .sim);
         total =
             rw (← s)
-            (k .total ∙ ap (λ (l : List Crob). l ++ rest) (adds h (requestOf c w) a over x)
+            (k .total ∙ ap (λ (l : List ControlObject). l ++ rest) (adds h (requestOf c w) a over x)
             ∙ append-assoc (outcome outputs arm h) over rest);
       }
 
@@ -66,9 +69,13 @@ module _ (outputs arm : ℕ) where
 pub operated-only-selected : OperatedOnlySelected
 unfolding outcome
 operated-only-selected u o o₂ cs ans f e run =
-    let k = from-start (u .outputs) (u .«arm_time») (restarted u) (start-ok u) e run in
+    let k = from-start (outputsSetUp u) (u .«arm_time») (restarted u) (start-ok u) e run in
     record {
-      next = λ c a o₃ g. next-hands (u .outputs) (u .«arm_time») o₂ o₃ c a (requestsOf u cs) (k .sim) g;
+      next = λ c a o₃ g. next-hands (outputsSetUp u) (u .«arm_time») o₂ o₃ c a (requestsOf u cs) (k .sim) g;
       counted = λ c a o₃ g. gives-counted o₂ o₃ c a g;
-      once = sym (k .total) ∙ sym (controls-safe (u .outputs) (u .«arm_time») .once (requestsOf u cs) .1);
+      apart =
+          λ c a o₃ g.
+          handing-apart (outputsSetUp u) (u .«arm_time») (requestsOf u cs) (requestOf c (outstationView o₂)) a (handedOver g)
+          (next-hands (outputsSetUp u) (u .«arm_time») o₂ o₃ c a (requestsOf u cs) (k .sim) g);
+      once = sym (k .total) ∙ sym (controls-safe (outputsSetUp u) (u .«arm_time») .once (requestsOf u cs) .1);
     }

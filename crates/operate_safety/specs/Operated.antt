@@ -1,21 +1,25 @@
--- What is handed to the host over every list of calls: on OPERATE only what was selected, on a repeat or by any other call nothing.
+-- What is handed to the host over every list of calls, relays' objects and analog outputs': on OPERATE only what was selected, on a repeat or
+-- by any other call nothing.
 -- Assumes nothing.
 use Prim.Native.Nat.{ℕ, _+_}
 use mathlib.Core.Path.{_≡_}
+use mathlib.Core.Logic.{_⊎_}
 use mathlib.Core.Bool.{Bool, true, false, cond}
 use mathlib.Core.List.{List, [], _∷_, _++_}
 use lib.Dec.{eqb, ltb}
 use lib.ListN.{length, drop}
 use Rattle.laws.specs.First.{first, _⇒_}
+use Rattle.laws.specs.Lists.{filter}
 use Rattle.laws.specs.Limits.{fragmentMax}
 use Rattle.application.specs.Fragment.{objectsOf}
-use Rattle.control.specs.declared.Crob.{Crob}
-use Rattle.control.specs.Objects.{crobs, listOf}
+use Rattle.control.specs.declared.ControlObject.{ControlObject}
+use Rattle.control.specs.Objects.{objects, isCrob, isAnalogOutput, listOf}
+use Rattle.control.specs.Status.{Outputs}
 use Rattle.last_request.specs.Requests as Q
 use Rattle.last_request.specs.Requests.{Request, functionIn, objectsIn, InOrder, repeated, outcome, newRequests}
 use Rattle.last_request.specs.Operates.{Allowed}
 use Rattle.outstation.specs.declared.Reading.{Reading}
-use Rattle.outstation.specs.Setup.{Setup, setupOk}
+use Rattle.outstation.specs.Setup.{Setup, setupOk, outputsSetUp}
 use Rattle.outstation.specs.OutstationView.{OutstationView, restarted}
 use Rattle.outstation.specs.Lent.{Outstation, outstationView}
 use Rattle.outstation.specs.Readings.{badTime}
@@ -71,7 +75,7 @@ pub data Gives : Outstation → Call → Answer → Outstation → Type 0 where
       → Gives o (fragment time f (length lent)) (fragmentAnswer r after) (r .state)
 
 -- "To carry out is to hand the objects to the host in the call's result, in the order asked"
-abbrev pub handedOver : {o o₁ : Outstation} {c : Call} {a : Answer} → Gives o c a o₁ → List Crob
+abbrev pub handedOver : {o o₁ : Outstation} {c : Call} {a : Answer} → Gives o c a o₁ → List ControlObject
 handedOver (gaveReading d) = []
 handedOver (gaveTable d) = []
 handedOver (gaveFragment r lent after g) = listOf (r .operated)
@@ -83,7 +87,7 @@ handedCount (gaveTable d) = 0
 handedCount (gaveFragment r lent after g) = r .operated .count
 
 -- all that a list of calls handed over
-abbrev pub allHanded : {o o₂ : Outstation} {cs : List Call} {ans : List Answer} → Ran Outstation Gives o cs ans o₂ → List Crob
+abbrev pub allHanded : {o o₂ : Outstation} {cs : List Call} {ans : List Answer} → Ran Outstation Gives o cs ans o₂ → List ControlObject
 allHanded none = []
 allHanded (more g rest) = handedOver g ++ allHanded rest
 
@@ -98,12 +102,12 @@ isReply accepts = false
 isReply (refuses n) = false
 
 -- a call that is no accepted request (a reading, a table, a CONFIRM, every refused fragment), answered a: "no other call hands it any"
-pub record HandsNone (a : Answer) (over : List Crob) : Type 0 where
+pub record HandsNone (a : Answer) (over : List ControlObject) : Type 0 where
   pub reply : isReply a ≡ false
   pub none : over ≡ []
 
 -- a call that is the accepted request r, answered a
-pub record Hands (outputs arm : ℕ) (h : List Request) (r : Request) (a : Answer) (over : List Crob) : Type 0 where
+pub record Hands (outputs : Outputs) (arm : ℕ) (h : List Request) (r : Request) (a : Answer) (over : List ControlObject) : Type 0 where
   pub reply : isReply a ≡ true
   -- no request came earlier than the one before it
   pub ordered : InOrder (r ∷ h)
@@ -114,7 +118,7 @@ pub record Hands (outputs arm : ℕ) (h : List Request) (r : Request) (a : Answe
   pub selected : functionIn r ≡ 4 → (over ≡ [] → ⊥) → Allowed outputs arm h r
   -- and then, where it is no repeat, it hands over all its objects in the order asked
   pub whole : functionIn r ≡ 4 → repeated outputs arm h r ≡ false → (s : Allowed outputs arm h r)
-      → over ≡ crobs (s .selects .width) (s .selects .count) (drop (3 + s .selects .width) (objectsIn r))
+      → over ≡ objects (s .selects .kind) (s .selects .width) (s .selects .count) (drop (3 + s .selects .width) (objectsIn r))
   -- a request equal in every byte to the one before it, not a READ, hands over nothing
   pub again : (p : Request) (earlier : List Request) → h ≡ p ∷ earlier → r .bytes ≡ p .bytes → (functionIn r ≡ 1 → ⊥) → over ≡ []
   pub repeats : repeated outputs arm h r ≡ true → over ≡ []
@@ -122,20 +126,26 @@ pub record Hands (outputs arm : ℕ) (h : List Request) (r : Request) (a : Answe
   pub others : (functionIn r ≡ 4 → ⊥) → (functionIn r ≡ 5 → ⊥) → (functionIn r ≡ 6 → ⊥) → over ≡ []
 
 -- by the requests that the call is: none or one
-abbrev pub Handing : (outputs arm : ℕ) → List Request → List Request → Answer → List Crob → Type 0
+abbrev pub Handing : (outputs : Outputs) (arm : ℕ) → List Request → List Request → Answer → List ControlObject → Type 0
 Handing outputs arm h [] a over = HandsNone a over
 Handing outputs arm h (r ∷ []) a over = Hands outputs arm h r a over
 Handing outputs arm h (r ∷ s ∷ rs) a over = ⊥
+
+-- all objects are relays', or all are analog outputs' (document 02, 109)
+abbrev pub Apart : List ControlObject → Type 0
+Apart over = (filter isCrob over ≡ []) ⊎ (filter isAnalogOutput over ≡ [])
 
 -- what is said after a list of calls that left o₂
 pub record Operated (u : Setup) (o o₂ : Outstation) (cs : List Call) (ans : List Answer) (run : Ran Outstation Gives o cs ans o₂) : Type 0 where
   -- of any further call c
   pub next : (c : Call) (a : Answer) (o₃ : Outstation) (g : Gives o₂ c a o₃)
-      → Handing (u .outputs) (u .«arm_time») (requestsOf u cs) (requestOf c (outstationView o₂)) a (handedOver g)
+      → Handing (outputsSetUp u) (u .«arm_time») (requestsOf u cs) (requestOf c (outstationView o₂)) a (handedOver g)
   -- and its result says how many it hands over
   pub counted : (c : Call) (a : Answer) (o₃ : Outstation) (g : Gives o₂ c a o₃) → handedCount g ≡ length (handedOver g)
+  -- relays' objects or analog outputs', never both
+  pub apart : (c : Call) (a : Answer) (o₃ : Outstation) (g : Gives o₂ c a o₃) → Apart (handedOver g)
   -- all that was handed over is what the requests without their repeats hand over: nothing is carried out twice
-  pub once : allHanded run ≡ outcome (u .outputs) (u .«arm_time») (newRequests (u .outputs) (u .«arm_time») (requestsOf u cs))
+  pub once : allHanded run ≡ outcome (outputsSetUp u) (u .«arm_time») (newRequests (outputsSetUp u) (u .«arm_time») (requestsOf u cs))
 
 -- demand 2: from any accepted setup's restart, over every list of calls of the outstation's functions
 abbrev pub OperatedOnlySelected : Type 0

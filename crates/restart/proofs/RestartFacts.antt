@@ -7,22 +7,22 @@ use native.Mathlib.Omega.{arith}
 use mathlib.Core.Bool.{Bool, true, false, false≢true, _&&_}
 use mathlib.Core.List.{List, map}
 use lib.Dec.{eqb, ltb}
-use lib.ListN.{length, take, getD, set}
+use lib.ListN.{length, getD, set}
 use borrow.Author.Tests.{ltb-true, ltb-false}
 use Rattle.laws.specs.Lists.{all}
 use Rattle.laws.specs.Limits.{pointsMax}
 use Rattle.laws.proofs.Tests.{both-true}
 use Rattle.points.specs.declared.AnalogPoint.{AnalogPoint}
-use Rattle.points.specs.Setup.{analogOk, freshBinary, freshAnalog}
+use Rattle.points.specs.Setup.{analogOk, freshAnalog}
 use Rattle.outstation.specs.Setup.{setupOk}
-use Rattle.point_store.specs.PointWords.{binariesIn, analogsIn}
+use Rattle.point_store.specs.PointWords.{analogsIn}
 use Rattle.point_store.proofs.PointLaws.{analogs-length}
 use Rattle.restart.specs.declared.SetupWords.{SetupWords}
 use Rattle.restart.specs.declared.AnalogSetupWords.{AnalogSetupWords}
 use Rattle.restart.specs.declared.RestartProgress.{RestartProgress}
-use Rattle.restart.specs.Restart.{analogSetupOf, setupOf, frontOk, beginRestart, analogsLeft, progressAfter, addAnalog, finishRestart, RestartHolds}
+use Rattle.restart.specs.Restart.{analogSetupOf, setupOf, frontOk, Fresh, beginRestart, analogsLeft, progressAfter, addAnalog, finishRestart, RestartHolds}
 use Rattle.restart.proofs.StoringLaws.{Storing, storing-start, storing-more, storing-fails, storing-end}
-use Rattle.restart.proofs.SetupLaws.{setup-and, few-classes, few-analogs, fresh-view, bare-view, fresh-counted}
+use Rattle.restart.proofs.SetupLaws.{setup-and, few-classes, few-analogs, few-given, fresh-view, bare-view, fresh-counted}
 
 -- whether an analog setup is good, and its fresh point
 abbrev good : AnalogSetupWords → Bool
@@ -30,10 +30,6 @@ good w = analogOk (analogSetupOf w)
 
 abbrev point : AnalogSetupWords → AnalogPoint
 point w = freshAnalog (analogSetupOf w)
-
--- what is said of the binaries' words
-abbrev pub Fresh : SetupWords → List ℕ → ℕ → List ℕ → Type 0
-Fresh s classes m bs = frontOk s classes m ≡ true → take (length classes) (binariesIn bs) ≡ map freshBinary classes
 
 -- a walk of xs stands at g and the words ps: k analogs are stored, and those to come decide; once refused, the setup breaks a limit
 pub record Stands (s : SetupWords) (classes : List ℕ) (xs : List AnalogSetupWords) (g : RestartProgress) (ps : List ℕ) (k : ℕ) : Type 0 where
@@ -103,11 +99,12 @@ module _ (s : SetupWords) (classes : List ℕ) (xs : List AnalogSetupWords) wher
         goes-on = goes-on-at (good w) refl
 
     -- where no more is to be stored, the answer is given
-    pub is-over : (bs : List ℕ) → Fresh s classes (length xs) bs → analogsLeft g (length xs) ≡ false
-        → RestartHolds s classes xs (finishRestart s (length classes) g .refusal) (finishRestart s (length classes) g .head) bs ps
-    is-over bs fresh e = by-refusal (eqb (g .refusal) 0) refl
+    pub is-over : (bs os : List ℕ) → Fresh s classes (length xs) bs os → analogsLeft g (length xs) ≡ false
+        → RestartHolds s classes xs (finishRestart s (length classes) g .refusal) (finishRestart s (length classes) g .head) bs ps os
+    is-over bs os fresh e = by-refusal (eqb (g .refusal) 0) refl
       where
-        by-refusal : (b : Bool) → eqb (g .refusal) 0 ≡ b → RestartHolds s classes xs (finishRestart s (length classes) g .refusal) (finishRestart s (length classes) g .head) bs ps
+        by-refusal : (b : Bool) → eqb (g .refusal) 0 ≡ b
+            → RestartHolds s classes xs (finishRestart s (length classes) g .refusal) (finishRestart s (length classes) g .head) bs ps os
         by-refusal true z =
             let far : length xs ≤ k = rw (← (st .here z)) (ltb-false _ _ (rw z at e)) in
             let done = storing-end good point xs (analogsIn ps) k (st .stored z) far in
@@ -116,16 +113,16 @@ module _ (s : SetupWords) (classes : List ℕ) (xs : List AnalogSetupWords) wher
             rw (z, all-of)
             (record {
               answer = rw right;
-              state = λ m. rw right (fresh-view s classes xs bs ps m (fresh (st .front z)) (done .1));
+              state = λ m. rw right (fresh-view s classes xs bs ps os m (fresh .binaries (st .front z)) (done .1) (fresh .outputs (st .front z)));
               counted =
                   λ m.
-                  fresh-counted (s .«arm_time») (s .«confirm_time») (s .outputs) (length classes) (length xs)
-                  (few-classes s classes (length xs) (st .front z)) (few-analogs s classes (length xs) (st .front z));
+                  fresh-counted (s .«arm_time») (s .«confirm_time») (s .outputs) (s .«analog_output_count») (length classes) (length xs)
+                  (few-given s classes (length xs) (st .front z)) (few-classes s classes (length xs) (st .front z)) (few-analogs s classes (length xs) (st .front z));
             })
         by-refusal false z =
             rw z
             (record {
               answer = rw (st .over z);
-              state = λ m. rw (st .over z) (bare-view bs ps m);
-              counted = λ m. fresh-counted 0 0 0 0 0 (omega arith) (omega arith);
+              state = λ m. rw (st .over z) (bare-view bs ps os m);
+              counted = λ m. fresh-counted 0 0 0 0 0 0 (omega arith) (omega arith) (omega arith);
             })
