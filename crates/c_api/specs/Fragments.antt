@@ -4,7 +4,7 @@ use Prim.Native.Nat.{ℕ}
 use mathlib.Core.Path.{_≡_}
 use mathlib.Core.List.{List}
 use lib.ListN.{length}
-use Rattle.control.specs.Objects.{Holding}
+use Rattle.control_words.specs.Operated.{OperatedAs}
 use Rattle.outstation.specs.declared.Head.{Head}
 use Rattle.outstation.specs.Lent.{Lent, Outstation, outstationView, CountsWithin, viewOf}
 use Rattle.outstation.specs.Step.{Answer, took, answers, silent, accepts, refuses, handed, outputAfter, Result, fragment, step}
@@ -35,7 +35,7 @@ fragmentResult (refuses n) = record { length = 0; kind = 3; refusal = n }
 pub record HostMeets (o : Outstation) (r : AnswerWords) (m₁ : Lent) (before after : List ℕ) (x : Result) : Type 0 where
   pub state : outstationView (record { head = r .head; lent = m₁ }) ≡ x .state
   pub answer : r .answer ≡ fragmentResult (x .answer)
-  pub operated : Holding (r .operated) (handed (x .answer))
+  pub operated : OperatedAs (r .operated) (handed (x .answer))
   pub lent : after ≡ outputAfter before (x .answer)
   pub counted : CountsWithin o → CountsWithin (record { head = r .head; lent = m₁ })
 
