@@ -8,7 +8,7 @@
 #include "pomarisco.h"
 
 static struct pomarisco_outstation o;
-static struct pomarisco_crobs operated;
+static struct pomarisco_operated operated;
 static struct pomarisco_receiver receiver;
 static uint8_t out[POMARISCO_FRAGMENT];
 

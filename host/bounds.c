@@ -1,6 +1,6 @@
 /* What pomarisco.h says at its edges, from C: nothing lent as NULL, memory at any address up to the end of a page, a stack of POMARISCO_STACK
- * bytes, any content of the outstation, the receiver and the assembly, a segment heard twice, a line cut into any pieces, two threads, and that the
- * functions on an outstation do what the exported calls do. Ends with `N passed, M failed`. */
+ * bytes, any content of the outstation, its analog outputs, the receiver and the assembly, set points at the ends, a segment heard twice, a line cut into
+ * any pieces, two threads, and that the functions on an outstation do what the exported calls do. Ends with `N passed, M failed`. */
 #define _GNU_SOURCE
 #include <pthread.h>
 #include <stdio.h>
@@ -23,7 +23,7 @@ static void expect(int good, const char *what) {
     }
 }
 
-static const struct pomarisco_setup setup = {.arm_time = 5000, .confirm_time = 5000, .own = 1, .master = 2, .outputs = 16};
+static struct pomarisco_setup setup = {.arm_time = 5000, .confirm_time = 5000, .own = 1, .master = 2, .outputs = 16, .analog_output_count = POMARISCO_ANALOG_OUTPUTS};
 static const struct pomarisco_station station = {.own = 1, .master = 2};
 static uint8_t classes[POMARISCO_BINARIES];
 static struct pomarisco_analog_setup analogs[POMARISCO_ANALOGS];
@@ -32,12 +32,15 @@ static struct pomarisco_reading table[TABLE];
 static const uint8_t events[] = {0xC3, 0x01, 60, 2, 6, 60, 3, 6, 60, 4, 6, 60, 1, 6};
 static uint8_t longest_frame[POMARISCO_FRAME];
 static const uint8_t operate[] = {0xC4, 5, 12, 1, 0x17, 1, 5, 3, 1, 0, 0, 0, 0, 0, 0, 0, 0, 0};
+static const uint8_t set[] = {0xC5, 5, 41, 2, 0x17, 2, 4, 0x18, 0xFC, 0, 7, 0xE8, 3, 0}; /* analog outputs 4 and 7: -1,000 and 1,000, their ends */
 
 /* The same numbers throughout: the bytes between a struct's fields are nobody's. */
 static int same_state(const struct pomarisco_outstation *a, const struct pomarisco_outstation *b) {
     const size_t from = offsetof(struct pomarisco_outstation, events), to = offsetof(struct pomarisco_outstation, latch_objects) + sizeof a->latch_objects;
-    return memcmp(&a->head, &b->head, offsetof(struct pomarisco_head, latch_sequence) + 1) == 0 && memcmp((const uint8_t *)a + from, (const uint8_t *)b + from, to - from) == 0;
+    return memcmp(&a->head, &b->head, offsetof(struct pomarisco_head, latch_sequence) + 1) == 0 && a->head.analog_outputs == b->head.analog_outputs && memcmp((const uint8_t *)a + from, (const uint8_t *)b + from, to - from) == 0;
 }
+
+static size_t handed_over(const struct pomarisco_operated *o) { return o->crobs.count + o->analog_commands.count; }
 
 /* Memory that ends where a page begins that may not be touched. */
 static uint8_t *at_end(size_t n) {
@@ -47,8 +50,10 @@ static uint8_t *at_end(size_t n) {
     return room + size - n;
 }
 
-/* All points there can be, of every kind, and all held places used. */
+/* All points and outputs there can be, of every kind, and all held places used. */
 static int prepare(void) {
+    for (int i = 0; i < POMARISCO_ANALOG_OUTPUTS; i++)
+        setup.analog_outputs[i] = i % 3 == 0 ? pomarisco_output_32(-100000, 100000) : i % 3 == 1 ? pomarisco_output_16(-1000, 1000) : pomarisco_output_float(-1.5f, 1.5f);
     for (int i = 0; i < 64; i++) {
         classes[i] = (uint8_t)(1 + i % 3);
         analogs[i] = i % 3 == 0 ? pomarisco_point_32(1, POMARISCO_SUMMED, 5) : i % 3 == 1 ? pomarisco_point_16(1, POMARISCO_SUMMED, 5) : pomarisco_point_float(1, 2.5f, 0.25f, POMARISCO_SUMMED, 1.5f);
@@ -73,7 +78,7 @@ static int prepare(void) {
 static void null_pointers(void) {
     static uint8_t out[POMARISCO_FRAGMENT], before[POMARISCO_FRAGMENT];
     static struct pomarisco_outstation s, empty;
-    struct pomarisco_crobs operated;
+    struct pomarisco_operated operated;
     struct pomarisco_line line = {0};
     struct pomarisco_receiver receiver = {0}, begun = {0};
     struct pomarisco_assembly assembly = {0};
@@ -83,11 +88,11 @@ static void null_pointers(void) {
     memcpy(before, out, sizeof out);
     s = full;
     struct pomarisco_fragment_answer a = pomarisco_fragment(&s, 1000, NULL, 0, NULL, 0, &operated);
-    expect(a.refusal == 33 && a.kind == 3 && operated.count == 0, "fragment: NULL twice");
+    expect(a.refusal == 33 && a.kind == 3 && handed_over(&operated) == 0, "fragment: NULL twice");
     a = pomarisco_fragment(&s, 1000, events, sizeof events, NULL, 0, &operated);
-    expect(a.refusal == 33 && a.kind == 3 && operated.count == 0, "fragment: NULL for the answer");
+    expect(a.refusal == 33 && a.kind == 3 && handed_over(&operated) == 0, "fragment: NULL for the answer");
     a = pomarisco_fragment(&s, 1000, NULL, 0, out, sizeof out, &operated);
-    expect(a.refusal == 31 && a.kind == 3 && operated.count == 0, "fragment: NULL for the fragment");
+    expect(a.refusal == 31 && a.kind == 3 && handed_over(&operated) == 0, "fragment: NULL for the fragment");
     expect(pomarisco_table(&s, NULL, 0, &taken) == 0 && taken == 0, "table: NULL for the readings");
     expect(pomarisco_link_receive_at(&line, station, NULL, 0, NULL, 0).refusal == 33 && line.short_frame == 0, "link_receive: NULL twice");
     expect(pomarisco_link_receive_at(&line, station, NULL, 0, out, sizeof out).refusal == 11 && line.short_frame == 1, "link_receive: NULL for the bytes");
@@ -109,7 +114,7 @@ static void null_pointers(void) {
     expect(memcmp(out, before, sizeof out) == 0, "refused calls leave the lent bytes");
     expect(same_state(&s, &full), "refused calls and an empty table leave the state");
     memset(&empty, 0x5C, sizeof empty);
-    expect(pomarisco_restart(&empty, setup, NULL, 0, NULL, 0) == 0 && empty.head.binary_count == 0 && empty.head.analog_count == 0 && empty.head.outputs == 16, "restart: NULL twice");
+    expect(pomarisco_restart(&empty, setup, NULL, 0, NULL, 0) == 0 && empty.head.binary_count == 0 && empty.head.analog_count == 0 && empty.head.outputs == 16 && empty.head.analog_outputs == 16, "restart: NULL twice");
 }
 
 /* ---- any address */
@@ -122,7 +127,7 @@ static void addresses(void) {
     struct pomarisco_reading *readings = (struct pomarisco_reading *)at_end(sizeof table);
     int same = 1;
     for (size_t shift = 0; shift < 8; shift++) {
-        struct pomarisco_crobs operated;
+        struct pomarisco_operated operated;
         struct pomarisco_line line = {0};
         struct pomarisco_assembly assembly = {0};
         struct pomarisco_sender sender = {0};
@@ -137,6 +142,9 @@ static void addresses(void) {
         same &= a.kind == 0 && a.length > 1000;
         if (shift == 0) memcpy(first[0], out, a.length);
         same &= memcmp(first[0], out, a.length) == 0;
+        memcpy(input - sizeof set, set, sizeof set);
+        same &= pomarisco_fragment(s, 1000, input - sizeof set, sizeof set, out, POMARISCO_FRAGMENT + shift, &operated).length == 2 + sizeof set;
+        same &= operated.analog_commands.count == 2 && memcmp(out + 4, set + 2, sizeof set - 2) == 0;
 
         uint8_t *user = input - POMARISCO_USER;
         for (size_t i = 0; i < POMARISCO_USER; i++) user[i] = (uint8_t)(i * 7 + 0xC0);
@@ -172,19 +180,42 @@ static void addresses(void) {
 
 /* ---- exported calls, and on an outstation */
 
-static void in_place(void) {
+static int same_crob(const struct pomarisco_crob *a, const struct pomarisco_crob *b) {
+    return a->on_time == b->on_time && a->off_time == b->off_time && a->index == b->index && a->code == b->code && a->count == b->count && a->status == b->status;
+}
+
+static int same_operated(const struct pomarisco_operated *a, const struct pomarisco_operated *b) {
+    int same = a->crobs.count == b->crobs.count && a->analog_commands.count == b->analog_commands.count;
+    for (size_t i = 0; same && i < a->crobs.count; i++) same = same_crob(&a->crobs.items[i], &b->crobs.items[i]);
+    return same && memcmp(a->analog_commands.items, b->analog_commands.items, a->analog_commands.count * sizeof a->analog_commands.items[0]) == 0;
+}
+
+/* A fragment by the exported call and on an outstation. */
+static struct pomarisco_operated fragment_in_place(const uint8_t *bytes, size_t n) {
     static uint8_t one[POMARISCO_FRAGMENT], two[POMARISCO_FRAGMENT];
     static struct pomarisco_outstation s, t;
-    struct pomarisco_crobs operated;
+    struct pomarisco_operated operated;
     s = t = full;
-    const struct pomarisco_fragment_answer a = pomarisco_fragment(&s, 2000, operate, sizeof operate, one, sizeof one, &operated);
-    const struct pomarisco_answer b = pomarisco_lent_fragment(t.head, t.binaries, t.analogs, t.events, t.request, t.answer, t.latch_objects, 2000, operate, sizeof operate, two, sizeof two);
+    const struct pomarisco_fragment_answer a = pomarisco_fragment(&s, 2000, bytes, n, one, sizeof one, &operated);
+    const struct pomarisco_answer b = pomarisco_lent_fragment(t.head, t.binaries, t.analogs, t.events, t.request, t.answer, t.latch_objects, t.analog_outputs, 2000, bytes, n, two, sizeof two);
     expect(a.kind == b.answer.kind && a.length == b.answer.length && memcmp(one, two, sizeof one) == 0, "fragment: the same answer");
-    expect(operated.count == 1 && b.operated.count == 1 && operated.items[0].index == 5 && b.operated.items[0].index == 5, "fragment: the same objects");
-    expect(s.head.clock == 2000 && b.head.clock == 2000 && t.head.clock == 1000 && s.head.request_len == sizeof operate && memcmp(s.request, operate, sizeof operate) == 0, "fragment: the head is given back");
+    expect(same_operated(&operated, &b.operated), "fragment: the same objects");
+    expect(s.head.clock == 2000 && b.head.clock == 2000 && t.head.clock == 1000 && s.head.request_len == n && memcmp(s.request, bytes, n) == 0, "fragment: the head is given back");
     expect(memcmp(s.binaries, full.binaries, sizeof s.binaries) == 0 && memcmp(s.analogs, full.analogs, sizeof s.analogs) == 0, "fragment: the points stay");
-    t.head = b.head;
+    expect(memcmp(s.analog_outputs, full.analog_outputs, sizeof s.analog_outputs) == 0 && s.head.analog_outputs == full.head.analog_outputs, "fragment: the analog outputs stay");
     expect(memcmp(s.events, t.events, sizeof s.events) == 0 && memcmp(s.request, t.request, sizeof s.request) == 0 && memcmp(s.answer, t.answer, sizeof s.answer) == 0, "fragment: the same arrays");
+    return operated;
+}
+
+static void in_place(void) {
+    static struct pomarisco_outstation s, t;
+    struct pomarisco_operated operated = fragment_in_place(operate, sizeof operate);
+    expect(operated.crobs.count == 1 && operated.crobs.items[0].index == 5 && operated.analog_commands.count == 0, "fragment: a relay's object");
+    operated = fragment_in_place(set, sizeof set);
+    const struct pomarisco_analog_command *c = operated.analog_commands.items;
+    expect(operated.crobs.count == 0 && operated.analog_commands.count == 2, "fragment: two analog outputs' objects");
+    expect(c[0].index == 4 && c[0].kind == 1 && pomarisco_bits_whole(c[0].bits) == -1000 && c[0].status == 0, "fragment: the first one");
+    expect(c[1].index == 7 && c[1].kind == 1 && pomarisco_bits_whole(c[1].bits) == 1000 && c[1].status == 0, "fragment: the second one");
 
     s = t = full;
     const struct pomarisco_reading change = pomarisco_binary_reading(3000, 5, 0, 3), none = pomarisco_binary_reading(3000, 64, 0, 1);
@@ -198,6 +229,18 @@ static void in_place(void) {
     expect(pomarisco_table(&s, two_readings, 2, &taken) == 2 && taken == 1 && s.head.clock == 3000, "table: up to the refused reading");
 }
 
+/* A restart with just this analog output: its refusal, 255 where the words or the head are not as it says. */
+static uint8_t restart_with(struct pomarisco_outstation *s, struct pomarisco_analog_output output) {
+    struct pomarisco_setup one = setup;
+    one.analog_output_count = 1;
+    one.analog_outputs[0] = output;
+    memset(s, 0x5C, sizeof *s);
+    const uint8_t refusal = pomarisco_restart(s, one, classes, 64, analogs, 64);
+    const int nothing = s->head.binary_count == 0 && s->head.analog_count == 0 && s->head.outputs == 0 && s->head.analog_outputs == 0;
+    const int stored = s->head.analog_outputs == 1 && s->analog_outputs[0] == output.kind && s->analog_outputs[1] == output.low && s->analog_outputs[2] == output.high;
+    return (refusal == 0 ? stored : nothing) ? refusal : 255;
+}
+
 static void refused_setups(void) {
     static struct pomarisco_outstation s;
     static uint8_t many[300];
@@ -205,7 +248,7 @@ static void refused_setups(void) {
     struct pomarisco_setup wrong = setup;
     wrong.master = wrong.own;
     s = full;
-    expect(pomarisco_restart(&s, wrong, classes, 64, analogs, 64) == 5 && s.head.binary_count == 0 && s.head.analog_count == 0 && s.head.outputs == 0, "restart: addresses");
+    expect(pomarisco_restart(&s, wrong, classes, 64, analogs, 64) == 5 && s.head.binary_count == 0 && s.head.analog_count == 0 && s.head.outputs == 0 && s.head.analog_outputs == 0, "restart: addresses");
     expect(pomarisco_restart(&s, setup, many, 65, analogs, 64) == 5 && pomarisco_restart(&s, setup, many, sizeof many, analogs, 64) == 5, "restart: over 64 binaries");
     expect(pomarisco_restart(&s, setup, classes, 64, many_analogs, 65) == 5, "restart: over 64 analogs");
     many[63] = 4;
@@ -213,6 +256,54 @@ static void refused_setups(void) {
     many_analogs[0] = pomarisco_point_float(1, 1.0f, 0.0f, POMARISCO_BEYOND, -0.5f);
     expect(pomarisco_restart(&s, setup, classes, 64, many_analogs, 1) == 5 && s.head.analog_count == 0, "restart: a limit below 0");
     expect(pomarisco_reading(&s, pomarisco_binary_reading(1, 0, 0, 1)) == 2, "restart: a refused one has no points");
+}
+
+/* How many analog outputs a setup may say. */
+static void output_counts(void) {
+    static const uint16_t counts[] = {17, 18, 255, 256, 272, 65535};
+    static struct pomarisco_outstation s;
+    static uint8_t out[POMARISCO_FRAGMENT];
+    struct pomarisco_operated operated;
+    struct pomarisco_setup none = setup, past = setup;
+    const struct pomarisco_analog_output last[3] = {pomarisco_analog_output_at(&full, 13), pomarisco_analog_output_at(&full, 14), pomarisco_analog_output_at(&full, 15)};
+    expect(full.head.analog_outputs == 16 && last[0].kind == 1 && last[1].kind == 2 && last[2].kind == 0, "16 analog outputs: their kinds");
+    expect(pomarisco_bits_whole(last[0].high) == 1000 && pomarisco_bits_float(last[1].low) == -1.5f && pomarisco_bits_whole(last[2].low) == -100000, "16 analog outputs: their ends");
+    int refused = 1;
+    for (size_t i = 0; i < sizeof counts / sizeof counts[0]; i++) {
+        past.analog_output_count = counts[i];
+        refused &= pomarisco_restart(&s, past, classes, 64, analogs, 64) == 5 && s.head.analog_outputs == 0;
+    }
+    expect(refused, "restart: over 16 analog outputs");
+    /* What stands past the count does not count. */
+    past.analog_output_count = 15;
+    past.analog_outputs[15] = pomarisco_output_32(1, 0);
+    expect(pomarisco_restart(&s, past, classes, 64, analogs, 64) == 0 && s.head.analog_outputs == 15, "restart: a wrong output past the count");
+    past.analog_output_count = 16;
+    expect(pomarisco_restart(&s, past, classes, 64, analogs, 64) == 5, "restart: the same output, counted");
+    none.analog_output_count = 0;
+    expect(pomarisco_restart(&s, none, classes, 64, analogs, 64) == 0 && s.head.analog_outputs == 0, "restart: no analog outputs");
+    pomarisco_fragment(&s, 1000, set, sizeof set, out, sizeof out, &operated);
+    expect(handed_over(&operated) == 0 && out[2 + sizeof set - 1] == 4, "a set point without analog outputs");
+    const struct pomarisco_setup old = {.arm_time = 5000, .confirm_time = 5000, .own = 1, .master = 2, .outputs = 4};
+    expect(pomarisco_restart(&s, old, classes, 64, analogs, 64) == 0 && s.head.outputs == 4 && s.head.analog_outputs == 0, "restart: a setup that says nothing of analog outputs");
+}
+
+/* Which ends an analog output may have. */
+static void output_ends(void) {
+    static const uint32_t floats[][2] = {{0, 0x80000000}, {0x80000000, 0}, {0xFF7FFFFF, 0x7F7FFFFF}, {1, 1}, {0x80000001, 1}, {0xC0000000, 0xBF800000}};
+    static const uint32_t no_floats[][2] = {{0x7F800000, 0x7F800000}, {0xFF800000, 0}, {0, 0x7F800000}, {0x7FC00000, 0}, {0, 0xFFC00001}, {1, 0}, {1, 0x80000001}, {0x3F800001, 0x3F800000}, {0xBF800000, 0xC0000000}};
+    static struct pomarisco_outstation s;
+    int good = 1;
+    expect(restart_with(&s, pomarisco_output_32(INT32_MIN, INT32_MAX)) == 0 && restart_with(&s, pomarisco_output_32(7, 7)) == 0 && restart_with(&s, pomarisco_output_32(-1, 0)) == 0, "restart: 32-bit ends");
+    expect(restart_with(&s, pomarisco_output_32(7, 6)) == 5 && restart_with(&s, pomarisco_output_32(0, -1)) == 5 && restart_with(&s, pomarisco_output_32(INT32_MAX, INT32_MIN)) == 5, "restart: 32-bit ends, the first above the second");
+    expect(restart_with(&s, pomarisco_output_16(INT16_MIN, INT16_MAX)) == 0 && restart_with(&s, pomarisco_output_16(-7, -7)) == 0, "restart: 16-bit ends");
+    expect(restart_with(&s, pomarisco_output_16(1, 0)) == 5 && restart_with(&s, pomarisco_output_16(0, -1)) == 5, "restart: 16-bit ends, the first above the second");
+    expect(restart_with(&s, pomarisco_output_of(1, (uint32_t)-32769, 0)) == 5 && restart_with(&s, pomarisco_output_of(1, 0, 32768)) == 5 && restart_with(&s, pomarisco_output_of(1, 0xFFFF, 0xFFFF)) == 5 && restart_with(&s, pomarisco_output_of(1, 0x10000, 0x10000)) == 5, "restart: ends that 16 bits do not hold");
+    for (int kind = 2; kind < 256; kind++) {
+        for (size_t i = 0; i < sizeof floats / sizeof floats[0]; i++) good &= restart_with(&s, pomarisco_output_of((uint8_t)kind, floats[i][0], floats[i][1])) == 0 && pomarisco_analog_output_at(&s, 0).kind == 2;
+        for (size_t i = 0; i < sizeof no_floats / sizeof no_floats[0]; i++) good &= restart_with(&s, pomarisco_output_of((uint8_t)kind, no_floats[i][0], no_floats[i][1])) == 5;
+    }
+    expect(good, "restart: float ends, for every kind above 1");
 }
 
 /* ---- any content */
@@ -230,8 +321,8 @@ static uint64_t any(void) {
 static void any_content(void) {
     static uint8_t out[POMARISCO_FRAGMENT], fragment[POMARISCO_FRAGMENT];
     struct pomarisco_outstation *s = (struct pomarisco_outstation *)at_end(sizeof *s);
-    struct pomarisco_crobs operated;
-    int good = 1, answered = 0;
+    struct pomarisco_operated operated;
+    int good = 1, answered = 0, relays = 0, set_points = 0;
     for (int round = 0; round < 3000; round++) {
         uint8_t *bytes = (uint8_t *)s;
         size_t taken;
@@ -245,18 +336,154 @@ static void any_content(void) {
             s->head.request_len %= 4100;
             s->head.answer_len %= 230;
             s->head.latch_len %= 220;
+            s->head.analog_outputs %= 20;
+        }
+        /* Some with a latch that an OPERATE meets where it is armed for it, of relays or of analog outputs. */
+        const uint8_t *selected = round % 16 == 3 ? set : round % 16 == 11 ? operate : NULL;
+        if (selected != NULL) {
+            s->head.latch_len = (selected == set ? sizeof set : sizeof operate) - 2;
+            memcpy(s->latch_objects, selected + 2, s->head.latch_len);
+            s->head.latch_armed %= 4;
+            s->head.clock = s->head.latch_time = 2000;
         }
         for (size_t i = 0; i < sizeof fragment; i++) fragment[i] = (uint8_t)any();
         if (round % 4 < 2) memcpy(fragment, events, sizeof events);
         fragment[0] = (uint8_t)(0xC0 | (fragment[0] & 15));
-        const size_t n = round % 4 < 2 ? sizeof events : any() % (sizeof fragment + 1);
+        size_t n = round % 4 < 2 ? sizeof events : any() % (sizeof fragment + 1);
+        if (selected != NULL) {
+            n = 2 + s->head.latch_len;
+            fragment[0] = (uint8_t)(0xC0 | (s->head.latch_sequence + 1) % 16);
+            fragment[1] = 4;
+            memcpy(fragment + 2, s->latch_objects, n - 2);
+        }
+        const uint8_t armed = s->head.latch_armed;
         const struct pomarisco_fragment_answer a = pomarisco_fragment(s, 2000, fragment, n, out, sizeof out, &operated);
-        good &= a.kind <= 3 && a.length <= sizeof out && operated.count <= POMARISCO_CONTROLS && (a.kind == 3) == (a.refusal != 0);
+        good &= a.kind <= 3 && a.length <= sizeof out && operated.crobs.count <= POMARISCO_CONTROLS && operated.analog_commands.count <= POMARISCO_CONTROLS && (a.kind == 3) == (a.refusal != 0);
+        good &= operated.crobs.count == 0 || operated.analog_commands.count == 0;
         answered += a.kind == 0;
+        if (selected != NULL) {
+            good &= operated.crobs.count == (selected == operate && armed == 1 ? 1 : 0) && operated.analog_commands.count == (selected == set && armed > 1 ? 2 : 0);
+            relays += operated.crobs.count != 0;
+            set_points += operated.analog_commands.count != 0;
+        }
         good &= pomarisco_table(s, table, TABLE, &taken) <= 4 && taken <= TABLE;
         for (size_t i = 0; i < POMARISCO_EVENTS; i++) good &= pomarisco_event_at(s, i).kind <= 3;
     }
-    expect(good && answered > 100, "any content of the outstation");
+    expect(good && answered > 100 && relays > 10 && set_points > 10, "any content of the outstation");
+}
+
+/* ---- set points */
+
+/* The status of a set point in SELECT and direct operation, whatever the outputs are. */
+static uint8_t by_definition(const struct pomarisco_outstation *s, const struct pomarisco_analog_command *asked, size_t place) {
+    const struct pomarisco_analog_command c = asked[place];
+    const size_t installed = s->head.analog_outputs < POMARISCO_ANALOG_OUTPUTS ? s->head.analog_outputs : POMARISCO_ANALOG_OUTPUTS;
+    if (c.status != 0) return 3;
+    if (c.index >= installed) return 4;
+    const struct pomarisco_analog_output o = pomarisco_analog_output_at(s, c.index);
+    if (o.kind != c.kind) return 4;
+    if (o.kind < 2 && (pomarisco_bits_whole(c.bits) < pomarisco_bits_whole(o.low) || pomarisco_bits_whole(c.bits) > pomarisco_bits_whole(o.high))) return 4;
+    if (o.kind == 2) {
+        const float value = pomarisco_bits_float(c.bits);
+        const int finite = (c.bits & 0x7F800000) != 0x7F800000;
+        if (!finite || !(pomarisco_bits_float(o.low) <= value) || !(value <= pomarisco_bits_float(o.high))) return 4;
+    }
+    for (size_t i = 0; i < place; i++)
+        if (asked[i].index == c.index) return 8;
+    return 0;
+}
+
+/* Mostly an end; else a neighbour of one, a zero, or anything. */
+static uint32_t some_value(const struct pomarisco_analog_output *o) {
+    const uint32_t values[] = {o->low, o->high, o->low + 1, o->low - 1, o->high + 1, o->high - 1, 0, 0x80000000, 0x7F800000, 0x7FC00000, (uint32_t)any()};
+    return values[any() % (any() % 8 == 0 ? sizeof values / sizeof values[0] : 2)];
+}
+
+/* Words of an output: ends next to each other, from the first to the second, or anything. */
+static void some_output(uint32_t *w) {
+    static const uint32_t around[] = {0, 0x80000000, 100, (uint32_t)-100, 0x3F800000, 0xBF800000, 0x7F7FFFFF, 0xFF7FFFFF, 0x7F800000, 0x7FC00000, 32767, (uint32_t)-32768};
+    w[0] = any() % 4 == 0 ? (uint32_t)any() : (uint32_t)(any() % 4);
+    w[1] = around[any() % 12] + (uint32_t)(any() % 3) - 1;
+    w[2] = any() % 8 == 0 ? (uint32_t)any() : any() % 2 == 0 ? w[1] + (uint32_t)(any() % 3) : around[any() % 12];
+}
+
+/* Asks for one to eight set points of one kind; writes them as a request has them, and gives the request's length. */
+static size_t some_request(const struct pomarisco_outstation *s, uint8_t function, uint8_t *to, struct pomarisco_analog_command *asked, size_t *count) {
+    const size_t first = any() % POMARISCO_ANALOG_OUTPUTS, width = 1 + any() % 2;
+    const uint8_t kind = any() % 8 == 0 ? (uint8_t)(any() % 3) : pomarisco_analog_output_at(s, first).kind;
+    *count = any() % 2 == 0 ? 1 : 1 + any() % POMARISCO_CONTROLS;
+    memcpy(to, (const uint8_t[]){0xC7, function, 41, (uint8_t)(kind + 1), width == 1 ? 0x17 : 0x28, (uint8_t)*count, 0}, 7);
+    size_t n = 5 + width;
+    for (size_t i = 0; i < *count; i++) {
+        struct pomarisco_analog_command *c = &asked[i];
+        c->index = (uint16_t)(any() % 16 == 0 ? any() % 20 : (first + i) % POMARISCO_ANALOG_OUTPUTS);
+        if (width == 2 && any() % 30 == 0) c->index = (uint16_t)(c->index + 256);
+        const struct pomarisco_analog_output o = pomarisco_analog_output_at(s, c->index % POMARISCO_ANALOG_OUTPUTS);
+        c->kind = kind;
+        c->bits = some_value(&o);
+        if (kind == 1) c->bits = (uint32_t)(int16_t)c->bits;
+        c->status = any() % 30 == 0 ? (uint8_t)any() : 0;
+        for (size_t k = 0; k < width; k++) to[n++] = (uint8_t)(c->index >> 8 * k);
+        for (size_t k = 0; k < (kind == 1 ? 2 : 4); k++) to[n++] = (uint8_t)(c->bits >> 8 * k);
+        to[n++] = c->status;
+    }
+    return n;
+}
+
+/* The OPERATE after a SELECT that armed the latch: the same bytes are carried out; a zero of the other sign (1), or another variation (2), is another object. */
+static int operated_as(struct pomarisco_outstation *s, uint8_t *request, size_t n, const struct pomarisco_analog_command *asked, size_t count, int other) {
+    static uint8_t out[POMARISCO_FRAGMENT];
+    const size_t each = (n - (request[4] == 0x17 ? 6 : 7)) / count;
+    struct pomarisco_operated operated;
+    request[0] = 0xC8;
+    request[1] = 4;
+    for (size_t i = 0; other == 1 && i < count; i++)
+        if (asked[i].bits << 1 == 0) request[n - (count - 1 - i) * each - 2] ^= 0x80;
+    if (other == 2) request[3] ^= 2;
+    pomarisco_fragment(s, 1000, request, n, out, sizeof out, &operated);
+    if (other != 0) return handed_over(&operated) == 0 && out[n + 1] == 2;
+    return operated.crobs.count == 0 && operated.analog_commands.count == count && memcmp(operated.analog_commands.items, asked, count * sizeof asked[0]) == 0 && out[n + 1] == 0;
+}
+
+/* Any outputs and any count of them; SELECT, OPERATE and direct operation: as the definition says. */
+static void any_outputs(void) {
+    static uint8_t out[POMARISCO_FRAGMENT], request[2 + 109];
+    static struct pomarisco_outstation s;
+    int good = 1, armed = 0, direct = 0, eight = 0, zeros = 0, reached[9] = {0};
+    s = full;
+    for (int round = 0; round < 60000; round++) {
+        struct pomarisco_analog_command asked[POMARISCO_CONTROLS];
+        struct pomarisco_operated operated;
+        size_t count, right = 0, zero = 0;
+        s.head = full.head;
+        s.head.analog_outputs = (uint16_t)(any() % 2 == 0 ? any() : any() % 18);
+        for (size_t i = 0; i < POMARISCO_ANALOG_OUTPUTS; i++) some_output(s.analog_outputs + 3 * i);
+        /* Often of one kind, so that more than one object may be right. */
+        for (size_t i = 1; round % 4 != 0 && i < POMARISCO_ANALOG_OUTPUTS; i++) s.analog_outputs[3 * i] = s.analog_outputs[0];
+        const uint8_t function = (const uint8_t[]){3, 3, 5, 6}[any() % 4];
+        const size_t n = some_request(&s, function, request, asked, &count), each = (n - (request[4] == 0x17 ? 6 : 7)) / count;
+        const struct pomarisco_fragment_answer a = pomarisco_fragment(&s, 1000, request, n, out, sizeof out, &operated);
+        good &= a.kind == (function == 6) && operated.crobs.count == 0 && (function == 6 || (a.length == n + 2 && out[3] % 8 == 0));
+        for (size_t i = 0; i < count; i++) {
+            const uint8_t status = by_definition(&s, asked, i);
+            if (function != 6) good &= out[n + 1 - (count - 1 - i) * each] == status;
+            if (function != 3 && status == 0) good &= right < operated.analog_commands.count && memcmp(&operated.analog_commands.items[right], &asked[i], sizeof asked[i]) == 0;
+            reached[status]++;
+            right += status == 0;
+            zero += asked[i].kind == 2 && asked[i].bits << 1 == 0;
+        }
+        good &= operated.analog_commands.count == (function == 3 ? 0 : right) && (s.head.latch_armed != 0) == (function == 3 && right == count);
+        direct += function != 3 && right > 0;
+        if (s.head.latch_armed == 0) continue;
+        const int other = zero > 0 && any() % 2 == 0 ? 1 : asked[0].kind != 1 && any() % 8 == 0 ? 2 : 0;
+        good &= s.head.latch_armed > 1 && s.head.latch_len == n - 2 && memcmp(s.latch_objects, request + 2, n - 2) == 0;
+        good &= operated_as(&s, request, n, asked, count, other);
+        armed++;
+        eight += count == POMARISCO_CONTROLS;
+        zeros += other == 1;
+    }
+    expect(good, "any analog outputs: set points by their definition");
+    expect(armed > 1000 && direct > 1000 && eight > 10 && zeros > 100 && reached[0] > 1000 && reached[3] > 1000 && reached[4] > 1000 && reached[8] > 1000, "any analog outputs: each outcome reached");
 }
 
 /* ---- the receiver */
@@ -498,12 +725,13 @@ static void cuts(void) {
 static void *many_calls(void *where) {
     struct pomarisco_outstation *s = where;
     uint8_t out[POMARISCO_FRAGMENT];
-    struct pomarisco_crobs operated;
+    struct pomarisco_operated operated;
     size_t taken;
     *s = full;
     for (int i = 0; i < 2000; i++) {
         pomarisco_table(s, table, TABLE, &taken);
         pomarisco_fragment(s, 2000, i % 2 == 0 ? events : operate, i % 2 == 0 ? sizeof events : sizeof operate, out, sizeof out, &operated);
+        pomarisco_fragment(s, 2000, set, sizeof set, out, sizeof out, &operated);
     }
     return NULL;
 }
@@ -525,10 +753,10 @@ static void deep(void) {
     static uint8_t out[POMARISCO_FRAGMENT];
     static struct pomarisco_outstation s;
     static struct pomarisco_receiver receiver;
-    struct pomarisco_crobs operated;
+    struct pomarisco_operated operated;
     size_t taken;
     s = full;
-    deep_good = pomarisco_piece_receive_at(&receiver, longest_frame, sizeof longest_frame, out, sizeof out).frame.length == POMARISCO_USER && pomarisco_table(&s, table, TABLE, &taken) == 0 && pomarisco_reading(&s, table[3]) == 0 && pomarisco_fragment(&s, 4000, events, sizeof events, out, sizeof out, &operated).kind == 0 && pomarisco_fragment(&s, 4000, operate, sizeof operate, out, sizeof out, &operated).kind == 0 && pomarisco_restart(&s, setup, classes, 64, analogs, 64) == 0;
+    deep_good = pomarisco_piece_receive_at(&receiver, longest_frame, sizeof longest_frame, out, sizeof out).frame.length == POMARISCO_USER && pomarisco_table(&s, table, TABLE, &taken) == 0 && pomarisco_reading(&s, table[3]) == 0 && pomarisco_fragment(&s, 4000, events, sizeof events, out, sizeof out, &operated).kind == 0 && pomarisco_fragment(&s, 4000, operate, sizeof operate, out, sizeof out, &operated).kind == 0 && pomarisco_fragment(&s, 4000, set, sizeof set, out, sizeof out, &operated).kind == 0 && pomarisco_restart(&s, setup, classes, 64, analogs, 64) == 0;
 }
 
 /* Just so much, with a page below that may not be touched: a deeper call would end the program by a signal. */
@@ -550,7 +778,10 @@ int main(void) {
     addresses();
     in_place();
     refused_setups();
+    output_counts();
+    output_ends();
     any_content();
+    any_outputs();
     any_receiver();
     repeats();
     any_assembly();

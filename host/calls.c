@@ -17,11 +17,11 @@
 
 #include "pomarisco.h"
 
-enum { LINE = 65536, LENT = 65536, FILL = 0xA5, MOST = 64, WORDS = 8 + MOST + MOST + 2, TABLE = 128 };
+enum { LINE = 65536, LENT = 65536, FILL = 0xA5, MOST = 64, OUTPUTS = POMARISCO_ANALOG_OUTPUTS, WORDS = 8 + MOST + MOST + 2 + OUTPUTS, TABLE = 128 };
 
 /* ---- places */
 
-enum place { GIVEN, OUTPUT, CLASSES, SETUPS, READINGS, EVENTS, BINARIES, ANALOGS, REQUEST, ANSWER, OBJECTS, KEPT, PLACES };
+enum place { GIVEN, OUTPUT, CLASSES, SETUPS, READINGS, EVENTS, BINARIES, ANALOGS, ANALOG_OUTPUTS, REQUEST, ANSWER, OBJECTS, KEPT, PLACES };
 
 /* Memory for so many bytes, until the next for the same use. Aligned for what is kept there: sizes are whole structs. */
 static void *place(enum place which, size_t n) {
@@ -75,7 +75,7 @@ static uint8_t given[LINE];
 #ifdef APART
 
 static uint64_t *events;
-static uint32_t *binaries, *analogs;
+static uint32_t *binaries, *analogs, *analog_outputs;
 static uint8_t *request, *answer, *latch_objects;
 
 /* Whatever an outstation was, a restart makes it a fresh one. */
@@ -84,6 +84,7 @@ static void forget(void) {
     events = copied(EVENTS, outstation.events, sizeof outstation.events);
     binaries = copied(BINARIES, outstation.binaries, sizeof outstation.binaries);
     analogs = copied(ANALOGS, outstation.analogs, sizeof outstation.analogs);
+    analog_outputs = copied(ANALOG_OUTPUTS, outstation.analog_outputs, sizeof outstation.analog_outputs);
     request = copied(REQUEST, outstation.request, sizeof outstation.request);
     answer = copied(ANSWER, outstation.answer, sizeof outstation.answer);
     latch_objects = copied(OBJECTS, outstation.latch_objects, sizeof outstation.latch_objects);
@@ -92,7 +93,7 @@ static void forget(void) {
 static uint8_t restart(void) {
     const uint8_t *c = copied(CLASSES, classes, class_count);
     const struct pomarisco_analog_setup *a = copied(SETUPS, setups, setup_count * sizeof *setups);
-    const struct pomarisco_restarted r = pomarisco_lent_restart(setup, c, class_count, a, setup_count, binaries, analogs);
+    const struct pomarisco_restarted r = pomarisco_lent_restart(setup, c, class_count, a, setup_count, binaries, analogs, analog_outputs);
     outstation.head = r.head;
     return r.refusal;
 }
@@ -110,8 +111,8 @@ static uint8_t take_table(const struct pomarisco_reading *readings, size_t n, si
     return t.refusal;
 }
 
-static struct pomarisco_fragment_answer take_fragment(uint64_t time, const uint8_t *bytes, size_t size, uint8_t *out, size_t length, struct pomarisco_crobs *operated) {
-    const struct pomarisco_answer a = pomarisco_lent_fragment(outstation.head, binaries, analogs, events, request, answer, latch_objects, time, bytes, size, out, length);
+static struct pomarisco_fragment_answer take_fragment(uint64_t time, const uint8_t *bytes, size_t size, uint8_t *out, size_t length, struct pomarisco_operated *operated) {
+    const struct pomarisco_answer a = pomarisco_lent_fragment(outstation.head, binaries, analogs, events, request, answer, latch_objects, analog_outputs, time, bytes, size, out, length);
     outstation.head = a.head;
     *operated = a.operated;
     return a.answer;
@@ -140,7 +141,7 @@ static uint8_t take_reading(struct pomarisco_reading r) { return pomarisco_readi
 
 static uint8_t take_table(const struct pomarisco_reading *readings, size_t n, size_t *taken) { return pomarisco_table(&outstation, readings, n, taken); }
 
-static struct pomarisco_fragment_answer take_fragment(uint64_t time, const uint8_t *bytes, size_t size, uint8_t *out, size_t length, struct pomarisco_crobs *operated) {
+static struct pomarisco_fragment_answer take_fragment(uint64_t time, const uint8_t *bytes, size_t size, uint8_t *out, size_t length, struct pomarisco_operated *operated) {
     return pomarisco_fragment(&outstation, time, bytes, size, out, length, operated);
 }
 
@@ -306,21 +307,59 @@ static bool analog(struct word w, struct pomarisco_analog_setup *a, bool *fits) 
     return gate < 2 ? is(p[5], "-") : whole_limit(p[5], &a->limit, fits);
 }
 
+static bool whole_end(struct word w, uint32_t *end, bool *fits) {
+    bool minus;
+    uint64_t n;
+    if (!signed_number(w, (uint64_t)1 << 63, INT64_MAX, &minus, &n)) return false;
+    if (n > (uint64_t)INT32_MAX + minus) *fits = false;
+    *end = (uint32_t)(minus ? 0 - n : n);
+    return true;
+}
+
+/* An analog output; `fits` as for an analog. */
+static bool set_point(struct word w, struct pomarisco_analog_output *s, bool *fits) {
+    struct word p[3];
+    if (split(w, ',', p, 3) != 3 || p[0].size != 1 || p[0].at[0] < '1' || p[0].at[0] > '3') return false;
+    s->kind = (uint8_t)(p[0].at[0] - '1');
+    if (s->kind == 2) return real(p[1], &s->low) && real(p[2], &s->high);
+    return whole_end(p[1], &s->low, fits) && whole_end(p[2], &s->high, fits);
+}
+
+/* Nothing, or `s`, how many, and a word for each: above 16 only 16 are said. */
+static bool set_points(const struct word *w, size_t n, struct pomarisco_setup *s, bool *fits) {
+    uint64_t ns;
+    /* Those that are not said would be refused if they counted. */
+    for (size_t i = 0; i < OUTPUTS; i++) s->analog_outputs[i] = pomarisco_output_32(1, 0);
+    if (n == 0) return true;
+    if (n < 2 || !is(w[0], "s") || !number(w[1], 255, &ns) || n != 2 + (ns < OUTPUTS ? ns : OUTPUTS)) return false;
+    for (size_t i = 2; i < n; i++)
+        if (!set_point(w[i], &s->analog_outputs[i - 2], fits)) return false;
+    s->analog_output_count = (uint16_t)ns;
+    return true;
+}
+
 static bool call_setup(const struct word *w, size_t n) {
     static struct pomarisco_analog_setup as[MOST];
+    struct pomarisco_setup s = {0};
     uint8_t cs[MOST];
     uint64_t own, master, arm, confirm, nb, na, no, class_;
     bool fits = true;
     if (n < 8 || !number(w[1], 65535, &own) || !number(w[2], 65535, &master) || !number(w[3], UINT32_MAX, &arm) || !number(w[4], UINT32_MAX, &confirm) || !number(w[5], 255, &nb) || !number(w[6], 255, &na) || !number(w[7], 255, &no)) return false;
     const size_t b = nb < MOST ? nb : MOST, a = na < MOST ? na : MOST;
-    if (n != 8 + b + a) return false;
+    if (n < 8 + b + a) return false;
     for (size_t i = 0; i < b; i++) {
         if (!number(w[8 + i], 255, &class_)) return false;
         cs[i] = (uint8_t)class_;
     }
     for (size_t i = 0; i < a; i++)
         if (!analog(w[8 + b + i], &as[i], &fits)) return false;
-    setup = (struct pomarisco_setup){.arm_time = (uint32_t)arm, .confirm_time = (uint32_t)confirm, .own = (uint16_t)own, .master = (uint16_t)master, .outputs = (uint16_t)no};
+    if (!set_points(w + 8 + b + a, n - 8 - b - a, &s, &fits)) return false;
+    s.arm_time = (uint32_t)arm;
+    s.confirm_time = (uint32_t)confirm;
+    s.own = (uint16_t)own;
+    s.master = (uint16_t)master;
+    s.outputs = (uint16_t)no;
+    setup = s;
     addresses = (struct pomarisco_station){.own = setup.own, .master = setup.master};
     /* Above 64 only 64 are said; the others are as good. */
     class_count = nb;
@@ -400,21 +439,33 @@ static void put_32(uint8_t *at, uint32_t x) {
     for (int i = 0; i < 4; i++) at[i] = (uint8_t)(x >> 8 * i);
 }
 
-static void put_operated(const struct pomarisco_crobs *c) {
-    if (c->count == 0) fputs(" -", stdout);
-    for (size_t i = 0; i < c->count; i++) {
-        const struct pomarisco_crob *x = &c->items[i];
-        uint8_t b[11] = {x->code, x->count};
-        put_32(b + 2, x->on_time);
-        put_32(b + 6, x->off_time);
-        b[10] = x->status;
-        printf(" %u:", x->index);
-        put_hex(b, 11);
-    }
+static void put_crob(const struct pomarisco_crob *x) {
+    uint8_t b[11] = {x->code, x->count};
+    put_32(b + 2, x->on_time);
+    put_32(b + 6, x->off_time);
+    b[10] = x->status;
+    printf(" %u:", x->index);
+    put_hex(b, 11);
+}
+
+/* Value and status; of 16 bits two bytes, where the value has no more. */
+static void put_analog_command(const struct pomarisco_analog_command *x) {
+    const size_t n = x->kind == 1 && x->bits == (uint32_t)(int16_t)x->bits ? 2 : 4;
+    uint8_t b[5];
+    put_32(b, x->bits);
+    b[n] = x->status;
+    printf(" %u@%u:", x->kind + 1u, x->index);
+    put_hex(b, n + 1);
+}
+
+static void put_operated(const struct pomarisco_operated *o) {
+    if (o->crobs.count == 0 && o->analog_commands.count == 0) fputs(" -", stdout);
+    for (size_t i = 0; i < o->crobs.count; i++) put_crob(&o->crobs.items[i]);
+    for (size_t i = 0; i < o->analog_commands.count; i++) put_analog_command(&o->analog_commands.items[i]);
 }
 
 static bool call_frag(const struct word *w, size_t n) {
-    struct pomarisco_crobs operated;
+    struct pomarisco_operated operated;
     uint64_t time;
     size_t len, size;
     if (n != 4 || !number(w[1], UINT64_MAX, &time) || !length(w[2], &len) || !hex(w[3], given, &size)) return false;
@@ -434,7 +485,7 @@ static bool call_frag(const struct word *w, size_t n) {
         printf("no %u", a.refusal);
     }
     /* Only an answered or a silent fragment hands objects over. */
-    if (a.kind > 1 && operated.count != 0) fputs(" operated", stdout);
+    if (a.kind > 1 && operated.crobs.count + operated.analog_commands.count != 0) fputs(" operated", stdout);
     spoilt(a.kind == 0 ? a.length : 0, len);
     return true;
 }

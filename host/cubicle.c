@@ -3,7 +3,8 @@
  *
  * The cubicle is simulated. Feeder i (0 to 3) is worked by control output i; breaker i (binary input i) follows it and is read back
  * with the next readings. Codes 01, 03 and 41 close it, 04 and 81 open it. Analog inputs 0 and 1 are the voltages of feeders 0 and 1 (float, in
- * kV by the scale), 2 that of feeder 2 (32-bit), 3 that of feeder 3 (16-bit): about 25,000 V, drifting, 0 while open.
+ * kV by the scale), 2 that of feeder 2 (32-bit), 3 that of feeder 3 (16-bit): what its regulator is set to and up to 400 V more, drifting, 0 while open.
+ * Analog output i sets the regulator of feeder i, of the kind that its analog input has, from 20,000 to 30,000 V; 24,800 V at the start.
  * The clock is simulated too: every frame with good checks moves it on by STEP ms, and all inputs are then read at that time.
  *
  * The receiver finds the frames in what comes (piece_receive); the rest of a piece is given again. Each frame then goes the whole way: link_receive,
@@ -18,9 +19,8 @@
 
 #include "pomarisco.h"
 
-enum { OWN = 1, MASTER = 2, FEEDERS = 4, STEP = 100, ONLINE = 1, PIECE = 1024 };
+enum { OWN = 1, MASTER = 2, FEEDERS = 4, STEP = 100, ONLINE = 1, PIECE = 1024, LOWEST = 20000, HIGHEST = 30000, START = 24800 };
 
-static const struct pomarisco_setup setup = {.arm_time = 300, .confirm_time = 400, .own = OWN, .master = MASTER, .outputs = FEEDERS};
 static const struct pomarisco_station station = {.own = OWN, .master = MASTER};
 static const uint8_t classes[FEEDERS] = {1, 1, 1, 2};
 
@@ -33,12 +33,13 @@ static uint8_t fragment[POMARISCO_FRAGMENT];
 static uint64_t clock_ms;
 static unsigned long off_the_wire[4]; /* refusals 12, 13, 14, 15 of the receiver */
 static bool closed[FEEDERS] = {true, true, true, true};
+static int32_t regulated[FEEDERS] = {START, START, START, START};
 
 /* ---- the simulated cubicle */
 
 static int32_t volts(int feeder) {
     const uint64_t ticks = clock_ms / STEP;
-    return closed[feeder] ? 24800 + (int32_t)((ticks * 37 + (uint64_t)feeder * 91) % 401) : 0;
+    return closed[feeder] ? regulated[feeder] + (int32_t)((ticks * 37 + (uint64_t)feeder * 91) % 401) : 0;
 }
 
 static bool read_inputs(void) {
@@ -52,8 +53,12 @@ static bool read_inputs(void) {
     return pomarisco_table(&outstation, table, 2 * FEEDERS, &taken) == 0;
 }
 
-/* Two float points in kV, a 32-bit and a 16-bit point in V. */
+/* Two float points in kV, a 32-bit and a 16-bit point in V; all analog outputs in V. */
 static bool restart(void) {
+    const struct pomarisco_setup setup = {
+        .arm_time = 300, .confirm_time = 400, .own = OWN, .master = MASTER, .outputs = FEEDERS, .analog_output_count = FEEDERS,
+        .analog_outputs = {pomarisco_output_float(LOWEST, HIGHEST), pomarisco_output_float(LOWEST, HIGHEST), pomarisco_output_32(LOWEST, HIGHEST), pomarisco_output_16(LOWEST, HIGHEST)},
+    };
     const struct pomarisco_analog_setup analogs[FEEDERS] = {
         pomarisco_point_float(2, 0.001f, 0.0f, POMARISCO_BEYOND, 0.125f),
         pomarisco_point_float(3, 0.001f, 0.5f, POMARISCO_SUMMED, 0.5f),
@@ -64,9 +69,13 @@ static bool restart(void) {
 }
 
 /* Only what the outstation hands over is carried out, in its order. */
-static void operate(const struct pomarisco_crobs *c) {
+static void operate(const struct pomarisco_operated *o) {
+    const struct pomarisco_crobs *c = &o->crobs;
+    const struct pomarisco_analog_commands *a = &o->analog_commands;
     for (size_t i = 0; i < c->count; i++)
         if (c->items[i].index < FEEDERS) closed[c->items[i].index] = c->items[i].code != 0x04 && c->items[i].code != 0x81;
+    for (size_t i = 0; i < a->count; i++)
+        if (a->items[i].index < FEEDERS) regulated[a->items[i].index] = a->items[i].kind == 2 ? (int32_t)pomarisco_bits_float(a->items[i].bits) : pomarisco_bits_whole(a->items[i].bits);
 }
 
 /* ---- to the master */
@@ -91,7 +100,7 @@ static void send_fragment(const uint8_t *bytes, size_t length) {
 
 static void take_segment(const uint8_t *bytes, size_t length) {
     static uint8_t answer[POMARISCO_FRAGMENT];
-    struct pomarisco_crobs operated;
+    struct pomarisco_operated operated;
     const struct pomarisco_segment s = pomarisco_segment_receive_at(&assembly, bytes, length, fragment, sizeof fragment);
     if (s.kind != 1) return;
     const struct pomarisco_fragment_answer a = pomarisco_fragment(&outstation, clock_ms, fragment, s.length, answer, sizeof answer, &operated);

@@ -9,15 +9,15 @@
 
 #include "pomarisco.h"
 
-enum { STACK = 1 << 17, PAINT = 0x5C };
+enum { STACK = 1 << 17, PAINT = 0x5C, OUTPUTS = 14 };
 
-static const struct pomarisco_setup setup = {.arm_time = 5001, .confirm_time = 6002, .own = 1, .master = 2, .outputs = 15};
+static struct pomarisco_setup setup = {.arm_time = 5001, .confirm_time = 6002, .own = 1, .master = 2, .outputs = 15, .analog_output_count = OUTPUTS};
 static const struct pomarisco_station station = {.own = 1, .master = 2};
 static uint8_t classes[64];
 static struct pomarisco_analog_setup analogs[63];
 static struct pomarisco_outstation outstation, full;
 static struct pomarisco_reading table[128];
-static struct pomarisco_crobs operated;
+static struct pomarisco_operated operated;
 static struct pomarisco_line line_record;
 static struct pomarisco_receiver receiver;
 static struct pomarisco_assembly assembly;
@@ -27,6 +27,8 @@ static uint8_t frame[POMARISCO_FRAME], user[POMARISCO_USER], out[POMARISCO_FRAGM
 static const uint8_t events[] = {0xC3, 0x01, 60, 2, 6, 60, 3, 6, 60, 4, 6}, class_0[] = {0xC3, 0x01, 60, 1, 6};
 static const uint8_t operate[] = {0xC4, 5, 12, 1, 0x17, 1, 5, 3, 1, 0, 0, 0, 0, 0, 0, 0, 0, 0};
 static uint8_t selects[sizeof operate], longest[POMARISCO_FRAGMENT], controls[2 + 109];
+enum { SELECT, OPERATE, DIRECT }; /* eight set points, by each */
+static uint8_t sets[3][2 + 5 + 8 * 7];
 static size_t taken, frame_size;
 static int wrong;
 
@@ -37,8 +39,9 @@ static void expect(int good, const char *what) {
     }
 }
 
-/* 64 binaries, 63 analogs of the three kinds. */
+/* 64 binaries, 63 analogs of the three kinds, 14 analog outputs: eight for floats, three for each other kind. */
 static void prepare(void) {
+    for (int i = 0; i < OUTPUTS; i++) setup.analog_outputs[i] = i < 8 ? pomarisco_output_float(-1.5f, 2.5f) : i < 11 ? pomarisco_output_32(-70000, 80000 + i) : pomarisco_output_16(-300, (int16_t)(256 + i));
     for (int i = 0; i < 64; i++) classes[i] = (uint8_t)(1 + i % 3);
     for (int i = 0; i < 63; i++) {
         const uint8_t class_ = (uint8_t)(1 + i % 3), gate = (uint8_t)(i % 4);
@@ -49,17 +52,21 @@ static void prepare(void) {
     expect(pomarisco_restart(&outstation, setup, classes, 64, analogs, 63) == 0, "restart");
     memcpy(selects, operate, sizeof selects);
     selects[1] = 3;
-    /* The longest fragments: a request that is no READ, and a SELECT of eight objects. */
+    /* The longest fragments: a request that is no READ, and a SELECT of eight objects, relays' and analog outputs'. */
     memset(longest, 0, sizeof longest);
     longest[0] = 0xC5;
     longest[1] = 2;
     memcpy(controls, (const uint8_t[]){0xC6, 3, 12, 1, 0x28, 8, 0}, 7);
+    for (int how = SELECT; how <= DIRECT; how++) {
+        memcpy(sets[how], (const uint8_t[]){(uint8_t)(0xC6 + how), (uint8_t)(3 + how), 41, 3, 0x28, 8, 0}, 7);
+        for (int i = 0; i < 8; i++) memcpy(sets[how] + 7 + 7 * i, (const uint8_t[]){(uint8_t)i, 0, 0, 0, 0x20, 0x40, 0}, 7); /* 2.5, the second end */
+    }
     for (int i = 0; i < 8; i++) memcpy(controls + 7 + 13 * i, (const uint8_t[]){(uint8_t)i, 0, 3, 1, 0, 0, 0, 0, 0, 0, 0, 0, 0}, 13);
 }
 
 static void layout(void) {
     const struct pomarisco_head *h = &outstation.head;
-    expect(h->arm_time == 5001 && h->confirm_time == 6002 && h->clock == 0 && h->outputs == 15, "times, outputs");
+    expect(h->arm_time == 5001 && h->confirm_time == 6002 && h->clock == 0 && h->outputs == 15 && h->analog_outputs == OUTPUTS, "times, outputs");
     expect(h->binary_count == 64 && h->analog_count == 63 && h->event_count == 0 && h->overflow == 0, "counts");
     expect(h->restarted == 1 && h->latch_armed == 0 && h->request_kept == 0 && h->waiting == 0, "restarted");
     for (size_t i = 0; i < 64; i++) {
@@ -72,6 +79,10 @@ static void layout(void) {
         expect(a.gate == i % 4, "a gate");
         if (a.gate >= 2) expect(a.kind == 2 ? a.limit == pomarisco_float_bits(1.5f) : a.limit == 70000u + i, "a limit");
         if (a.kind == 2) expect(a.gain == pomarisco_float_bits(2.5f) && a.offset == pomarisco_float_bits(0.25f), "a scale");
+    }
+    for (size_t i = 0; i < OUTPUTS; i++) {
+        const struct pomarisco_analog_output a = pomarisco_analog_output_at(&outstation, i), s = setup.analog_outputs[i];
+        expect(a.kind == (i < 8 ? 2 : i < 11 ? 0 : 1) && a.low == s.low && a.high == s.high, "an analog output");
     }
 
     /* Readings: first values, then changes of flags, which are events. */
@@ -102,10 +113,24 @@ static void layout(void) {
     expect(answer.kind == 0 && answer.length > 4 && out[0] == 0xE3 && h->waiting == 1 && h->wait_time == 10000 && h->wait_sequence == 3 && h->showed_overflow == 0, "wait");
     expect(pomarisco_event_at(&outstation, 63).carried == 1, "carried");
     answer = pomarisco_fragment(&outstation, 10000, operate, sizeof operate, out, sizeof out, &operated);
-    expect(operated.count == 1 && operated.items[0].index == 5 && operated.items[0].code == 3 && operated.items[0].count == 1, "operated");
+    const struct pomarisco_crob *crob = &operated.crobs.items[0];
+    expect(operated.crobs.count == 1 && crob->index == 5 && crob->code == 3 && crob->count == 1 && crob->status == 0 && operated.analog_commands.count == 0, "operated");
     expect(h->request_kept == 1 && h->request_len == 18 && memcmp(outstation.request, operate, 18) == 0 && h->answer_len == answer.length && memcmp(outstation.answer, out, answer.length) == 0, "last request");
     answer = pomarisco_fragment(&outstation, 10001, selects, sizeof selects, out, sizeof out, &operated);
     expect(h->latch_armed == 1 && h->latch_sequence == 4 && h->latch_time == 10001 && h->latch_len == 16 && memcmp(outstation.latch_objects, operate + 2, 16) == 0, "latch");
+
+    answer = pomarisco_fragment(&outstation, 10002, sets[SELECT], sizeof sets[SELECT], out, sizeof out, &operated);
+    expect(h->latch_armed > 1 && h->latch_sequence == 6 && h->latch_time == 10002 && h->latch_len == sizeof sets[SELECT] - 2 && memcmp(outstation.latch_objects, sets[SELECT] + 2, h->latch_len) == 0, "latch for analog outputs");
+    expect(operated.crobs.count == 0 && operated.analog_commands.count == 0, "selected");
+    answer = pomarisco_fragment(&outstation, 10002, sets[OPERATE], sizeof sets[OPERATE], out, sizeof out, &operated);
+    expect(operated.crobs.count == 0 && operated.analog_commands.count == 8, "operated, analog outputs");
+    const struct pomarisco_analog_command *c = operated.analog_commands.items;
+    for (size_t i = 0; i < 8; i++) expect(c[i].index == i && c[i].kind == 2 && pomarisco_bits_float(c[i].bits) == 2.5f && c[i].status == 0, "a set point");
+    static const uint8_t shorts[] = {0xC8, 5, 41, 2, 0x17, 1, 13, 0xD4, 0xFE, 0}, longs[] = {0xC9, 5, 41, 1, 0x17, 1, 10, 0x90, 0xEE, 0xFE, 0xFF, 0};
+    answer = pomarisco_fragment(&outstation, 10002, shorts, sizeof shorts, out, sizeof out, &operated);
+    expect(operated.analog_commands.count == 1 && c->index == 13 && c->kind == 1 && pomarisco_bits_whole(c->bits) == -300, "a 16-bit set point");
+    answer = pomarisco_fragment(&outstation, 10002, longs, sizeof longs, out, sizeof out, &operated);
+    expect(operated.analog_commands.count == 1 && c->index == 10 && c->kind == 0 && pomarisco_bits_whole(c->bits) == -70000, "a 32-bit set point");
 }
 
 static void fill(void) {
@@ -141,6 +166,9 @@ static void read_class_0(void) { fragment_call(class_0, sizeof class_0); }
 static void control(void) { fragment_call(operate, sizeof operate); }
 static void select_one(void) { fragment_call(selects, sizeof selects); }
 static void select_eight(void) { fragment_call(controls, sizeof controls); }
+static void select_set_points(void) { fragment_call(sets[SELECT], sizeof sets[SELECT]); }
+static void operate_set_points(void) { fragment_call(sets[OPERATE], sizeof sets[OPERATE]); }
+static void direct_set_points(void) { fragment_call(sets[DIRECT], sizeof sets[DIRECT]); }
 static void longest_request(void) { fragment_call(longest, sizeof longest); }
 static void confirm(void) { fragment_call((const uint8_t[]){0xC3, 0}, 2); }
 static void frame_write(void) { refusal = pomarisco_frame_write(frame, sizeof frame, 0xC4, 1, 2, user, sizeof user).refusal; }
@@ -171,6 +199,11 @@ static void operate_selected(void) {
 }
 
 static void as_full(void) { outstation = full; }
+
+static void after_set_points(void) {
+    as_full();
+    select_set_points();
+}
 
 static void nothing_kept(void) { receiver.kept = 0; }
 
@@ -227,7 +260,9 @@ int main(void) {
         {"table of 128", as_full, tables}, {"fragment: READ events", as_full, read_events}, {"fragment: READ class 0", as_full, read_class_0},
         {"fragment: CONFIRM", as_full, confirm}, {"fragment: SELECT of 1", as_full, select_one}, {"fragment: SELECT of 8", as_full, select_eight},
         {"fragment: SELECT repeated", after_select, select_one}, {"fragment: OPERATE", after_select, operate_selected},
-        {"fragment: DIRECT OPERATE", as_full, control}, {"fragment: WRITE, 2048 bytes", as_full, longest_request}, {"frame_write", as_full, frame_write},
+        {"fragment: DIRECT OPERATE", as_full, control}, {"fragment: SELECT of 8 set points", as_full, select_set_points},
+        {"fragment: OPERATE of 8 set points", after_set_points, operate_set_points}, {"fragment: DIRECT OPERATE of 8 set points", as_full, direct_set_points},
+        {"fragment: WRITE, 2048 bytes", as_full, longest_request}, {"frame_write", as_full, frame_write},
         {"frame_read", as_full, frame_read}, {"piece_receive, a frame", nothing_kept, piece_receive}, {"piece_receive, its 2nd half", half_kept, second_half},
         {"piece_receive, a byte of it", half_kept, one_byte}, {"link_receive", as_full, link_receive}, {"link_reply", as_full, link_reply}, {"link_data", as_full, link_data},
         {"segment_receive", as_full, segment_receive}, {"segment_receive, a repeat", two_segments, segment_again}, {"segment_send", as_full, segment_send}};
@@ -242,7 +277,7 @@ int main(void) {
         refusal = answer.refusal = 0;
         const size_t stack = stack_of(calls[i].call) - base;
         expect(refusal == 0 && answer.refusal == 0, calls[i].name);
-        printf("%-28s %6zu bytes of stack %8.2f us\n", calls[i].name, stack, time_of(calls[i].before, calls[i].call) - clock_read);
+        printf("%-40s %6zu bytes of stack %8.2f us\n", calls[i].name, stack, time_of(calls[i].before, calls[i].call) - clock_read);
     }
     return wrong;
 }

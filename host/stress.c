@@ -98,6 +98,7 @@ static struct pomarisco_head plain_head(struct pomarisco_head h) {
     h.binary_count = least(h.binary_count, POMARISCO_BINARIES);
     h.analog_count = least(h.analog_count, POMARISCO_ANALOGS);
     h.event_count = least(h.event_count, POMARISCO_EVENTS);
+    h.analog_outputs = (uint16_t)least(h.analog_outputs, POMARISCO_ANALOG_OUTPUTS);
     h.overflow = truth(h.overflow);
     h.restarted = truth(h.restarted);
     h.waiting = truth(h.waiting);
@@ -113,7 +114,7 @@ static struct pomarisco_head plain_head(struct pomarisco_head h) {
     }
     h.request_len = least(h.request_len, POMARISCO_FRAGMENT);
     h.answer_len = least(h.answer_len, 113);
-    h.latch_armed = truth(h.latch_armed);
+    h.latch_armed = (uint8_t)least(h.latch_armed, 2);
     if (h.latch_armed == 0) {
         h.latch_time = 0;
         h.latch_sequence = 0;
@@ -145,6 +146,7 @@ static void fold_head(const struct pomarisco_head *h) {
     fold(h->request_kept);
     fold(h->latch_armed);
     fold(h->latch_sequence);
+    fold(h->analog_outputs);
 }
 
 /* Every NaN's bits stand for the one NaN. */
@@ -180,6 +182,14 @@ static void fold_analog(const uint32_t *w) {
     }
 }
 
+static void fold_output(const uint32_t *w) {
+    const uint32_t kind = w[0] < 2 ? w[0] : 2;
+    fold(kind);
+    for (int i = 1; i < 3; i++) {
+        fold(kind < 2 ? w[i] : plain_float(w[i]));
+    }
+}
+
 static void fold_event(const uint64_t *w) {
     const uint32_t bits = (uint32_t)w[1], kind = (uint32_t)(w[1] >> 48 & 0xFF), shown = kind < 4 ? kind : 2;
     const uint64_t number = shown == 3 ? bits != 0 : plain_value(shown, bits);
@@ -191,7 +201,7 @@ static void fold_event(const uint64_t *w) {
 
 static struct pomarisco_head head;
 static uint64_t *events;
-static uint32_t *binaries, *analogs;
+static uint32_t *binaries, *analogs, *analog_outputs;
 static uint8_t *request, *answer, *latch_objects;
 static uint8_t *out[LENGTH(lengths)];
 
@@ -201,6 +211,9 @@ static void fold_arrays(const struct pomarisco_head *h) {
     }
     for (size_t i = 0; i < h->analog_count; i++) {
         fold_analog(analogs + 8 * i);
+    }
+    for (size_t i = 0; i < h->analog_outputs; i++) {
+        fold_output(analog_outputs + 3 * i);
     }
     for (size_t i = 0; i < h->event_count; i++) {
         fold_event(events + 2 * i);
@@ -232,7 +245,7 @@ static struct {
     uint8_t refusal, kind;
     size_t taken, length;
     uint64_t more; /* the sum of the other numbers: of a frame read, a line record, an assembly, segments sent, bytes kept */
-    struct pomarisco_crobs operated;
+    struct pomarisco_operated operated;
 } result;
 
 /* The line's state. The receiver's memory is in a block of its own. */
@@ -311,7 +324,7 @@ static void make_call(void) {
     if (call.kind == RESTART) {
         uint8_t *classes = copy(call.classes, call.class_count);
         struct pomarisco_analog_setup *setups = copy(call.setups, call.setup_count * sizeof *setups);
-        const struct pomarisco_restarted r = pomarisco_lent_restart(call.setup, classes, call.class_count, setups, call.setup_count, binaries, analogs);
+        const struct pomarisco_restarted r = pomarisco_lent_restart(call.setup, classes, call.class_count, setups, call.setup_count, binaries, analogs, analog_outputs);
         head = r.head;
         result.refusal = r.refusal;
         station = (struct pomarisco_station){call.setup.own, call.setup.master};
@@ -336,7 +349,7 @@ static void make_call(void) {
         line_call();
     } else {
         uint8_t *bytes = copy(call.bytes, call.length);
-        const struct pomarisco_answer r = pomarisco_lent_fragment(head, binaries, analogs, events, request, answer, latch_objects, call.time, bytes, call.length, out[call.out], lengths[call.out]);
+        const struct pomarisco_answer r = pomarisco_lent_fragment(head, binaries, analogs, events, request, answer, latch_objects, analog_outputs, call.time, bytes, call.length, out[call.out], lengths[call.out]);
         head = r.head;
         result.refusal = r.answer.refusal;
         result.kind = r.answer.kind;
@@ -358,14 +371,22 @@ static void fold_result(void) {
         fold(result.length);
         fold(result.more);
         fold_bytes(out[call.out], lengths[call.out]);
-        fold(result.operated.count);
-        for (size_t i = 0; i < result.operated.count; i++) {
-            const struct pomarisco_crob *c = &result.operated.items[i];
+        fold(result.operated.crobs.count);
+        for (size_t i = 0; i < result.operated.crobs.count; i++) {
+            const struct pomarisco_crob *c = &result.operated.crobs.items[i];
             fold(c->on_time);
             fold(c->off_time);
             fold(c->index);
             fold(c->code);
             fold(c->count);
+            fold(c->status);
+        }
+        fold(result.operated.analog_commands.count);
+        for (size_t i = 0; i < result.operated.analog_commands.count; i++) {
+            const struct pomarisco_analog_command *c = &result.operated.analog_commands.items[i];
+            fold(c->bits);
+            fold(c->index);
+            fold(c->kind);
             fold(c->status);
         }
     }
@@ -394,15 +415,24 @@ enum count {
     READ_PLAIN,
     READ_FAULT,
     WRITE,
-    SELECT_ARMED,
+    SELECT_RELAYS,
+    SELECT_SETS,
     SELECT_OTHER,
-    OPERATE_DONE,
+    OPERATE_RELAYS,
+    OPERATE_SETS,
     OPERATE_OTHER,
-    DIRECT_DONE,
+    OPERATE_ZERO,
+    OPERATE_VARIATION,
+    OPERATE_GROUP,
+    DIRECT_RELAYS,
+    DIRECT_SETS,
     DIRECT_OTHER,
     NO_RESPONSE,
     OTHER_FUNCTION,
-    OBJECTS,
+    RELAYS,
+    SETS_32,
+    SETS_16,
+    SETS_FLOAT,
     FULL,
     DROPPED,
     CLEARED,
@@ -449,15 +479,24 @@ static const char *const names[COUNTS] = {
     "READ without CON",
     "READ with a fault",
     "WRITE",
-    "SELECT that armed the latch",
+    "SELECT that armed the latch for relays",
+    "SELECT that armed the latch for analog outputs",
     "SELECT that did not",
-    "OPERATE carried out",
+    "OPERATE of relays carried out",
+    "OPERATE of analog outputs carried out",
     "OPERATE not carried out",
-    "DIRECT OPERATE carried out",
+    "OPERATE with a zero of the other sign not carried out",
+    "OPERATE with another variation not carried out",
+    "OPERATE of the other group not carried out",
+    "DIRECT OPERATE of relays carried out",
+    "DIRECT OPERATE of analog outputs carried out",
     "DIRECT OPERATE not carried out",
     "DIRECT OPERATE NO RESPONSE",
     "another function",
-    "objects handed to the host",
+    "relays' objects handed to the host",
+    "32-bit set points handed to the host",
+    "16-bit set points handed to the host",
+    "float set points handed to the host",
     "256 events held after the call",
     "IIN2.3 set by the call",
     "IIN2.3 cleared by the call",
@@ -492,7 +531,7 @@ static struct {
     struct pomarisco_setup setup;
     uint8_t classes[POMARISCO_BINARIES];
     struct pomarisco_analog_setup setups[POMARISCO_ANALOGS];
-    uint32_t binaries, analogs, outputs;
+    uint32_t binaries, analogs, outputs, analog_outputs;
     uint64_t arm_time, confirm_time;
     uint8_t states[64], kinds[64];
     uint32_t limits[64], given[64];
@@ -505,6 +544,7 @@ static struct {
     uint64_t select_time;
     uint8_t objects[POMARISCO_FRAGMENT], request[POMARISCO_FRAGMENT];
     size_t objects_length, request_length;
+    enum count other; /* in what an OPERATE differs from the SELECT, where it is counted */
     uint32_t filling; /* calls left in which the buffer is to fill */
     uint8_t overflow;
     uint8_t frame[POMARISCO_FRAME]; /* the frame written last */
@@ -527,6 +567,14 @@ static struct {
 #define CODES 0x01, 0x03, 0x04, 0x41, 0x81
 #define PULSES 1, 100, 59999, 60000
 #define NO_PULSES 0, 60001, 65536, 65537
+
+/* Ends of analog outputs, by their kind. */
+enum { ENDS = 8 };
+static const uint32_t ends[3][ENDS][2] = {
+    {{0x80000000, 0x7FFFFFFF}, {0, 0}, {0x80000000, 0x80000000}, {0x7FFFFFFF, 0x7FFFFFFF}, {0xFFFFFED4, 0xFFFFFF00}, {254, 257}, {0xFFFFFF9C, 100}, {0xFFFF0000, 65536}},
+    {{0xFFFF8000, 32767}, {0, 0}, {0xFFFF8000, 0xFFFF8000}, {32767, 32767}, {0xFFFFFED4, 0xFFFFFF00}, {254, 257}, {0xFFFFFF9C, 100}, {0xFFFFFFFF, 1}},
+    {{0xFF7FFFFF, 0x7F7FFFFF}, {0, 0x80000000}, {0x80000000, 0}, {0x3F800000, 0x3F800000}, {0x80000001, 0x00000001}, {0xBF800000, 0x3F800000}, {0xC2C80000, 0x42C80000}, {0, 0x3F800000}},
+};
 
 /* ---- restart */
 
@@ -564,6 +612,41 @@ static struct pomarisco_analog_setup some_analog(void) {
     return a;
 }
 
+static struct pomarisco_analog_output some_output(uint32_t kind) {
+    const uint32_t *pair = ends[kind][below(ENDS)];
+    /* Any other number is a float's. */
+    if (kind == 2 && chance(20)) {
+        kind = 2 + below(254);
+    }
+    return pomarisco_output_of((uint8_t)kind, pair[0], pair[1]);
+}
+
+/* Of all kinds, or all of one; those past the count are anything. */
+static void some_outputs(struct pomarisco_setup *s) {
+    const uint32_t one = below(6);
+    for (uint32_t i = 0; i < POMARISCO_ANALOG_OUTPUTS; i++) {
+        if (i < s->analog_output_count) {
+            s->analog_outputs[i] = some_output(one < 3 ? one : below(3));
+        } else {
+            const uint32_t low = any(), high = any();
+            s->analog_outputs[i] = pomarisco_output_of((uint8_t)below(256), low, high);
+        }
+    }
+}
+
+/* The first end above the second, one that 16 bits do not hold, or one that is not finite. */
+static struct pomarisco_analog_output wrong_output(uint32_t fault) {
+    const uint32_t by = below(1000), not_finite = PICK(NOT_FINITE), other = below(254);
+    const int first = chance(50);
+    if (fault == 15) {
+        return pomarisco_output_of((uint8_t)below(3), 1, 0);
+    }
+    if (fault == 16) {
+        return first ? pomarisco_output_of(1, 0xFFFF7FFF - by, 0) : pomarisco_output_of(1, 0, 32768 + by);
+    }
+    return pomarisco_output_of((uint8_t)(2 + other), first ? not_finite : 0, first ? 0x7F7FFFFF : not_finite);
+}
+
 static void some_restart(int broken) {
     call.kind = RESTART;
     /* Each count of the line record. */
@@ -576,9 +659,10 @@ static void some_restart(int broken) {
     s->own = (uint16_t)own;
     s->master = (uint16_t)((own + 1 + below(100)) % 65520);
     s->outputs = (uint16_t)PICK(0, 1, 8, 16, 16);
+    s->analog_output_count = (uint16_t)PICK(0, 1, 8, 16, 16);
     call.class_count = some_points();
     call.setup_count = some_points();
-    const uint32_t fault = broken ? 1 + below(13) : 0;
+    const uint32_t fault = broken ? 1 + below(17) : 0;
     switch (fault) {
     case 1: call.class_count = 65 + below(MOST_POINTS - 64); break;
     case 2: call.setup_count = 65 + below(MOST_POINTS - 64); break;
@@ -589,6 +673,7 @@ static void some_restart(int broken) {
     case 7: s->arm_time = 64001 + below(1000); break;
     case 8: s->confirm_time = 0; break;
     case 9: s->confirm_time = 60001 + below(1000); break;
+    case 14: s->analog_output_count = (uint16_t)(17 + below(65519)); break;
     default: break;
     }
     for (size_t i = 0; i < call.class_count; i++) {
@@ -597,17 +682,22 @@ static void some_restart(int broken) {
     for (size_t i = 0; i < call.setup_count; i++) {
         call.setups[i] = some_analog();
     }
+    some_outputs(s);
     if (fault == 10 && call.class_count > 0) {
         const uint32_t place = below((uint32_t)call.class_count);
         call.classes[place] = (uint8_t)(4 + below(252));
     }
-    if (fault > 10 && call.setup_count > 0) {
+    if (fault > 10 && fault < 14 && call.setup_count > 0) {
         struct pomarisco_analog_setup *a = &call.setups[below((uint32_t)call.setup_count)];
         switch (fault) {
         case 11: a->class_ = (uint8_t)(4 + below(252)); break;
         case 12: a->gain = PICK(NOT_FINITE); break;
         default: a->limit = 0x80000001 + below(0x7FFFFFFF); break;
         }
+    }
+    if (fault > 14 && s->analog_output_count > 0) {
+        const uint32_t place = below(s->analog_output_count);
+        s->analog_outputs[place] = wrong_output(fault);
     }
 }
 
@@ -634,6 +724,7 @@ static void restarted(void) {
     host.binaries = (uint32_t)call.class_count;
     host.analogs = (uint32_t)call.setup_count;
     host.outputs = call.setup.outputs;
+    host.analog_outputs = call.setup.analog_output_count;
     host.arm_time = call.setup.arm_time;
     host.confirm_time = call.setup.confirm_time;
     for (size_t i = 0; i < call.setup_count; i++) {
@@ -847,7 +938,7 @@ static uint32_t some_on_time(void) {
     return chance(60) ? none : any();
 }
 
-static void some_control(void) {
+static void some_relays(void) {
     const uint32_t count = chance(50) ? 1 : 1 + below(8);
     const int wide = chance(40);
     put3(12, 1, wide ? 0x28 : 0x17);
@@ -878,14 +969,164 @@ static void some_control(void) {
     }
 }
 
+static uint32_t output_kind(uint32_t place) {
+    const uint8_t kind = host.setup.analog_outputs[place].kind;
+    return kind < 2 ? kind : 2;
+}
+
+/* A float: mostly an end of its output or a zero within them. */
+static uint32_t some_set_float(uint32_t low, uint32_t high) {
+    const int inside = chance(90);
+    const uint32_t which = below(8);
+    if (inside) {
+        const int zero = pomarisco_bits_float(low) <= 0.0f && 0.0f <= pomarisco_bits_float(high);
+        return which < 2 || (which >= 4 && !zero) ? low : which < 4 ? high : PICK(0, 0x80000000);
+    }
+    switch (which) {
+    case 0: return low - 1;
+    case 1: return low + 1;
+    case 2: return high - 1;
+    case 3: return high + 1;
+    case 4: return low ^ 0x80000000;
+    case 5: return PICK(NOT_FINITE);
+    case 6: return PICK(FLOATS);
+    default: return any();
+    }
+}
+
+/* A whole value: mostly within the ends of its output, often an end; else next to one, or one that is cut to 16 bits. */
+static uint32_t some_set_whole(uint32_t low, uint32_t high) {
+    const int inside = chance(90);
+    const uint32_t which = below(8);
+    if (inside) {
+        return which < 2 ? low : which < 4 ? high : low + below(high - low + 1);
+    }
+    switch (which) {
+    case 0:
+    case 1: return low - 1;
+    case 2:
+    case 3: return high + 1;
+    case 4: return low ^ 0x8000;
+    case 5: return 0 - high;
+    case 6: return high + 65536;
+    default: return any();
+    }
+}
+
+/* The next output of this kind; where there is no other, the same. */
+static uint32_t next_alike(uint32_t place, uint32_t kind) {
+    for (uint32_t i = 1; i < host.analog_outputs; i++) {
+        const uint32_t next = (place + i) % host.analog_outputs;
+        if (output_kind(next) == kind) {
+            return next;
+        }
+    }
+    return place;
+}
+
+/* Mostly for different outputs of the header's kind. */
+static void some_set_points(void) {
+    const uint32_t count = chance(50) ? 1 : 1 + below(8);
+    const int wide = chance(40);
+    const uint32_t most = host.analog_outputs > 0 ? host.analog_outputs : 1;
+    uint32_t place = below(most), kind = below(3);
+    if (host.analog_outputs > 0 && chance(97)) {
+        kind = output_kind(place);
+    }
+    put3(41, kind + 1, wide ? 0x28 : 0x17);
+    put(count);
+    if (wide) {
+        put(0);
+    }
+    for (uint32_t i = 0; i < count; i++) {
+        uint32_t index = place;
+        if (chance(3)) {
+            index = PICK(0, 15, 16, 17, 255);
+        }
+        put(index);
+        if (wide) {
+            put(chance(2) ? 1 : 0);
+        }
+        uint32_t bits = any();
+        if (index < host.analog_outputs) {
+            const struct pomarisco_analog_output *o = &host.setup.analog_outputs[index];
+            bits = kind == 2 ? some_set_float(o->low, o->high) : some_set_whole(o->low, o->high);
+        }
+        put(bits & 0xFF);
+        put(bits >> 8 & 0xFF);
+        if (kind != 1) {
+            put(bits >> 16 & 0xFF);
+            put(bits >> 24);
+        }
+        put(chance(2) ? below(256) : 0);
+        place = next_alike(place, kind);
+    }
+}
+
+static void some_control(void) {
+    if (chance(host.analog_outputs > 0 ? 50 : 8)) {
+        some_set_points();
+    } else {
+        some_relays();
+    }
+}
+
 /* The selected objects as with qualifier 28: they are not those selected. */
 static void widened(void) {
+    const size_t each = host.objects[0] == 12 ? 12 : host.objects[1] == 2 ? 4 : 6;
     for (size_t i = 0; i < host.objects_length; i++) {
         put(i == 2 ? 0x28 : host.objects[i]);
         /* After the count and after each index. */
-        if (i >= 3 && (i == 3 || (i - 4) % 12 == 0)) {
+        if (i >= 3 && (i == 3 || (i - 4) % each == 0)) {
             put(0);
         }
+    }
+}
+
+/* The selected objects, each float zero with the other sign. */
+static void other_zeros(void) {
+    put_bytes(host.objects, host.objects_length);
+    const size_t width = host.objects[2] == 0x17 ? 1 : 2, each = width + 5;
+    for (size_t at = 5 + width; host.objects[0] == 41 && host.objects[1] == 3 && at + each <= call.length; at += each) {
+        uint8_t *value = call.bytes + at + width;
+        if ((value[0] | value[1] | value[2] | (value[3] & 0x7F)) == 0) {
+            value[3] ^= 0x80;
+            host.other = OPERATE_ZERO;
+        }
+    }
+}
+
+/* The selected objects under the other variation of that size, where there is one. */
+static void other_variation(void) {
+    put_bytes(host.objects, host.objects_length);
+    if (host.objects[0] == 41 && (host.objects[1] == 1 || host.objects[1] == 3)) {
+        call.bytes[3] ^= 2;
+        host.other = OPERATE_VARIATION;
+    }
+}
+
+static void other_group(void) {
+    host.other = OPERATE_GROUP;
+    if (host.objects[0] == 12) {
+        some_set_points();
+    } else {
+        some_relays();
+    }
+}
+
+/* The OPERATE of what was selected, or one that differs from it. */
+static void selected(void) {
+    const uint32_t how = host.objects_length > 3 ? below(100) : 100;
+    if (how < 4 && host.objects[2] == 0x17) {
+        widened();
+    } else if (how >= 4 && how < 8) {
+        other_group();
+    } else if (how >= 8 && how < 20) {
+        other_zeros();
+    } else if (how >= 20 && how < 24) {
+        other_variation();
+    } else {
+        put_bytes(host.objects, host.objects_length);
     }
 }
 
@@ -909,6 +1150,7 @@ static void lend(size_t first, uint32_t one_in) {
 static void some_fragment(void) {
     call.kind = FRAGMENT;
     call.time = some_time();
+    host.other = COUNTS;
     uint32_t which = below(100);
     /* What is awaited comes soon, as a master would send it. */
     if (host.waiting && chance(30)) {
@@ -952,12 +1194,7 @@ static void some_fragment(void) {
             host.sequence = (host.select_sequence + 1) % 16;
             put(0xC0u | host.sequence);
             put(4);
-            const int narrow = host.objects_length > 2 && host.objects[2] == 0x17;
-            if (narrow && chance(4)) {
-                widened();
-            } else {
-                put_bytes(host.objects, host.objects_length);
-            }
+            selected();
             at_end(host.select_time, host.arm_time);
         } else {
             begin(4);
@@ -1014,7 +1251,12 @@ static void answered(void) {
         counts[CONFIRM_ACCEPTED]++;
         return;
     }
-    counts[OBJECTS] += result.operated.count;
+    const struct pomarisco_analog_commands *sets = &result.operated.analog_commands;
+    const size_t relays = result.operated.crobs.count;
+    counts[RELAYS] += relays;
+    for (size_t i = 0; i < sets->count; i++) {
+        counts[SETS_32 + least(sets->items[i].kind, 2)]++;
+    }
     const uint8_t sequence = call.bytes[0] % 16, function = call.bytes[1];
     if (function != 1 && call.length == host.request_length && memcmp(call.bytes, host.request, call.length) == 0) {
         counts[REPEAT]++;
@@ -1025,7 +1267,7 @@ static void answered(void) {
     host.sequence = sequence;
     host.waiting = 0;
     host.selected = 0;
-    const int done = result.operated.count > 0;
+    const int done = relays + sets->count > 0;
     if (result.length > 2000) {
         counts[LONG]++;
     }
@@ -1051,10 +1293,15 @@ static void answered(void) {
         host.select_time = call.time;
         host.objects_length = call.length - 2;
         memcpy(host.objects, call.bytes + 2, host.objects_length);
-        counts[head.latch_armed != 0 ? SELECT_ARMED : SELECT_OTHER]++;
+        counts[head.latch_armed == 0 ? SELECT_OTHER : head.latch_armed == 1 ? SELECT_RELAYS : SELECT_SETS]++;
         break;
-    case 4: counts[done ? OPERATE_DONE : OPERATE_OTHER]++; break;
-    case 5: counts[done ? DIRECT_DONE : DIRECT_OTHER]++; break;
+    case 4:
+        counts[!done ? OPERATE_OTHER : relays > 0 ? OPERATE_RELAYS : OPERATE_SETS]++;
+        if (!done && host.other != COUNTS) {
+            counts[host.other]++;
+        }
+        break;
+    case 5: counts[!done ? DIRECT_OTHER : relays > 0 ? DIRECT_RELAYS : DIRECT_SETS]++; break;
     case 6: counts[NO_RESPONSE]++; break;
     default: counts[OTHER_FUNCTION]++; break;
     }
@@ -1315,6 +1562,7 @@ int main(int argc, char **argv) {
     events = memset(block(512 * sizeof *events), FILL, 512 * sizeof *events);
     binaries = memset(block(64 * sizeof *binaries), FILL, 64 * sizeof *binaries);
     analogs = memset(block(512 * sizeof *analogs), FILL, 512 * sizeof *analogs);
+    analog_outputs = memset(block(48 * sizeof *analog_outputs), FILL, 48 * sizeof *analog_outputs);
     request = memset(block(2048), FILL, 2048);
     answer = memset(block(113), FILL, 113);
     latch_objects = memset(block(109), FILL, 109);
@@ -1342,6 +1590,7 @@ int main(int argc, char **argv) {
     free(events);
     free(binaries);
     free(analogs);
+    free(analog_outputs);
     free(request);
     free(answer);
     free(latch_objects);

@@ -12,7 +12,8 @@
  *  - A truth is a uint8_t, 0 for false and any other number for true.
  *  - Of a reading and of an analog's setup only the fields named with its kind count; of a wait, a last request or a latch
  *    that is not there, none. Array elements past the count do not count.
- *  - A count of the head above its array's length means all of the array. (Over 64 classes or analog setups lent to restart are refused, 5.)
+ *  - A count of the head above its array's length means all of the array. (Over 64 classes or analog setups lent to restart are refused, 5, and so
+ *    are over 16 analog outputs of a setup.)
  * From restart on, changed by calls alone, no count passes its array. What does not count may change in any call, also in a refused
  * one: compare meanings, not bytes.
  *
@@ -41,7 +42,7 @@
  *   2    no such point of that kind                                                  the state as it was
  *   3    float reading not finite                                                    the state as it was
  *   4    host flags above 31                                                         the state as it was
- *   5    setup breaks a limit                                                        no outstation (see restart)
+ *   5    setup breaks a limit (see struct pomarisco_setup)                           no outstation (see restart)
  *   11   under 10 bytes, or under the frame's size                                   only the line record counts it
  *   12   not 05 64                                                                   only the line record counts it
  *   13   header check wrong                                                          only the line record counts it
@@ -69,6 +70,7 @@
 
 #define POMARISCO_BINARIES 64      /* most binary inputs */
 #define POMARISCO_ANALOGS 64       /* most analog inputs */
+#define POMARISCO_ANALOG_OUTPUTS 16 /* most analog outputs */
 #define POMARISCO_EVENTS 256       /* most events held */
 #define POMARISCO_CONTROLS 8       /* most objects handed over by one fragment */
 #define POMARISCO_FRAGMENT 2048    /* longest fragment; lend so much for an answer and for an assembly */
@@ -91,7 +93,7 @@ struct pomarisco_head {            /* all of the state that is no array. Times i
     size_t request_len;            /* length of the last accepted request */
     size_t answer_len;             /* length of its answer; 0: there is none, as for a READ */
     size_t latch_len;              /* length of the select latch's objects */
-    uint16_t outputs;              /* installed control outputs */
+    uint16_t outputs;              /* installed control outputs: relays */
     uint8_t overflow;              /* a truth: IIN2.3, an event was dropped */
     uint8_t restarted;             /* a truth: IIN1.7 */
     uint8_t waiting;               /* a truth: a response awaits its confirmation. The other wait_, showed_ and dropped_ fields count only then */
@@ -99,11 +101,13 @@ struct pomarisco_head {            /* all of the state that is no array. Times i
     uint8_t showed_overflow;       /* a truth: it showed IIN2.3 */
     uint8_t dropped_since;         /* a truth: an event was dropped since */
     uint8_t request_kept;          /* a truth: there is a last request. Its lengths count only then */
-    uint8_t latch_armed;           /* a truth: a SELECT holds. The other latch_ fields count only then */
+    uint8_t latch_armed;           /* 0: no SELECT holds, and the other latch_ fields do not count; 1: one of relays; any other: one of analog outputs */
     uint8_t latch_sequence;        /* its sequence number */
+    uint16_t analog_outputs;       /* installed analog outputs */
 };
 
-/* A host allocates one, once. Words of the arrays are numbers (bit 0 is the lowest); pomarisco_binary_at, _analog_at and _event_at read them. */
+/* A host allocates one, once. Words of the arrays are numbers (bit 0 is the lowest); pomarisco_binary_at, _analog_at, _analog_output_at and _event_at
+ * read them. */
 struct pomarisco_outstation {
     struct pomarisco_head head;
 
@@ -121,6 +125,9 @@ struct pomarisco_outstation {
      * floats' bits; of others the reported and the previous value are readings before clamping, and gain and offset do not count. */
     uint32_t analogs[8 * POMARISCO_ANALOGS];
 
+    /* Three words an output: kind (0: 32-bit, 1: 16-bit, any other: float), first end, second end, as the setup gave them. */
+    uint32_t analog_outputs[3 * POMARISCO_ANALOG_OUTPUTS];
+
     uint8_t request[POMARISCO_FRAGMENT]; /* the last accepted request: the first request_len */
     uint8_t answer[113];           /* its answer: the first answer_len */
     uint8_t latch_objects[109];    /* the SELECT's objects with their header: the first latch_len */
@@ -128,14 +135,27 @@ struct pomarisco_outstation {
 
 /* ---- what the host gives */
 
+/* An analog output, set by a master to a value of its kind that is not below its first end and not above its second: the ends themselves are allowed.
+ * kind 0: 32-bit; 1: 16-bit, the ends of both int32_t's bits; any other: float, the ends floats' bits. Ends and values are compared as numbers: minus
+ * zero is not below zero. pomarisco_output_32, _16 and _float make them. */
+struct pomarisco_analog_output {
+    uint32_t low;
+    uint32_t high;
+    uint8_t kind;
+};
+
 /* Limits (else 5): addresses 0 to 65,519 and different; arm time at most 64,000 ms; confirm time 1 to 60,000 ms; at most 16
- * outputs, 64 binaries, 64 analogs; classes 0 to 3; gain, offset and a float limit finite, the limit not below 0. */
+ * outputs (relays), 16 analog outputs, 64 binaries, 64 analogs; classes 0 to 3; gain, offset and a float limit finite, the limit not below 0; an
+ * analog output's ends finite, of a 16-bit one -32,768 to 32,767, the first not above the second. All 0 from analog_output_count on: no analog outputs.
+ * Relays and analog outputs are numbered apart, both from 0. */
 struct pomarisco_setup {
     uint32_t arm_time;
     uint32_t confirm_time;
     uint16_t own;
     uint16_t master;
     uint16_t outputs;
+    uint16_t analog_output_count;  /* the first so many of these */
+    struct pomarisco_analog_output analog_outputs[POMARISCO_ANALOG_OUTPUTS];
 };
 
 /* kind 0: a 32-bit point; 1: a 16-bit point; any other: a float point, for which limit, gain and offset are floats' bits. gate: what change of the value
@@ -167,7 +187,7 @@ struct pomarisco_station {         /* the addresses, as set up */
     uint16_t master;
 };
 
-/* ---- what the calls give. refusal: 0, or the number above. A refused call has 0 for size, length, last, addresses, control and operated */
+/* ---- what the calls give. refusal: 0, or the number above. A refused call has 0 for size, length, last, addresses, control and the counts of operated */
 
 struct pomarisco_restarted {
     struct pomarisco_head head;
@@ -201,6 +221,26 @@ struct pomarisco_crobs {           /* the first `count`, in the order asked */
     size_t count;
 };
 
+/* A value (a set point) for an analog output. kind 0: a 32-bit value, bits an int32_t; 1: a 16-bit value, bits an int32_t too; 2: a float's bits
+ * (pomarisco_bits_whole, _bits_float). From restart on, each one that a call hands over has an index below the analog outputs, the kind of that output,
+ * a value that is finite and not outside that output's ends, and status 0. */
+struct pomarisco_analog_command {
+    uint32_t bits;
+    uint16_t index;
+    uint8_t kind;
+    uint8_t status;
+};
+
+struct pomarisco_analog_commands { /* the first `count`, in the order asked */
+    struct pomarisco_analog_command items[POMARISCO_CONTROLS];
+    size_t count;
+};
+
+struct pomarisco_operated {        /* relays' objects or analog outputs', from restart on never both: one count at least is 0 */
+    struct pomarisco_crobs crobs;
+    struct pomarisco_analog_commands analog_commands;
+};
+
 struct pomarisco_fragment_answer { /* kind 0: the answer is the first `length` lent bytes; 1: accepted, not answered; 2: a CONFIRM was accepted; 3: refused */
     size_t length;
     uint8_t kind;
@@ -209,7 +249,7 @@ struct pomarisco_fragment_answer { /* kind 0: the answer is the first `length` l
 
 struct pomarisco_answer {          /* operated: the host is to carry these out, once, also where kind is 1 */
     struct pomarisco_head head;
-    struct pomarisco_crobs operated;
+    struct pomarisco_operated operated;
     struct pomarisco_fragment_answer answer;
 };
 
@@ -302,9 +342,10 @@ struct pomarisco_sending {
 #endif
 #define POMARISCO_SIZE(s, n) POMARISCO_IS(sizeof(struct pomarisco_##s), n)
 #define POMARISCO_AT(s, field, n) POMARISCO_IS(offsetof(struct pomarisco_##s, field), n)
-POMARISCO_SIZE(head, 104); POMARISCO_AT(head, arm_time, 0); POMARISCO_AT(head, confirm_time, 8); POMARISCO_AT(head, clock, 16); POMARISCO_AT(head, wait_time, 24); POMARISCO_AT(head, latch_time, 32); POMARISCO_AT(head, binary_count, 40); POMARISCO_AT(head, analog_count, 48); POMARISCO_AT(head, event_count, 56); POMARISCO_AT(head, request_len, 64); POMARISCO_AT(head, answer_len, 72); POMARISCO_AT(head, latch_len, 80); POMARISCO_AT(head, outputs, 88); POMARISCO_AT(head, overflow, 90); POMARISCO_AT(head, restarted, 91); POMARISCO_AT(head, waiting, 92); POMARISCO_AT(head, wait_sequence, 93); POMARISCO_AT(head, showed_overflow, 94); POMARISCO_AT(head, dropped_since, 95); POMARISCO_AT(head, request_kept, 96); POMARISCO_AT(head, latch_armed, 97); POMARISCO_AT(head, latch_sequence, 98);
-POMARISCO_SIZE(outstation, 8776); POMARISCO_AT(outstation, head, 0); POMARISCO_AT(outstation, events, 104); POMARISCO_AT(outstation, binaries, 4200); POMARISCO_AT(outstation, analogs, 4456); POMARISCO_AT(outstation, request, 6504); POMARISCO_AT(outstation, answer, 8552); POMARISCO_AT(outstation, latch_objects, 8665);
-POMARISCO_SIZE(setup, 16); POMARISCO_AT(setup, arm_time, 0); POMARISCO_AT(setup, confirm_time, 4); POMARISCO_AT(setup, own, 8); POMARISCO_AT(setup, master, 10); POMARISCO_AT(setup, outputs, 12);
+POMARISCO_SIZE(head, 104); POMARISCO_AT(head, arm_time, 0); POMARISCO_AT(head, confirm_time, 8); POMARISCO_AT(head, clock, 16); POMARISCO_AT(head, wait_time, 24); POMARISCO_AT(head, latch_time, 32); POMARISCO_AT(head, binary_count, 40); POMARISCO_AT(head, analog_count, 48); POMARISCO_AT(head, event_count, 56); POMARISCO_AT(head, request_len, 64); POMARISCO_AT(head, answer_len, 72); POMARISCO_AT(head, latch_len, 80); POMARISCO_AT(head, outputs, 88); POMARISCO_AT(head, overflow, 90); POMARISCO_AT(head, restarted, 91); POMARISCO_AT(head, waiting, 92); POMARISCO_AT(head, wait_sequence, 93); POMARISCO_AT(head, showed_overflow, 94); POMARISCO_AT(head, dropped_since, 95); POMARISCO_AT(head, request_kept, 96); POMARISCO_AT(head, latch_armed, 97); POMARISCO_AT(head, latch_sequence, 98); POMARISCO_AT(head, analog_outputs, 100);
+POMARISCO_SIZE(outstation, 8968); POMARISCO_AT(outstation, head, 0); POMARISCO_AT(outstation, events, 104); POMARISCO_AT(outstation, binaries, 4200); POMARISCO_AT(outstation, analogs, 4456); POMARISCO_AT(outstation, analog_outputs, 6504); POMARISCO_AT(outstation, request, 6696); POMARISCO_AT(outstation, answer, 8744); POMARISCO_AT(outstation, latch_objects, 8857);
+POMARISCO_SIZE(analog_output, 12); POMARISCO_AT(analog_output, low, 0); POMARISCO_AT(analog_output, high, 4); POMARISCO_AT(analog_output, kind, 8);
+POMARISCO_SIZE(setup, 208); POMARISCO_AT(setup, arm_time, 0); POMARISCO_AT(setup, confirm_time, 4); POMARISCO_AT(setup, own, 8); POMARISCO_AT(setup, master, 10); POMARISCO_AT(setup, outputs, 12); POMARISCO_AT(setup, analog_output_count, 14); POMARISCO_AT(setup, analog_outputs, 16);
 POMARISCO_SIZE(analog_setup, 16); POMARISCO_AT(analog_setup, limit, 0); POMARISCO_AT(analog_setup, gain, 4); POMARISCO_AT(analog_setup, offset, 8); POMARISCO_AT(analog_setup, class_, 12); POMARISCO_AT(analog_setup, kind, 13); POMARISCO_AT(analog_setup, gate, 14);
 POMARISCO_SIZE(reading, 16); POMARISCO_AT(reading, time, 0); POMARISCO_AT(reading, bits, 8); POMARISCO_AT(reading, point, 12); POMARISCO_AT(reading, kind, 14); POMARISCO_AT(reading, flags, 15);
 POMARISCO_SIZE(station, 4); POMARISCO_AT(station, own, 0); POMARISCO_AT(station, master, 2);
@@ -313,8 +354,11 @@ POMARISCO_SIZE(took, 112); POMARISCO_AT(took, head, 0); POMARISCO_AT(took, refus
 POMARISCO_SIZE(table_took, 120); POMARISCO_AT(table_took, taken, 0); POMARISCO_AT(table_took, head, 8); POMARISCO_AT(table_took, refusal, 112);
 POMARISCO_SIZE(crob, 16); POMARISCO_AT(crob, on_time, 0); POMARISCO_AT(crob, off_time, 4); POMARISCO_AT(crob, index, 8); POMARISCO_AT(crob, code, 10); POMARISCO_AT(crob, count, 11); POMARISCO_AT(crob, status, 12);
 POMARISCO_SIZE(crobs, 136); POMARISCO_AT(crobs, items, 0); POMARISCO_AT(crobs, count, 128);
+POMARISCO_SIZE(analog_command, 8); POMARISCO_AT(analog_command, bits, 0); POMARISCO_AT(analog_command, index, 4); POMARISCO_AT(analog_command, kind, 6); POMARISCO_AT(analog_command, status, 7);
+POMARISCO_SIZE(analog_commands, 72); POMARISCO_AT(analog_commands, items, 0); POMARISCO_AT(analog_commands, count, 64);
+POMARISCO_SIZE(operated, 208); POMARISCO_AT(operated, crobs, 0); POMARISCO_AT(operated, analog_commands, 136);
 POMARISCO_SIZE(fragment_answer, 16); POMARISCO_AT(fragment_answer, length, 0); POMARISCO_AT(fragment_answer, kind, 8); POMARISCO_AT(fragment_answer, refusal, 9);
-POMARISCO_SIZE(answer, 256); POMARISCO_AT(answer, head, 0); POMARISCO_AT(answer, operated, 104); POMARISCO_AT(answer, answer, 240);
+POMARISCO_SIZE(answer, 328); POMARISCO_AT(answer, head, 0); POMARISCO_AT(answer, operated, 104); POMARISCO_AT(answer, answer, 312);
 POMARISCO_SIZE(wrote, 16); POMARISCO_AT(wrote, size, 0); POMARISCO_AT(wrote, refusal, 8);
 POMARISCO_SIZE(frame, 16); POMARISCO_AT(frame, length, 0); POMARISCO_AT(frame, destination, 8); POMARISCO_AT(frame, source, 10); POMARISCO_AT(frame, control, 12); POMARISCO_AT(frame, refusal, 13); POMARISCO_AT(frame, block, 14);
 POMARISCO_SIZE(receiver, 304); POMARISCO_AT(receiver, kept, 0); POMARISCO_AT(receiver, bytes, 8);
@@ -338,9 +382,10 @@ extern "C" {
 #endif
 
 /* A fresh outstation: a restart keeps only the setup, so the host keeps that. Binary i has the class classes[i], analog i is set up by
- * analogs[i]. Writes the points' words, and leaves the other arrays: the head says that they are empty. Refusal 5: the head then has no points
- * and no outputs, and some points' words may be stored. The host also sets its receiver, its assembly and its sender to all 0; the line record stays. */
-struct pomarisco_restarted pomarisco_lent_restart(struct pomarisco_setup setup, const uint8_t *classes, size_t class_count, const struct pomarisco_analog_setup *setups, size_t setup_count, uint32_t *binaries, uint32_t *analogs);
+ * setups[i]. Writes the words of points and analog outputs, and leaves the other arrays: the head says that they are empty. Refusal 5: the head then
+ * has no points and no outputs of either kind, and some words may be stored. The host also sets its receiver, its assembly and its sender to all 0; the
+ * line record stays. */
+struct pomarisco_restarted pomarisco_lent_restart(struct pomarisco_setup setup, const uint8_t *classes, size_t class_count, const struct pomarisco_analog_setup *setups, size_t setup_count, uint32_t *binaries, uint32_t *analogs, uint32_t *analog_outputs);
 
 /* One reading. Changes the point, the held events with overflow, dropped_since, the clock. Refusals 1 to 4. */
 struct pomarisco_took pomarisco_lent_reading(struct pomarisco_head head, uint32_t *binaries, uint32_t *analogs, uint64_t *events, struct pomarisco_reading reading);
@@ -350,8 +395,9 @@ struct pomarisco_took pomarisco_lent_reading(struct pomarisco_head head, uint32_
 struct pomarisco_table_took pomarisco_lent_table(struct pomarisco_head head, uint32_t *binaries, uint32_t *analogs, uint64_t *events, const struct pomarisco_reading *readings, size_t count);
 
 /* A fragment from the master at a time. Changes the held events with overflow, wait, last request and latch, restarted, the clock; not the
- * points. Writes the answer, at most 2,048 bytes. Refusals 1, 31 to 33. out_length at least 2,048, else 33, whatever the fragment is. */
-struct pomarisco_answer pomarisco_lent_fragment(struct pomarisco_head head, const uint32_t *binaries, const uint32_t *analogs, uint64_t *events, uint8_t *request, uint8_t *answer, uint8_t *latch_objects, uint64_t time, const uint8_t *fragment, size_t fragment_length, uint8_t *out, size_t out_length);
+ * points and not the analog outputs. Writes the answer, at most 2,048 bytes. Hands over the objects that the host is to carry out. Refusals 1, 31 to 33.
+ * out_length at least 2,048, else 33, whatever the fragment is. */
+struct pomarisco_answer pomarisco_lent_fragment(struct pomarisco_head head, const uint32_t *binaries, const uint32_t *analogs, uint64_t *events, uint8_t *request, uint8_t *answer, uint8_t *latch_objects, const uint32_t *analog_outputs, uint64_t time, const uint8_t *fragment, size_t fragment_length, uint8_t *out, size_t out_length);
 
 /* Writes a frame with this control byte, any addresses. Changes the lent bytes only. out_length at least 292, else 33; user_length at most
  * 250, else 16. */
@@ -414,7 +460,7 @@ static inline int32_t pomarisco_bits_whole(uint32_t bits) {
     return z;
 }
 
-/* ---- readings and analog setups */
+/* ---- readings, analog setups and analog outputs */
 
 static inline struct pomarisco_reading pomarisco_reading_of(uint64_t time, uint16_t point, uint8_t kind, uint32_t bits, uint8_t flags) {
     struct pomarisco_reading r;
@@ -464,7 +510,30 @@ static inline struct pomarisco_analog_setup pomarisco_point_float(uint8_t class_
     return pomarisco_point_of(class_, 2, pomarisco_float_bits(gain), pomarisco_float_bits(offset), gate, pomarisco_float_bits(limit));
 }
 
-/* ---- a look at the state. The structs are this file's alone: the library has none of them */
+static inline struct pomarisco_analog_output pomarisco_output_of(uint8_t kind, uint32_t low, uint32_t high) {
+    struct pomarisco_analog_output a;
+    a.low = low;
+    a.high = high;
+    a.kind = kind;
+    return a;
+}
+
+/* An analog output that takes 32-bit values from the first end to the second. */
+static inline struct pomarisco_analog_output pomarisco_output_32(int32_t low, int32_t high) {
+    return pomarisco_output_of(0, (uint32_t)low, (uint32_t)high);
+}
+
+/* One that takes 16-bit values. */
+static inline struct pomarisco_analog_output pomarisco_output_16(int16_t low, int16_t high) {
+    return pomarisco_output_of(1, (uint32_t)(int32_t)low, (uint32_t)(int32_t)high);
+}
+
+/* One that takes floats. */
+static inline struct pomarisco_analog_output pomarisco_output_float(float low, float high) {
+    return pomarisco_output_of(2, pomarisco_float_bits(low), pomarisco_float_bits(high));
+}
+
+/* ---- a look at the state. The structs here are this file's alone: the library has none of them */
 
 struct pomarisco_event {           /* kind 0: a 32-bit value; 1: a 16-bit value; 2: a float's bits; 3: a binary's state, 0 or 1 */
     uint64_t time;
@@ -560,15 +629,21 @@ static inline struct pomarisco_analog pomarisco_analog_at(const struct pomarisco
     return p;
 }
 
+/* Analog output i, below POMARISCO_ANALOG_OUTPUTS, as a setup gives it; kind 2: float. */
+static inline struct pomarisco_analog_output pomarisco_analog_output_at(const struct pomarisco_outstation *o, size_t i) {
+    const uint32_t *w = o->analog_outputs + 3 * i;
+    return pomarisco_output_of((uint8_t)(w[0] < 2 ? w[0] : 2), w[1], w[2]);
+}
+
 /* ---- what a host calls. As the exported calls, on one outstation in place; NULL with a length of 0 is taken */
 
 /* Where nothing is lent any address will do. */
 static inline const void *pomarisco_from(const void *p, size_t n, const void *some) { return n != 0 ? p : some; }
 static inline uint8_t *pomarisco_to(uint8_t *p, size_t n, void *some) { return n != 0 ? p : (uint8_t *)some; }
 
-/* Gives the refusal, 0 for none, as do the next two. After 5 *o has no points and no outputs. */
+/* Gives the refusal, 0 for none, as do the next two. After 5 *o has no points and no outputs of either kind. */
 static inline uint8_t pomarisco_restart(struct pomarisco_outstation *o, struct pomarisco_setup setup, const uint8_t *classes, size_t class_count, const struct pomarisco_analog_setup *analogs, size_t analog_count) {
-    const struct pomarisco_restarted r = pomarisco_lent_restart(setup, (const uint8_t *)pomarisco_from(classes, class_count, o), class_count, (const struct pomarisco_analog_setup *)pomarisco_from(analogs, analog_count, o), analog_count, o->binaries, o->analogs);
+    const struct pomarisco_restarted r = pomarisco_lent_restart(setup, (const uint8_t *)pomarisco_from(classes, class_count, o), class_count, (const struct pomarisco_analog_setup *)pomarisco_from(analogs, analog_count, o), analog_count, o->binaries, o->analogs, o->analog_outputs);
     o->head = r.head;
     return r.refusal;
 }
@@ -586,8 +661,8 @@ static inline uint8_t pomarisco_table(struct pomarisco_outstation *o, const stru
     return r.refusal;
 }
 
-static inline struct pomarisco_fragment_answer pomarisco_fragment(struct pomarisco_outstation *o, uint64_t time, const uint8_t *fragment, size_t fragment_length, uint8_t *out, size_t out_length, struct pomarisco_crobs *operated) {
-    const struct pomarisco_answer r = pomarisco_lent_fragment(o->head, o->binaries, o->analogs, o->events, o->request, o->answer, o->latch_objects, time, (const uint8_t *)pomarisco_from(fragment, fragment_length, o), fragment_length, pomarisco_to(out, out_length, o), out_length);
+static inline struct pomarisco_fragment_answer pomarisco_fragment(struct pomarisco_outstation *o, uint64_t time, const uint8_t *fragment, size_t fragment_length, uint8_t *out, size_t out_length, struct pomarisco_operated *operated) {
+    const struct pomarisco_answer r = pomarisco_lent_fragment(o->head, o->binaries, o->analogs, o->events, o->request, o->answer, o->latch_objects, o->analog_outputs, time, (const uint8_t *)pomarisco_from(fragment, fragment_length, o), fragment_length, pomarisco_to(out, out_length, o), out_length);
     o->head = r.head;
     *operated = r.operated;
     return r.answer;

@@ -1,6 +1,7 @@
 // The calls that the outstation itself answers: setup, restart, readings, tables, held events.
 use crate::unit;
 use crate::unit::Unit;
+use analog_outputs::ANALOG_OUTPUT_WORDS;
 use event_store::EVENT_WORDS;
 use line_calls::answers;
 use line_calls::session;
@@ -24,20 +25,21 @@ fn kept(setup: &mut [u8], w: &[u8]) -> usize {
     w.len()
 }
 
-// setup OWN MASTER ARM CONFIRM NB NA NO BINARY.. ANALOG..
+// setup OWN MASTER ARM CONFIRM NB NA NO BINARY.. ANALOG.., and s NS SETPOINT.. or nothing
 pub fn setup(
     u: Unit,
     w: &[u8],
     c: text::Cursor,
     binaries: &mut [u32; BINARY_WORDS],
     analogs: &mut [u32; ANALOG_WORDS],
+    outputs: &mut [u32; ANALOG_OUTPUT_WORDS],
     setup: &mut [u8],
     gathered: &mut [u8],
     out: &mut [u8],
     at: usize,
 ) -> Unit {
     let mut classes = [0u8; POINTS_MAX];
-    let t = setup::set_up(w, c, &mut classes, binaries, analogs);
+    let t = setup::set_up(w, c, &mut classes, binaries, analogs, outputs);
     if !t.right {
         return unit::told_all(u, out, at, b"fault");
     }
@@ -72,6 +74,7 @@ pub fn restart(
     c: text::Cursor,
     binaries: &mut [u32; BINARY_WORDS],
     analogs: &mut [u32; ANALOG_WORDS],
+    outputs: &mut [u32; ANALOG_OUTPUT_WORDS],
     setup: &[u8],
     out: &mut [u8],
     at: usize,
@@ -86,7 +89,14 @@ pub fn restart(
     let n = octets::least(u.setup_len, setup.len());
     let name = text::word(&setup[0..n], text::start(), 32);
     let mut classes = [0u8; POINTS_MAX];
-    let t = setup::set_up(&setup[0..n], name.next, &mut classes, binaries, analogs);
+    let t = setup::set_up(
+        &setup[0..n],
+        name.next,
+        &mut classes,
+        binaries,
+        analogs,
+        outputs,
+    );
     let r = t.restarted;
     let head = r.head;
     let session = session::told(

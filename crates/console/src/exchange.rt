@@ -1,10 +1,13 @@
 // The call `frag`: a fragment, its answer, and the objects carried out.
 use crate::unit;
 use crate::unit::Unit;
+use analog_outputs::ANALOG_OUTPUT_WORDS;
 use application::FRAGMENT_MAX;
 use control::ANSWER_MAX;
+use control::Command;
+use control::ControlObject;
+use control::ControlObjects;
 use control::Crob;
-use control::Crobs;
 use control::ECHO_MAX;
 use event_store::EVENT_WORDS;
 use fragments::FragmentAnswer;
@@ -17,6 +20,7 @@ use line_calls::session;
 use outstation::Head;
 use point_store::ANALOG_WORDS;
 use point_store::BINARY_WORDS;
+use points::Value;
 
 // frag T LEN HEX
 pub fn frag(
@@ -29,6 +33,7 @@ pub fn frag(
     request: &mut [u8; FRAGMENT_MAX],
     answer: &mut [u8; ANSWER_MAX],
     objects: &mut [u8; ECHO_MAX],
+    outputs: &[u32; ANALOG_OUTPUT_WORDS],
     bytes: &mut [u8; BYTES_MAX],
     lent: &mut [u8; ROOM_MAX],
     out: &mut [u8],
@@ -51,6 +56,7 @@ pub fn frag(
         request,
         answer,
         objects,
+        outputs,
         t.value,
         bytes,
         f.len,
@@ -72,6 +78,7 @@ fn lend(
     request: &mut [u8; FRAGMENT_MAX],
     answer: &mut [u8; ANSWER_MAX],
     objects: &mut [u8; ECHO_MAX],
+    outputs: &[u32; ANALOG_OUTPUT_WORDS],
     time: u64,
     bytes: &[u8],
     n: usize,
@@ -88,6 +95,7 @@ fn lend(
         request,
         answer,
         objects,
+        outputs,
         time,
         &bytes[0..len],
         &mut lent[0..room],
@@ -103,6 +111,7 @@ fn answered(
     request: &mut [u8; FRAGMENT_MAX],
     answer: &mut [u8; ANSWER_MAX],
     objects: &mut [u8; ECHO_MAX],
+    outputs: &[u32; ANALOG_OUTPUT_WORDS],
     time: u64,
     fragment: &[u8],
     lent: &mut [u8],
@@ -116,6 +125,7 @@ fn answered(
         request,
         answer,
         objects,
+        outputs,
         time,
         fragment,
         lent,
@@ -125,7 +135,7 @@ fn answered(
 // The whole answer, with so many bytes lent.
 fn tell(
     a: FragmentAnswer,
-    operated: Crobs,
+    operated: ControlObjects,
     lent: &[u8],
     size: usize,
     out: &mut [u8],
@@ -149,7 +159,7 @@ fn outcome_of(a: FragmentAnswer) -> Outcome {
 fn put_answer(
     a: FragmentAnswer,
     o: Outcome,
-    operated: Crobs,
+    operated: ControlObjects,
     lent: &[u8],
     out: &mut [u8],
     at: usize,
@@ -168,8 +178,8 @@ fn put_answer(
     }
 }
 
-// ` -`, or ` INDEX:HEX` for each object carried out
-fn put_operated(o: Crobs, out: &mut [u8], at: usize) -> usize {
+// ` -`, or what stands for each object carried out
+fn put_operated(o: ControlObjects, out: &mut [u8], at: usize) -> usize {
     if o.count == 0 {
         text::put_bytes(out, at, b" -")
     } else {
@@ -177,7 +187,7 @@ fn put_operated(o: Crobs, out: &mut [u8], at: usize) -> usize {
     }
 }
 
-fn put_objects(o: Crobs, out: &mut [u8], at: usize) -> usize {
+fn put_objects(o: ControlObjects, out: &mut [u8], at: usize) -> usize {
     let mut a = at;
     let mut i: usize = 0;
     while i < o.count {
@@ -191,25 +201,65 @@ fn put_objects(o: Crobs, out: &mut [u8], at: usize) -> usize {
     a
 }
 
-// ` INDEX:HEX`, with the object's 11 bytes
-fn put_object(x: Crob, out: &mut [u8], at: usize) -> usize {
-    let a = answers::number(out, at, 32, x.index);
-    let b = text::put(out, a, b':');
-    let c = text::put_byte(out, b, x.code);
-    let d = text::put_byte(out, c, x.count);
-    put_times(x, out, d)
+// ` INDEX:HEX` with a CROB's 11 bytes, or ` V@INDEX:HEX` with a value and the status
+fn put_object(x: ControlObject, out: &mut [u8], at: usize) -> usize {
+    let command = x.command;
+    match command {
+        Command::Crob(c) => {
+            let a = answers::number(out, at, 32, x.index);
+            let b = put_crob(c, out, a);
+            text::put_byte(out, b, x.status)
+        }
+        Command::AnalogOutput(v) => {
+            let a = put_value(v, x.index, out, at);
+            text::put_byte(out, a, x.status)
+        }
+    }
 }
 
-// On-time, off-time and status.
-fn put_times(x: Crob, out: &mut [u8], at: usize) -> usize {
-    let a = put_time(x.on_time, out, at);
-    let b = put_time(x.off_time, out, a);
-    text::put_byte(out, b, x.status)
+// Code, count, on-time and off-time.
+fn put_crob(c: Crob, out: &mut [u8], at: usize) -> usize {
+    let a = text::put(out, at, b':');
+    let b = text::put_byte(out, a, c.code);
+    let d = text::put_byte(out, b, c.count);
+    let e = put_four(c.on_time, out, d);
+    put_four(c.off_time, out, e)
 }
 
-// A time's four bytes, the lowest first.
-fn put_time(t: u32, out: &mut [u8], at: usize) -> usize {
+// ` V@INDEX:` and the value's bytes
+fn put_value(v: Value, index: u16, out: &mut [u8], at: usize) -> usize {
+    match v {
+        Value::Int32(z) => {
+            let a = put_output(b" 1", index, out, at);
+            put_four(words::signed_bits(z), out, a)
+        }
+        Value::Int16(z) => {
+            let a = put_output(b" 2", index, out, at);
+            put_two(words::signed_bits(z as i32), out, a)
+        }
+        Value::Float32(x) => {
+            let a = put_output(b" 3", index, out, at);
+            put_four(words::float_bits(x), out, a)
+        }
+    }
+}
+
+fn put_output(variation: &[u8], index: u16, out: &mut [u8], at: usize) -> usize {
+    let a = text::put_bytes(out, at, variation);
+    let b = answers::number(out, a, b'@', index);
+    text::put(out, b, b':')
+}
+
+// The four bytes of a number, the lowest first.
+fn put_four(n: u32, out: &mut [u8], at: usize) -> usize {
     let mut b = [0u8; 4];
-    octets::put4(&mut b, 0, t);
+    octets::put4(&mut b, 0, n);
     text::put_hex(out, at, &b)
+}
+
+// The lower two of them.
+fn put_two(n: u32, out: &mut [u8], at: usize) -> usize {
+    let mut b = [0u8; 4];
+    octets::put4(&mut b, 0, n);
+    text::put_hex(out, at, &b[..2])
 }

@@ -8,6 +8,7 @@ mod exchange;
 mod names;
 mod unit;
 
+use analog_outputs::ANALOG_OUTPUT_WORDS;
 use application::FRAGMENT_MAX;
 use control::ANSWER_MAX;
 use control::ECHO_MAX;
@@ -252,6 +253,7 @@ fn call(
     request: &mut [u8; FRAGMENT_MAX],
     answer: &mut [u8; ANSWER_MAX],
     objects: &mut [u8; ECHO_MAX],
+    outputs: &mut [u32; ANALOG_OUTPUT_WORDS],
     setup: &mut [u8; LINE_MAX],
     bytes: &mut [u8; BYTES_MAX],
     lent: &mut [u8; ROOM_MAX],
@@ -275,14 +277,28 @@ fn call(
             request,
             answer,
             objects,
+            outputs,
             bytes,
             lent,
             out,
             at,
         ),
         Command::Held => calls::held(u, c, held, out, at),
-        Command::Setup => { calls::setup(u, w, c, binaries, analogs, setup, gathered, out, at) }
-        Command::Restart => { calls::restart(u, c, binaries, analogs, setup, out, at) }
+        Command::Setup => {
+            calls::setup(
+                u,
+                w,
+                c,
+                binaries,
+                analogs,
+                outputs,
+                setup,
+                gathered,
+                out,
+                at,
+            )
+        }
+        Command::Restart => { calls::restart(u, c, binaries, analogs, outputs, setup, out, at) }
         Command::Line(l) => {
             let mut next = u;
             next.session = lines::line_call(
@@ -311,6 +327,7 @@ fn serve(
     request: &mut [u8; FRAGMENT_MAX],
     answer: &mut [u8; ANSWER_MAX],
     objects: &mut [u8; ECHO_MAX],
+    outputs: &mut [u32; ANALOG_OUTPUT_WORDS],
     setup: &mut [u8; LINE_MAX],
     bytes: &mut [u8; BYTES_MAX],
     lent: &mut [u8; ROOM_MAX],
@@ -346,6 +363,7 @@ fn serve(
             request,
             answer,
             objects,
+            outputs,
             setup,
             bytes,
             lent,
@@ -372,6 +390,7 @@ fn main() {
     let mut request = [0u8; FRAGMENT_MAX];
     let mut answer = [0u8; ANSWER_MAX];
     let mut objects = [0u8; ECHO_MAX];
+    let mut outputs = [0u32; ANALOG_OUTPUT_WORDS];
     let mut setup = [0u8; LINE_MAX];
     let mut bytes = [0u8; BYTES_MAX];
     let mut lent = [0u8; ROOM_MAX];
@@ -386,6 +405,7 @@ fn main() {
         &mut request,
         &mut answer,
         &mut objects,
+        &mut outputs,
         &mut setup,
         &mut bytes,
         &mut lent,

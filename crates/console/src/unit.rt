@@ -1,4 +1,6 @@
 // What is kept from call to call, beside the arrays that are lent.
+use analog_outputs::ANALOG_OUTPUTS_MAX;
+use analog_outputs::AnalogOutputWords;
 use line_calls::answers;
 use line_calls::session;
 use line_calls::session::LineSession;
@@ -15,6 +17,12 @@ pub struct Unit {
 // Until there is an outstation, the head of one without points and outputs stands in its place.
 pub fn fresh() -> Unit {
     let session = session::fresh();
+    let none = AnalogOutputWords {
+        low: 0,
+        high: 0,
+        kind: 0,
+    };
+    let items = [none; ANALOG_OUTPUTS_MAX];
     let r = restart::finish_restart(
         SetupWords {
             arm_time: 0,
@@ -22,6 +30,8 @@ pub fn fresh() -> Unit {
             own: 0,
             master: 0,
             outputs: 0,
+            analog_output_count: 0,
+            analog_outputs: items,
         },
         0,
         restart::RestartProgress { at: 0, refusal: 5 },

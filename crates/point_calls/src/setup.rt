@@ -1,4 +1,6 @@
 // The fields of the call `setup`, and the fresh points that they ask for.
+use crate::outputs;
+use analog_outputs::ANALOG_OUTPUT_WORDS;
 use point_store::ANALOG_WORDS;
 use point_store::BINARY_WORDS;
 use points::POINTS_MAX;
@@ -7,7 +9,7 @@ use restart::RestartProgress;
 use restart::Restarted;
 use restart::SetupWords;
 
-// A setup line. `fits`: each whole limit is one that its type holds. `first`: where the analogs begin.
+// A setup line. `fits`: each whole limit or end is one that its type holds. `first`: where the analogs begin.
 struct SetupAt {
     setup: SetupWords,
     binaries: usize,
@@ -258,7 +260,7 @@ fn given(n: u8) -> usize {
     octets::least(n as usize, POINTS_MAX)
 }
 
-// OWN MASTER ARM CONFIRM NB NA NO BINARY.. ANALOG..
+// OWN MASTER ARM CONFIRM NB NA NO BINARY.. ANALOG.., and s NS SETPOINT.. or nothing
 fn setup_of(w: &[u8], c: text::Cursor, classes: &mut [u8; POINTS_MAX]) -> SetupAt {
     let e = ends_of(w, c);
     let nb = count_of(w, e.next);
@@ -266,19 +268,23 @@ fn setup_of(w: &[u8], c: text::Cursor, classes: &mut [u8; POINTS_MAX]) -> SetupA
     let no = count_of(w, na.next);
     let first = binaries(w, no.next, given(nb.value), classes);
     let a = analogs(w, first, given(na.value));
-    let next = a.next;
+    let o = outputs::outputs_at(w, a.next);
+    let next = o.next;
+    let items = o.items;
     let setup = SetupWords {
         arm_time: e.arm,
         confirm_time: e.confirm,
         own: e.own,
         master: e.master,
         outputs: no.value as u16,
+        analog_output_count: o.count,
+        analog_outputs: items,
     };
     SetupAt {
         setup,
         binaries: nb.value as usize,
         analogs: na.value as usize,
-        fits: a.fits,
+        fits: a.fits & o.fits,
         first,
         next,
     }
@@ -291,10 +297,11 @@ fn restarted(
     classes: &[u8],
     binaries: &mut [u32; BINARY_WORDS],
     analogs: &mut [u32; ANALOG_WORDS],
+    outputs: &mut [u32; ANALOG_OUTPUT_WORDS],
 ) -> Restarted {
     let s = t.setup;
     let n = t.analogs;
-    let mut g = restart::begin_restart(s, classes, n, binaries);
+    let mut g = restart::begin_restart(s, classes, n, binaries, outputs);
     let mut next = t.first;
     let mut left: usize = POINTS_MAX;
     while 0 < left {
@@ -320,9 +327,10 @@ fn restarted_with(
     classes: &[u8],
     binaries: &mut [u32; BINARY_WORDS],
     analogs: &mut [u32; ANALOG_WORDS],
+    outputs: &mut [u32; ANALOG_OUTPUT_WORDS],
 ) -> Restarted {
     let n = octets::least(t.binaries, classes.len());
-    restarted(t, w, &classes[0..n], binaries, analogs)
+    restarted(t, w, &classes[0..n], binaries, analogs, outputs)
 }
 
 // No outstation: a line that is not right, or a limit or a count that is more than its type holds.
@@ -342,6 +350,7 @@ pub fn set_up(
     classes: &mut [u8; POINTS_MAX],
     binaries: &mut [u32; BINARY_WORDS],
     analogs: &mut [u32; ANALOG_WORDS],
+    outputs: &mut [u32; ANALOG_OUTPUT_WORDS],
 ) -> SetUp {
     let t = setup_of(w, c, classes);
     let setup = t.setup;
@@ -354,7 +363,7 @@ pub fn set_up(
     if POINTS_MAX < t.binaries {
         return not_set_up(true, setup);
     }
-    let r = restarted_with(t, w, classes, binaries, analogs);
+    let r = restarted_with(t, w, classes, binaries, analogs, outputs);
     SetUp {
         right: true,
         setup,

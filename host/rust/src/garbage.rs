@@ -1,14 +1,16 @@
 //! Any numbers in any struct and any lent array: every call returns, and does what it does with the
 //! plain image of the same meaning.
 
+use reference::control;
 use reference::generate::Random;
 use reference::receiver;
 
 use crate::header::*;
 use crate::meaning::*;
 use crate::memory::Memory;
-use crate::pair::{keep, Lent, Seen};
-use crate::words::RECORD;
+use crate::pair::{keep, operated_image, Lent, Seen};
+use crate::reached::statuses;
+use crate::words::{Output, OUTPUT_RECORD, RECORD};
 
 fn same<T: Same>(what: &str, given: &T, plain: &T) -> Result<(), String> {
     match given.differs(plain) {
@@ -48,7 +50,13 @@ fn image(live: &Outstation, random: &mut Random) -> Outstation {
             *second = u64::from_le_bytes(bytes);
         }
     }
+    image.analog_outputs.chunks_exact_mut(OUTPUT_RECORD).for_each(|words| output(words, random));
+    if random.chance(30) {
+        image.analog_outputs.chunks_exact_mut(OUTPUT_RECORD).for_each(|words| words[0] = 2);
+    }
     let head = &mut image.head;
+    let any = random.next() as u16;
+    head.analog_outputs = random.pick(&[0, 1, 8, 15, 16, 16, 17, 65_535, any, any % 32]);
     head.binary_count = count(BINARIES, random);
     head.analog_count = count(ANALOGS, random);
     head.event_count = count(EVENTS, random);
@@ -74,7 +82,74 @@ fn image(live: &Outstation, random: &mut Random) -> Outstation {
         head.wait_time = head.clock;
         head.latch_time = head.clock;
     }
+    // Often a latch with objects of its own, armed for them or for the other outputs.
+    if random.chance(30) {
+        let objects = set_point_objects(&image, random);
+        image.latch_objects[..objects.len()].copy_from_slice(&objects);
+        image.head.latch_len = objects.len();
+        image.head.latch_armed = random.pick(&[1, 2, 2, 3, 255]);
+    }
     image
+}
+
+/// Ends that are next to each other or far apart, of a kind that there is; or as they are.
+fn output(words: &mut [u32], random: &mut Random) {
+    const ENDS: [u32; 12] = [
+        0,
+        0x8000_0000,
+        100,
+        0xFFFF_FF9C,
+        0x3F80_0000,
+        0xBF80_0000,
+        0x7F7F_FFFF,
+        0xFF7F_FFFF,
+        0x7F80_0000,
+        0x7FC0_0000,
+        0x7FFF,
+        0xFFFF_8000,
+    ];
+    if random.chance(80) {
+        words[0] %= 4;
+        words[1] = random.pick(&ENDS);
+        let near = words[1].wrapping_add(random.below(3) as u32);
+        words[2] = random.pick(&[near, near, near, random.pick(&ENDS)]);
+    }
+}
+
+/// A header of group 41 and one to eight objects, mostly of the first output's kind and at the ends.
+fn set_point_objects(image: &Outstation, random: &mut Random) -> Vec<u8> {
+    let first = random.below(ANALOG_OUTPUTS);
+    let output = |index: usize| {
+        Output::of(&image.analog_outputs[OUTPUT_RECORD * (index % ANALOG_OUTPUTS)..])
+    };
+    let any = random.below(3) as u8;
+    let kind = if random.chance(85) { output(first).kind } else { any };
+    let wide = random.chance(40);
+    let objects = random.pick(&[1, 1, 1, 2, 3, 8]);
+    let mut bytes = vec![41, kind + 1, if wide { 0x28 } else { 0x17 }, objects as u8];
+    if wide {
+        bytes.push(0);
+    }
+    for place in 0..objects {
+        let mut index = (first + place) % ANALOG_OUTPUTS;
+        if random.chance(8) {
+            index = random.pick(&[0, 15, 16, 17, 255]);
+        }
+        bytes.push(index as u8);
+        if wide {
+            bytes.push(u8::from(random.chance(3)));
+        }
+        let Output { low, high, .. } = output(index);
+        let any = random.next() as u32;
+        let mut value = random.pick(&[low, high]);
+        if random.chance(15) {
+            let (under, over) = (low.wrapping_sub(1), high.wrapping_add(1));
+            value = random.pick(&[under, over, low ^ 0x8000_0000, 0x7F80_0000, 0x7FC0_0000, any]);
+        }
+        bytes.extend_from_slice(&value.to_le_bytes()[..if kind == 1 { 2 } else { 4 }]);
+        bytes.push(if random.chance(4) { random.byte() } else { 0 });
+    }
+    bytes
 }
 
 fn reading(clock: u64, random: &mut Random) -> Reading {
@@ -91,9 +166,9 @@ fn reading(clock: u64, random: &mut Random) -> Reading {
 /// A fragment that an image may take up: a READ, a CONFIRM, an OPERATE of its latch, a repeat.
 fn fragment(image: &Outstation, random: &mut Random) -> Vec<u8> {
     let head = &image.head;
-    match random.below(8) {
+    match random.below(10) {
         0 => vec![0xC0 | (head.wait_sequence % 16), 0],
-        1 => {
+        1 | 5 => {
             let mut bytes = vec![0xC0 | (head.latch_sequence.wrapping_add(1) % 16), 4];
             bytes.extend_from_slice(&image.latch_objects[..head.latch_len.min(OBJECTS)]);
             bytes
@@ -108,6 +183,10 @@ fn fragment(image: &Outstation, random: &mut Random) -> Vec<u8> {
             let mut bytes = vec![0xC1, function, 12, 1, 0x17, 1, random.byte() % 20, 3, 1];
             bytes.extend_from_slice(&[0; 9]);
             bytes
+        }
+        6 => {
+            let function = random.pick(&[3, 5, 6]);
+            [vec![0xC1, function], set_point_objects(image, random)].concat()
         }
         _ => {
             let mut bytes = vec![0xC2, 1];
@@ -125,6 +204,97 @@ fn fragment(image: &Outstation, random: &mut Random) -> Vec<u8> {
             bytes
         }
     }
+}
+
+/// The status of a set point in SELECT and direct operation, for any words: the second program has
+/// only outputs that a setup may have.
+fn status(image: &Outstation, earlier: &[AnalogCommand], asked: &AnalogCommand) -> u8 {
+    let installed = usize::from(image.head.analog_outputs).min(ANALOG_OUTPUTS);
+    let index = usize::from(asked.index);
+    if asked.status != 0 {
+        return 3;
+    }
+    if index >= installed {
+        return 4;
+    }
+    let Output { kind, low, high } = Output::of(&image.analog_outputs[OUTPUT_RECORD * index..]);
+    let whole = |bits: u32| bits as i32;
+    let inside = match kind {
+        2 => {
+            let [low, high, value] = [low, high, asked.bits].map(f32::from_bits);
+            value.is_finite() && low <= value && value <= high
+        }
+        _ => whole(low) <= whole(asked.bits) && whole(asked.bits) <= whole(high),
+    };
+    if kind != asked.kind || !inside {
+        return 4;
+    }
+    if earlier.iter().any(|earlier| earlier.index == asked.index) {
+        return 8;
+    }
+    0
+}
+
+/// What a SELECT or a direct operation of set points came to, and what an OPERATE did, by the
+/// definition.
+fn set_points(
+    given: &Outstation,
+    left: &Outstation,
+    bytes: &[u8],
+    answer: &[u8],
+    operated: &Operated,
+    seen: &mut Seen,
+) -> Result<(), String> {
+    let kept = &given.request[..given.head.request_len.min(FRAGMENT)];
+    let repeat = given.head.request_kept != 0 && kept == bytes;
+    let (function, objects) = (bytes[1], &bytes[2..]);
+    let sets = objects.first() == Some(&41) && matches!(function, 3..=6) && !repeat;
+    let Some(controls) = control::parse(objects).ok().filter(|_| sets) else { return Ok(()) };
+    let asked = operated_image(&controls).analog_commands;
+    let asked = &asked.items[..asked.count];
+    let given_statuses = statuses(bytes, asked.len(), answer).unwrap_or_default();
+    if function == 4 {
+        let latched = &given.latch_objects[..given.head.latch_len.min(OBJECTS)];
+        let same = latched == objects && given_statuses.iter().all(|&status| status < 2);
+        let armed_for_relays = given.head.latch_armed == 1;
+        seen.note("garbage: set points of a latch carried out", operated.count() > 0);
+        seen.note(
+            "garbage: set points of a latch armed for relays not carried out",
+            latched == objects && armed_for_relays && operated.count() == 0,
+        );
+        let met = given.head.latch_armed > 1 && same;
+        return match operated.count() > 0 && !met {
+            true => Err("set points carried out that were not selected".into()),
+            false => Ok(()),
+        };
+    }
+    let expected: Vec<u8> =
+        (0..asked.len()).map(|place| status(given, &asked[..place], &asked[place])).collect();
+    if function != 6 && given_statuses != expected {
+        return Err(format!("set points by their definition: {given_statuses:?}, {expected:?}"));
+    }
+    for (what, number) in [
+        ("garbage: set point, status 0", 0),
+        ("garbage: set point, status 3", 3),
+        ("garbage: set point, status 4", 4),
+        ("garbage: set point, status 8", 8),
+    ] {
+        seen.note(what, expected.contains(&number));
+    }
+    let all = expected.iter().all(|&status| status == 0);
+    let armed = left.head.latch_armed;
+    let mut done = Operated::zero();
+    for (command, _) in asked.iter().zip(&expected).filter(|&(_, &status)| status == 0) {
+        if function != 3 {
+            done.analog_commands.items[done.analog_commands.count] = *command;
+            done.analog_commands.count += 1;
+        }
+    }
+    seen.note("garbage: set points carried out", done.count() > 0);
+    if let Some(found) = operated.differs_in_objects(&done) {
+        return Err(format!("set points by their definition{found}"));
+    }
+    same("latch armed for set points", &armed.min(2), &if function == 3 && all { 2 } else { 0 })
 }
 
 /// The state's calls on one image.
@@ -179,18 +349,43 @@ pub fn outstation(
     let (plain_answer, plain_operated) =
         memory.fragment(&mut expected, time, &bytes, lent.second())?;
     same("fragment: answer", &answer, &plain_answer)?;
-    same("fragment: objects", &operated.count, &plain_operated.count)?;
-    let both = operated.items.iter().zip(&plain_operated.items);
-    for (one, two) in both.take(operated.count) {
-        same("fragment: object", one, two)?;
+    if let Some(found) = operated.differs_in_objects(&plain_operated) {
+        return Err(format!("fragment: objects{found} (given as it is, and plain)"));
     }
+    let both = operated.crobs.count > 0 && operated.analog_commands.count > 0;
+    same("fragment: objects of both groups", &u8::from(both), &0)?;
     same("fragment", &plain(&left), &plain(&expected))?;
+    if answer.kind < 2 {
+        let out = &lent.library()[..answer.length];
+        set_points(&given, &left, &bytes, out, &operated, seen)?;
+    }
     seen.note("garbage: fragment answered", answer.kind == 0);
     let read = answer.kind == 0 && bytes[1] == 1;
     seen.note("garbage: READ awaits a CONFIRM", read && left.head.waiting == 1);
     seen.note("garbage: CONFIRM accepted", answer.kind == 2);
-    seen.note("garbage: objects carried out", operated.count > 0);
+    seen.note("garbage: objects carried out", operated.count() > 0);
     lent.compare()
+}
+
+/// The ends in their order, finite, and of a 16-bit output such as it can have.
+fn allowed(output: &mut AnalogOutput, random: &mut Random) {
+    if random.chance(60) {
+        output.kind %= 3;
+    }
+    let AnalogOutput { low, high, kind } = *output;
+    let (low, high) = match kind {
+        0 => (low as i32, high as i32),
+        1 => (i32::from(low as i16), i32::from(high as i16)),
+        _ => {
+            let [low, high] = [low, high].map(f32::from_bits).map(|end| match end.is_finite() {
+                true => end,
+                false => -0.0,
+            });
+            (output.low, output.high) = (low.min(high).to_bits(), low.max(high).to_bits());
+            return;
+        }
+    };
+    (output.low, output.high) = (low.min(high) as u32, low.max(high) as u32);
 }
 
 /// A setup of random bytes, then one with the limits kept.
@@ -206,6 +401,8 @@ pub fn setup(live: &Outstation, memory: &mut Memory, random: &mut Random) -> Res
             setup.arm_time %= 64_001;
             setup.confirm_time = 1 + setup.confirm_time % 60_000;
             setup.outputs %= 17;
+            setup.analog_output_count %= 17;
+            setup.analog_outputs.iter_mut().for_each(|output| allowed(output, random));
             classes.truncate(BINARIES);
             setups.truncate(ANALOGS);
             classes.iter_mut().for_each(|class| *class %= 4);
@@ -222,10 +419,11 @@ pub fn setup(live: &Outstation, memory: &mut Memory, random: &mut Random) -> Res
             }
         }
         let plain_setups: Vec<AnalogSetup> = setups.iter().map(plain_analog_setup).collect();
+        let plain_given = plain_setup(&setup);
         // Whatever the arrays hold.
         let (mut left, mut expected) = (image(live, random), *live);
         let refusal = memory.restart(&mut left, setup, &classes, &setups)?;
-        let refused = memory.restart(&mut expected, setup, &classes, &plain_setups)?;
+        let refused = memory.restart(&mut expected, plain_given, &classes, &plain_setups)?;
         same("restart: refusal", &refusal, &refused)?;
         same("restart", &plain(&left), &plain(&expected))?;
         if kept {

@@ -8,6 +8,7 @@ use reference::generate::Random;
 
 pub const BINARIES: usize = 64;
 pub const ANALOGS: usize = 64;
+pub const ANALOG_OUTPUTS: usize = 16;
 pub const EVENTS: usize = 256;
 pub const CONTROLS: usize = 8;
 pub const FRAGMENT: usize = 2048;
@@ -19,6 +20,7 @@ pub const USER: usize = 250;
 pub const EVENT_WORDS: usize = 2 * EVENTS;
 pub const BINARY_WORDS: usize = BINARIES;
 pub const ANALOG_WORDS: usize = 8 * ANALOGS;
+pub const OUTPUT_WORDS: usize = 3 * ANALOG_OUTPUTS;
 pub const KEPT_ANSWER: usize = 113;
 pub const OBJECTS: usize = 109;
 
@@ -121,22 +123,27 @@ structs! {
         request_kept: u8 = 96,
         latch_armed: u8 = 97,
         latch_sequence: u8 = 98,
+        analog_outputs: u16 = 100,
     }
-    Outstation "outstation" 8776 {
+    Outstation "outstation" 8968 {
         head: Head = 0,
         events: [u64; EVENT_WORDS] = 104,
         binaries: [u32; BINARY_WORDS] = 4200,
         analogs: [u32; ANALOG_WORDS] = 4456,
-        request: [u8; FRAGMENT] = 6504,
-        answer: [u8; KEPT_ANSWER] = 8552,
-        latch_objects: [u8; OBJECTS] = 8665,
+        analog_outputs: [u32; OUTPUT_WORDS] = 6504,
+        request: [u8; FRAGMENT] = 6696,
+        answer: [u8; KEPT_ANSWER] = 8744,
+        latch_objects: [u8; OBJECTS] = 8857,
     }
-    Setup "setup" 16 {
+    AnalogOutput "analog_output" 12 { low: u32 = 0, high: u32 = 4, kind: u8 = 8 }
+    Setup "setup" 208 {
         arm_time: u32 = 0,
         confirm_time: u32 = 4,
         own: u16 = 8,
         master: u16 = 10,
         outputs: u16 = 12,
+        analog_output_count: u16 = 14,
+        analog_outputs: [AnalogOutput; ANALOG_OUTPUTS] = 16,
     }
     AnalogSetup "analog_setup" 16 {
         limit: u32 = 0,
@@ -165,8 +172,11 @@ structs! {
         status: u8 = 12,
     }
     Crobs "crobs" 136 { items: [Crob; CONTROLS] = 0, count: usize = 128 }
+    AnalogCommand "analog_command" 8 { bits: u32 = 0, index: u16 = 4, kind: u8 = 6, status: u8 = 7 }
+    AnalogCommands "analog_commands" 72 { items: [AnalogCommand; CONTROLS] = 0, count: usize = 64 }
+    Operated "operated" 208 { crobs: Crobs = 0, analog_commands: AnalogCommands = 136 }
     FragmentAnswer "fragment_answer" 16 { length: usize = 0, kind: u8 = 8, refusal: u8 = 9 }
-    Answer "answer" 256 { head: Head = 0, operated: Crobs = 104, answer: FragmentAnswer = 240 }
+    Answer "answer" 328 { head: Head = 0, operated: Operated = 104, answer: FragmentAnswer = 312 }
     Station "station" 4 { own: u16 = 0, master: u16 = 2 }
     Wrote "wrote" 16 { size: usize = 0, refusal: u8 = 8 }
     Frame "frame" 16 {
@@ -230,6 +240,7 @@ calls! {
         setup_count: usize,
         binaries: *mut u32,
         analogs: *mut u32,
+        analog_outputs: *mut u32,
     ) -> Restarted;
     fn pomarisco_lent_reading(
         head: Head,
@@ -254,6 +265,7 @@ calls! {
         request: *mut u8,
         answer: *mut u8,
         objects: *mut u8,
+        analog_outputs: *const u32,
         time: u64,
         fragment: *const u8,
         fragment_length: usize,
@@ -320,6 +332,30 @@ calls! {
     ) -> Sending;
 }
 
+impl Operated {
+    /// How many objects there are, of either kind.
+    pub fn count(&self) -> usize {
+        self.crobs.count + self.analog_commands.count
+    }
+
+    /// Where the objects handed over differ, if they do; what is past the counts does not count.
+    pub fn differs_in_objects(&self, other: &Operated) -> Option<String> {
+        let counts = [
+            self.crobs.count.differs(&other.crobs.count),
+            self.analog_commands.count.differs(&other.analog_commands.count),
+        ];
+        if let Some(found) = counts.into_iter().flatten().next() {
+            return Some(format!(" count{found}"));
+        }
+        let (one, two) = (&self.crobs, &other.crobs);
+        let crobs = one.items.iter().zip(&two.items).take(one.count);
+        let crobs = crobs.filter_map(|(one, two)| one.differs(two)).next();
+        let (one, two) = (&self.analog_commands, &other.analog_commands);
+        let commands = one.items.iter().zip(&two.items).take(one.count);
+        crobs.or_else(|| commands.filter_map(|(one, two)| one.differs(two)).next())
+    }
+}
+
 // The calls over slices and arrays. They keep what the header leaves with the host: they are not
 // null, what they hold may be read or written, and what may be written overlaps nothing else.
 
@@ -329,6 +365,7 @@ pub fn restart(
     setups: &[AnalogSetup],
     binaries: &mut [u32; BINARY_WORDS],
     analogs: &mut [u32; ANALOG_WORDS],
+    analog_outputs: &mut [u32; OUTPUT_WORDS],
 ) -> Restarted {
     unsafe {
         pomarisco_lent_restart(
@@ -339,6 +376,7 @@ pub fn restart(
             setups.len(),
             binaries.as_mut_ptr(),
             analogs.as_mut_ptr(),
+            analog_outputs.as_mut_ptr(),
         )
     }
 }
@@ -388,6 +426,7 @@ pub struct FragmentLent<'a> {
     pub request: &'a mut [u8; FRAGMENT],
     pub answer: &'a mut [u8; KEPT_ANSWER],
     pub latch_objects: &'a mut [u8; OBJECTS],
+    pub analog_outputs: &'a [u32; OUTPUT_WORDS],
 }
 
 pub fn fragment(
@@ -406,6 +445,7 @@ pub fn fragment(
             lent.request.as_mut_ptr(),
             lent.answer.as_mut_ptr(),
             lent.latch_objects.as_mut_ptr(),
+            lent.analog_outputs.as_ptr(),
             time,
             fragment.as_ptr(),
             fragment.len(),

@@ -20,6 +20,7 @@ mod header;
 mod meaning;
 mod memory;
 mod pair;
+mod reached;
 mod run;
 mod state;
 mod stress;
@@ -189,7 +190,7 @@ fn both_sides(limit: usize) -> [usize; 6] {
     [0, 1, limit - 1, limit, limit + 1, 2 * limit]
 }
 
-/// 64 points of each kind with some readings, and a held event.
+/// 64 points of each kind with some readings, 16 outputs of each, and a held event.
 fn live(pair: &mut Pair) -> Result<(), String> {
     let binaries = vec!["1"; 64].join(" ");
     let analogs = [
@@ -199,8 +200,10 @@ fn live(pair: &mut Pair) -> Result<(), String> {
         "1,5,3F800000,00000000,3,3F000000",
     ];
     let analogs = [analogs; 16].concat().join(" ");
+    let outputs = ["1,-5,70000", "2,-300,-256", "3,BF800000,3F800000", "3,00000000,80000000"];
+    let outputs = [outputs; 4].concat().join(" ");
     let script = format!(
-        "setup 1 2 5000 5000 64 64 16 {binaries} {analogs}\nbin 5 3 0 1\nana 6 0 100 1\nana 6 1 40000 1\nflt 7 2 3F800000 1\nflt 7 3 40400000 1\nbin 9 3 1 1\nana 9 0 -7 1\nflt 9 2 BF800000 1\n"
+        "setup 1 2 5000 5000 64 64 16 {binaries} {analogs} s 16 {outputs}\nbin 5 3 0 1\nana 6 0 100 1\nana 6 1 40000 1\nflt 7 2 3F800000 1\nflt 7 3 40400000 1\nbin 9 3 1 1\nana 9 0 -7 1\nflt 9 2 BF800000 1\n"
     );
     run_script(pair, script.as_bytes())
 }
@@ -219,6 +222,15 @@ fn lengths(pair: &mut Pair, call: &str) -> Result<(), String> {
                 vec![0xC2, 0],
                 vec![0xC3, 0],
             ];
+            // Set points: a SELECT, its OPERATE, direct operation, eight of which one is outside.
+            let object = [0x29, 2, 0x17, 1, 5, 0xD4, 0xFE, 0];
+            fragments.extend([[&[0xC5, 3][..], &object].concat(), [&[0xC6, 4][..], &object].concat()]);
+            fragments.extend([[&[0xC7, 5][..], &object].concat(), [&[0xC8, 6][..], &object].concat()]);
+            let mut eight = vec![0xC9, 5, 0x29, 3, 0x28, 8, 0];
+            for index in [2, 3, 6, 7, 10, 11, 14, 15] {
+                eight.extend_from_slice(&[index, 0, 0, 0, if index == 14 { 0xC0 } else { 0 }, 0x80, 0]);
+            }
+            fragments.push(eight);
             for n in [3, 2047, 2048, 2049, 3000] {
                 let mut fragment = bytes.bytes(n);
                 fragment[..2].copy_from_slice(&[0xC4, 2]);
@@ -488,27 +500,28 @@ fn repeats_of_the_first(pair: &mut Pair, len: usize, bytes: &mut Random) -> Resu
 
 // ---- counts
 
-/// Numbers that a script cannot give: a setup of more points than there may be is refused, a table
-/// may be of any length.
+/// Numbers that a script cannot give: a setup of more points or outputs than there may be is refused,
+/// a table may be of any length.
 fn past(pair: &mut Pair) -> Result<(), String> {
     live(pair)?;
     let mut second = pair.second.take().ok_or("no outstation")?;
     let setup = pair::setup_image(&second.setup).ok_or("no setup")?;
     let image = pair.image;
-    for past in [65, 256, 257, 1000, 65_535] {
+    for past in [65, 256, 257, 272, 1000, 65_535] {
         let mut binaries = setup.clone();
         binaries.classes.resize(past, 1);
         let mut analogs = setup.clone();
         analogs.analogs.resize(past, setup.analogs[0]);
         let mut outputs = setup.clone();
         outputs.setup.outputs = past as u16;
-        for given in [binaries, analogs, outputs] {
+        let mut analog_outputs = setup.clone();
+        analog_outputs.setup.analog_output_count = past as u16;
+        for given in [binaries, analogs, outputs, analog_outputs] {
             let mut left = image;
             let refusal =
                 pair.memory.restart(&mut left, given.setup, &given.classes, &given.analogs)?;
             state::equal("refusal", refusal, 5)?;
-            let left = (left.head.binary_count, left.head.analog_count, left.head.outputs);
-            state::equal("points and outputs", left, (0, 0, 0))?;
+            state::equal("points and outputs", pair::installed(&left.head), (0, 0, 0, 0))?;
         }
     }
     for count in [0, 128, 129, 1000, 70_000_usize] {

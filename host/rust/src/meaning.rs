@@ -5,7 +5,7 @@ use reference::frame::{look_over, FrameRefusal};
 use reference::generate::Random;
 
 use crate::header::*;
-use crate::words::{self, is_nan, Analog, Binary, Event, Shown, RECORD};
+use crate::words::{self, is_nan, Analog, Binary, Event, Output, Shown, OUTPUT_RECORD, RECORD};
 
 fn truth(number: u8) -> u8 {
     u8::from(number != 0)
@@ -23,6 +23,7 @@ pub fn plain_head(head: &Head) -> Head {
     head.binary_count = head.binary_count.min(BINARIES);
     head.analog_count = head.analog_count.min(ANALOGS);
     head.event_count = head.event_count.min(EVENTS);
+    head.analog_outputs = head.analog_outputs.min(ANALOG_OUTPUTS as u16);
     head.overflow = truth(head.overflow);
     head.restarted = truth(head.restarted);
     head.waiting = truth(head.waiting);
@@ -38,7 +39,8 @@ pub fn plain_head(head: &Head) -> Head {
     }
     head.request_len = head.request_len.min(FRAGMENT);
     head.answer_len = head.answer_len.min(KEPT_ANSWER);
-    head.latch_armed = truth(head.latch_armed);
+    // 1 is armed for relays, every number above it for analog outputs.
+    head.latch_armed = kind(head.latch_armed, 2);
     if head.latch_armed == 0 {
         (head.latch_time, head.latch_sequence, head.latch_len) = (0, 0, 0);
     }
@@ -56,6 +58,12 @@ pub fn plain(image: &Outstation) -> Outstation {
     let (analogs, rest) = image.analogs.split_at_mut(RECORD * head.analog_count);
     for words in analogs.chunks_exact_mut(RECORD) {
         words.copy_from_slice(&Analog::of(words).words());
+    }
+    rest.fill(0);
+    let installed = OUTPUT_RECORD * usize::from(head.analog_outputs);
+    let (outputs, rest) = image.analog_outputs.split_at_mut(installed);
+    for words in outputs.chunks_exact_mut(OUTPUT_RECORD) {
+        words.copy_from_slice(&Output::of(words).words());
     }
     rest.fill(0);
     let (events, rest) = image.events.split_at_mut(2 * head.event_count);
@@ -93,6 +101,21 @@ pub fn plain_analog_setup(analog: &AnalogSetup) -> AnalogSetup {
     if plain.gate < 2 {
         plain.limit = 0;
     }
+    plain
+}
+
+/// What is past the count does not count; a count above 16 is refused.
+pub fn plain_setup(setup: &Setup) -> Setup {
+    let mut plain = *setup;
+    let count = usize::from(setup.analog_output_count).min(ANALOG_OUTPUTS);
+    let (outputs, rest) = plain.analog_outputs.split_at_mut(count);
+    for output in outputs {
+        output.kind = kind(output.kind, 2);
+        if output.kind == 2 {
+            (output.low, output.high) = (words::float(output.low), words::float(output.high));
+        }
+    }
+    rest.fill(AnalogOutput::zero());
     plain
 }
 
@@ -203,6 +226,16 @@ fn other_analog(words: &mut [u32], random: &mut Random) {
     }
 }
 
+/// Every kind above 1 is a float.
+fn other_output(words: &mut [u32], random: &mut Random) {
+    let output = Output::of(words);
+    words.copy_from_slice(&output.words());
+    if output.kind == 2 {
+        words[0] = random.pick(&[2, 3, 255, 256, 257, 0x8000_0000, u32::MAX]);
+        words[1..].iter_mut().for_each(|bits| *bits = other_float(*bits, random));
+    }
+}
+
 fn other_event(words: &mut [u64], random: &mut Random) {
     let event = Event::of(words[0], words[1]);
     let [_, second] = event.words();
@@ -227,6 +260,10 @@ pub fn other(image: &Outstation, random: &mut Random) -> Outstation {
     analogs.chunks_exact_mut(RECORD).for_each(|words| other_analog(words, random));
     // Only some: the whole array each time would take long.
     rest.iter_mut().take(3 * RECORD).for_each(|word| *word = random_bits(random));
+    let installed = usize::from(head.analog_outputs).min(ANALOG_OUTPUTS);
+    let (outputs, rest) = image.analog_outputs.split_at_mut(OUTPUT_RECORD * installed);
+    outputs.chunks_exact_mut(OUTPUT_RECORD).for_each(|words| other_output(words, random));
+    rest.iter_mut().for_each(|word| *word = random_bits(random));
     let (events, rest) = image.events.split_at_mut(2 * head.event_count.min(EVENTS));
     events.chunks_exact_mut(2).for_each(|words| other_event(words, random));
     rest.iter_mut().take(6).for_each(|word| *word = random.next());
@@ -262,6 +299,10 @@ pub fn other(image: &Outstation, random: &mut Random) -> Outstation {
     other_count(&mut head.binary_count, BINARIES, random);
     other_count(&mut head.analog_count, ANALOGS, random);
     other_count(&mut head.event_count, EVENTS, random);
+    if usize::from(head.analog_outputs) >= ANALOG_OUTPUTS {
+        head.analog_outputs = random.pick(&[16, 17, 18, 255, 256, 257, 65_535]);
+    }
+    other_kind(&mut head.latch_armed, 2, random);
     for truth in [
         &mut head.overflow,
         &mut head.restarted,
@@ -269,7 +310,6 @@ pub fn other(image: &Outstation, random: &mut Random) -> Outstation {
         &mut head.showed_overflow,
         &mut head.dropped_since,
         &mut head.request_kept,
-        &mut head.latch_armed,
     ] {
         other_truth(truth, random);
     }
@@ -298,6 +338,15 @@ pub fn other_analog_setup(analog: &AnalogSetup, random: &mut Random) -> AnalogSe
     other_kind(&mut analog.kind, 2, random);
     other_kind(&mut analog.gate, 3, random);
     analog
+}
+
+pub fn other_setup(setup: &Setup, random: &mut Random) -> Setup {
+    let mut other = *setup;
+    let count = usize::from(setup.analog_output_count).min(ANALOG_OUTPUTS);
+    let (outputs, rest) = other.analog_outputs.split_at_mut(count);
+    outputs.iter_mut().for_each(|output| other_kind(&mut output.kind, 2, random));
+    rest.iter_mut().for_each(|output| *output = AnalogOutput::random(random));
+    other
 }
 
 pub fn other_assembly(assembly: Assembly, random: &mut Random) -> Assembly {

@@ -36,6 +36,7 @@ pub struct Memory {
     events: Block<u64, EVENT_WORDS>,
     binaries: Block<u32, BINARY_WORDS>,
     analogs: Block<u32, ANALOG_WORDS>,
+    analog_outputs: Block<u32, OUTPUT_WORDS>,
     request: Block<u8, FRAGMENT>,
     answer: Block<u8, KEPT_ANSWER>,
     latch_objects: Block<u8, OBJECTS>,
@@ -46,6 +47,7 @@ pub struct Memory {
 #[derive(Clone, Copy)]
 struct Writes {
     points: bool,
+    outputs: bool,
     events: bool,
     session: bool,
 }
@@ -57,6 +59,7 @@ impl Memory {
             events: Block::new(border, 0xE7E6_E5E4_E3E2_E1E0),
             binaries: Block::new(border, 0xB3B2_B1B0),
             analogs: Block::new(border, 0xA3A2_A1A0),
+            analog_outputs: Block::new(border, 0xC3C2_C1C0),
             request: Block::new(border, 0x51),
             answer: Block::new(border, 0x52),
             latch_objects: Block::new(border, 0x53),
@@ -68,6 +71,7 @@ impl Memory {
         *self.events.get_mut() = image.events;
         *self.binaries.get_mut() = image.binaries;
         *self.analogs.get_mut() = image.analogs;
+        *self.analog_outputs.get_mut() = image.analog_outputs;
         *self.request.get_mut() = image.request;
         *self.answer.get_mut() = image.answer;
         *self.latch_objects.get_mut() = image.latch_objects;
@@ -76,17 +80,20 @@ impl Memory {
     /// What the call left, where it wrote no other array and no border.
     fn take(&self, image: &mut Outstation, head: Head, writes: Writes) -> Result<(), String> {
         let points = *self.binaries.get() == image.binaries && *self.analogs.get() == image.analogs;
+        let outputs = *self.analog_outputs.get() == image.analog_outputs;
         let events = *self.events.get() == image.events;
         let session = *self.request.get() == image.request
             && *self.answer.get() == image.answer
             && *self.latch_objects.get() == image.latch_objects;
         for (what, kept) in [
             ("points", writes.points || points),
+            ("analog outputs", writes.outputs || outputs),
             ("events", writes.events || events),
             ("request, answer or objects", writes.session || session),
             ("border of the events", self.events.kept()),
             ("border of the binaries", self.binaries.kept()),
             ("border of the analogs", self.analogs.kept()),
+            ("border of the analog outputs", self.analog_outputs.kept()),
             ("border of the request", self.request.kept()),
             ("border of the answer", self.answer.kept()),
             ("border of the objects", self.latch_objects.kept()),
@@ -99,6 +106,9 @@ impl Memory {
         if !points {
             image.binaries = *self.binaries.get();
             image.analogs = *self.analogs.get();
+        }
+        if !outputs {
+            image.analog_outputs = *self.analog_outputs.get();
         }
         if !events {
             image.events = *self.events.get();
@@ -120,9 +130,15 @@ impl Memory {
         setups: &[AnalogSetup],
     ) -> Result<u8, String> {
         self.put(image);
-        let (binaries, analogs) = (self.binaries.get_mut(), self.analogs.get_mut());
-        let restarted = header::restart(setup, classes, setups, binaries, analogs);
-        let writes = Writes { points: true, events: false, session: false };
+        let restarted = header::restart(
+            setup,
+            classes,
+            setups,
+            self.binaries.get_mut(),
+            self.analogs.get_mut(),
+            self.analog_outputs.get_mut(),
+        );
+        let writes = Writes { points: true, outputs: true, events: false, session: false };
         self.take(image, restarted.head, writes)?;
         Ok(restarted.refusal)
     }
@@ -137,7 +153,7 @@ impl Memory {
             self.events.get_mut(),
             reading,
         );
-        let writes = Writes { points: true, events: true, session: false };
+        let writes = Writes { points: true, outputs: false, events: true, session: false };
         self.take(image, took.head, writes)?;
         Ok(took.refusal)
     }
@@ -156,7 +172,7 @@ impl Memory {
             self.events.get_mut(),
             readings,
         );
-        let writes = Writes { points: true, events: true, session: false };
+        let writes = Writes { points: true, outputs: false, events: true, session: false };
         self.take(image, took.head, writes)?;
         Ok((took.taken, took.refusal))
     }
@@ -167,7 +183,7 @@ impl Memory {
         time: u64,
         fragment: &[u8],
         out: &mut [u8],
-    ) -> Result<(FragmentAnswer, Crobs), String> {
+    ) -> Result<(FragmentAnswer, Operated), String> {
         self.put(image);
         let lent = FragmentLent {
             binaries: self.binaries.get(),
@@ -176,9 +192,10 @@ impl Memory {
             request: self.request.get_mut(),
             answer: self.answer.get_mut(),
             latch_objects: self.latch_objects.get_mut(),
+            analog_outputs: self.analog_outputs.get(),
         };
         let answer = header::fragment(image.head, lent, time, fragment, out);
-        let writes = Writes { points: false, events: true, session: true };
+        let writes = Writes { points: false, outputs: false, events: true, session: true };
         self.take(image, answer.head, writes)?;
         Ok((answer.answer, answer.operated))
     }

@@ -5,7 +5,7 @@
 use std::collections::BTreeMap;
 
 use reference::application::Outcome;
-use reference::control::Control;
+use reference::control::{Control, Object};
 use reference::faults::{on, Fault};
 use reference::frame::{self, Frame, FrameRefusal};
 use reference::generate::Random;
@@ -14,11 +14,13 @@ use reference::outstation::Outstation;
 use reference::points::{Form, Reading, Taken};
 use reference::receiver::Receiver;
 use reference::script::{Call, LENT};
+use reference::set_points::{SetPoint, SetValue};
 use reference::transport::{Assembled, Unfinished};
 
 use crate::header::{self, Same};
 use crate::meaning;
 use crate::memory::Memory;
+use crate::reached::{self, Accepted};
 use crate::run::block;
 use crate::state::{self, equal, gate_parts};
 
@@ -275,30 +277,30 @@ impl Pair {
                 self.setup = image;
                 self.restart(refusal)?;
             }
-            // A limit that the struct cannot hold.
+            // A limit or an end that the struct cannot hold.
             None => return equal("refusal", 5, refusal),
         }
         match &self.second {
             Some(second) => state::compare(&self.image, second),
             None => {
-                let head = &self.image.head;
-                let left = (head.binary_count, head.analog_count, head.outputs);
-                equal("what a refused setup leaves", left, (0, 0, 0))
+                equal("what a refused setup leaves", installed(&self.image.head), (0, 0, 0, 0))
             }
         }
     }
 
     fn restart(&mut self, expected: u8) -> Result<(), String> {
         let mut setups = self.setup.analogs.clone();
+        let mut setup = self.setup.setup;
         if self.other {
+            setup = meaning::other_setup(&setup, &mut self.random);
             for setup in &mut setups {
                 *setup = meaning::other_analog_setup(setup, &mut self.random);
             }
         }
         // Whatever the head and the arrays held.
         self.image.head = header::Head::random(&mut self.random);
-        let SetupImage { setup, classes, .. } = &self.setup;
-        let refusal = self.memory.restart(&mut self.image, *setup, classes, &setups)?;
+        let classes = &self.setup.classes;
+        let refusal = self.memory.restart(&mut self.image, setup, classes, &setups)?;
         self.keep();
         self.assembly = header::Assembly::zero();
         self.sender = header::Sender::zero();
@@ -426,6 +428,12 @@ impl Pair {
         seen.note("pulse of 1 ms carried out", pulse == Some(1) && carried);
         seen.note("pulse of 60,000 ms carried out", pulse == Some(60_000) && carried);
         seen.note("pulse of 60,001 ms not carried out", pulse == Some(60_001) && refused);
+        if kind < 2 {
+            let (setup, latch) = (&second.setup, latch.as_ref());
+            let answer = &lent.library()[..length];
+            let call = Accepted { setup, latch, time, bytes, answer, operated };
+            reached::set_points(seen, &call);
+        }
         Ok(())
     }
 
@@ -725,16 +733,51 @@ fn one_pulse(bytes: &[u8], outputs: u8) -> Option<u32> {
     (times.len() == 8 && *index < outputs).then(|| u32::from_le_bytes(on_time))
 }
 
-fn same_operated(library: &header::Crobs, second: &[Control]) -> Result<(), String> {
-    equal("number of objects carried out", library.count, second.len())?;
-    for (one, two) in library.items.iter().zip(second) {
-        let mut object = [0; 11];
-        (object[0], object[1], object[10]) = (one.code, one.count, one.status);
-        object[2..6].copy_from_slice(&one.on_time.to_le_bytes());
-        object[6..10].copy_from_slice(&one.off_time.to_le_bytes());
-        equal("object carried out", (one.index, object), (two.index, two.object))?;
+fn same_operated(library: &header::Operated, second: &[Control]) -> Result<(), String> {
+    equal("number of objects carried out", library.count(), second.len())?;
+    match library.differs_in_objects(&operated_image(second)) {
+        None => Ok(()),
+        Some(found) => Err(format!("carried out{found} (the library, and the second program)")),
     }
-    Ok(())
+}
+
+/// How many points and outputs of each kind a head has.
+pub fn installed(head: &header::Head) -> (usize, usize, u16, u16) {
+    (head.binary_count, head.analog_count, head.outputs, head.analog_outputs)
+}
+
+/// What the second program hands over, as the header's structs.
+pub fn operated_image(second: &[Control]) -> header::Operated {
+    let mut operated = header::Operated::zero();
+    let (crobs, commands) = (&mut operated.crobs, &mut operated.analog_commands);
+    for Control { index, object } in second {
+        match object {
+            Object::Relay([code, count, times @ .., status]) => {
+                let [on @ .., _, _, _, _] = *times;
+                let [_, _, _, _, off @ ..] = *times;
+                crobs.items[crobs.count] = header::Crob {
+                    on_time: u32::from_le_bytes(on),
+                    off_time: u32::from_le_bytes(off),
+                    index: *index,
+                    code: *code,
+                    count: *count,
+                    status: *status,
+                };
+                crobs.count += 1;
+            }
+            Object::SetPoint(value, status) => {
+                let (kind, bits) = match *value {
+                    SetValue::Whole32(value) => (0, value as u32),
+                    SetValue::Whole16(value) => (1, i32::from(value) as u32),
+                    SetValue::Float(value) => (2, value.to_bits()),
+                };
+                let command = header::AnalogCommand { bits, index: *index, kind, status: *status };
+                commands.items[commands.count] = command;
+                commands.count += 1;
+            }
+        }
+    }
+    operated
 }
 
 // ---- what the second program is given, as the header's structs
@@ -799,9 +842,29 @@ impl Default for SetupImage {
     }
 }
 
-/// None where a limit is not one that the struct can hold. Points past the second program's lists
-/// are all 0.
+/// None where an end is not one that the struct can hold.
+fn output_image(point: &SetPoint) -> Option<header::AnalogOutput> {
+    let end = |number: i64| Some(i32::try_from(number).ok()? as u32);
+    Some(match *point {
+        SetPoint::Whole32(low, high) => {
+            header::AnalogOutput { low: end(low)?, high: end(high)?, kind: 0 }
+        }
+        SetPoint::Whole16(low, high) => {
+            header::AnalogOutput { low: end(low)?, high: end(high)?, kind: 1 }
+        }
+        SetPoint::Float(low, high) => {
+            header::AnalogOutput { low: low.to_bits(), high: high.to_bits(), kind: 2 }
+        }
+    })
+}
+
+/// None where a limit or an end is not one that the struct can hold. Points past the second
+/// program's lists are all 0.
 pub fn setup_image(setup: &reference::outstation::Setup) -> Option<SetupImage> {
+    let mut analog_outputs = [header::AnalogOutput::zero(); header::ANALOG_OUTPUTS];
+    for (output, point) in analog_outputs.iter_mut().zip(&setup.set_points) {
+        *output = output_image(point)?;
+    }
     let mut image = SetupImage {
         setup: header::Setup {
             arm_time: setup.arm_time,
@@ -809,6 +872,8 @@ pub fn setup_image(setup: &reference::outstation::Setup) -> Option<SetupImage> {
             own: setup.own,
             master: setup.master,
             outputs: u16::from(setup.outputs),
+            analog_output_count: u16::from(setup.set_point_count),
+            analog_outputs,
         },
         classes: setup.binaries.clone(),
         analogs: Vec::new(),

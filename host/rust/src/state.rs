@@ -1,10 +1,12 @@
 //! The library's state, head and lent words, against the second program's, field by field.
 
+use reference::control::Group;
 use reference::outstation::Outstation;
 use reference::points::{Form, Gate, Past, Value};
+use reference::set_points::SetPoint;
 
 use crate::header::{self, Head, FRAGMENT, KEPT_ANSWER, OBJECTS};
-use crate::words::{Analog, Binary, Event, Shown, RECORD};
+use crate::words::{Analog, Binary, Event, Output, Shown, OUTPUT_RECORD, RECORD};
 
 /// An error that names both sides.
 pub fn equal<T: PartialEq + std::fmt::Debug>(
@@ -25,6 +27,7 @@ pub fn compare(image: &header::Outstation, second: &Outstation) -> Result<(), St
     equal("outputs", head.outputs, u16::from(setup.outputs))?;
     equal("clock", head.clock, second.clock)?;
     points(image, second)?;
+    outputs(image, second)?;
     events(image, second)?;
     equal("restarted", head.restarted != 0, second.restarted)?;
     wait(head, second)?;
@@ -84,6 +87,24 @@ fn analog_of(two: &reference::points::Analog, reported: u8) -> Analog {
     }
 }
 
+/// The ends of whole set points in a setup that was taken fit 32 bits.
+fn output_of(two: &SetPoint) -> Output {
+    let (kind, low, high) = match *two {
+        SetPoint::Whole32(low, high) => (0, low as i32 as u32, high as i32 as u32),
+        SetPoint::Whole16(low, high) => (1, low as i32 as u32, high as i32 as u32),
+        SetPoint::Float(low, high) => (2, low.to_bits(), high.to_bits()),
+    };
+    Output { kind, low, high }
+}
+
+/// The head's number for a latch that is armed for this group.
+fn armed_for(group: Group) -> u8 {
+    match group {
+        Group::Relays => 1,
+        Group::SetPoints => 2,
+    }
+}
+
 /// The number of a gate, and its limit if it has one.
 pub fn gate_parts<L>(gate: Gate<L>) -> (u8, Option<L>) {
     match gate {
@@ -129,6 +150,16 @@ fn points(image: &header::Outstation, second: &Outstation) -> Result<(), String>
     Ok(())
 }
 
+fn outputs(image: &header::Outstation, second: &Outstation) -> Result<(), String> {
+    let set_points = &second.setup.set_points;
+    equal("analog outputs", usize::from(image.head.analog_outputs), set_points.len())?;
+    let words = image.analog_outputs.chunks_exact(OUTPUT_RECORD);
+    for (place, (words, two)) in words.zip(set_points).enumerate() {
+        equal(&format!("analog output {place}"), Output::of(words), output_of(two))?;
+    }
+    Ok(())
+}
+
 fn events(image: &header::Outstation, second: &Outstation) -> Result<(), String> {
     equal("events held", image.head.event_count, second.events.held.len())?;
     equal("overflow", image.head.overflow != 0, second.events.warning)?;
@@ -159,10 +190,11 @@ fn latch(image: &header::Outstation, second: &Outstation) -> Result<(), String> 
     let head = &image.head;
     let latch = (head.latch_armed != 0).then(|| {
         let objects = &image.latch_objects[..head.latch_len.min(OBJECTS)];
-        (head.latch_sequence, head.latch_time, objects)
+        (head.latch_armed.min(2), head.latch_sequence, head.latch_time, objects)
     });
-    let expected = second.latch.as_ref().map(|l| (l.sequence, l.time, &l.objects[..]));
-    equal("latch", latch, expected)
+    let expected = second.latch.as_ref();
+    let expected = expected.map(|l| (armed_for(l.group), l.sequence, l.time, &l.objects[..]));
+    equal("latch: armed for, sequence, time, objects", latch, expected)
 }
 
 fn last_request(image: &header::Outstation, second: &Outstation) -> Result<(), String> {
@@ -192,6 +224,7 @@ pub fn head_of(second: &Outstation) -> Head {
     head.analog_count = second.analogs.len();
     head.event_count = second.events.held.len();
     head.outputs = u16::from(second.setup.outputs);
+    head.analog_outputs = second.setup.set_points.len() as u16;
     head.overflow = u8::from(second.events.warning);
     head.restarted = u8::from(second.restarted);
     if let Some(wait) = &second.wait {
@@ -204,7 +237,8 @@ pub fn head_of(second: &Outstation) -> Head {
         (head.request_len, head.answer_len) = (request.len(), answer.len());
     }
     if let Some(latch) = &second.latch {
-        (head.latch_armed, head.latch_sequence, head.latch_time) = (1, latch.sequence, latch.time);
+        head.latch_armed = armed_for(latch.group);
+        (head.latch_sequence, head.latch_time) = (latch.sequence, latch.time);
         head.latch_len = latch.objects.len();
     }
     head
@@ -218,6 +252,10 @@ pub fn image_of(second: &Outstation) -> header::Outstation {
     }
     for (words, two) in image.analogs.chunks_exact_mut(RECORD).zip(&second.analogs) {
         words.copy_from_slice(&analog_of(two, 0).words());
+    }
+    let words = image.analog_outputs.chunks_exact_mut(OUTPUT_RECORD);
+    for (words, two) in words.zip(&second.setup.set_points) {
+        words.copy_from_slice(&output_of(two).words());
     }
     for (words, event) in image.events.chunks_exact_mut(2).zip(events_of(second)) {
         words.copy_from_slice(&event.words());

@@ -1,5 +1,5 @@
-//! What lent words stand for, written a second time from the definitions of `PointWords.antt` and
-//! `EventWords.antt`. Any words stand for something; of all words that stand for the same, `word`
+//! What lent words stand for, written a second time from the definitions of `PointWords.antt`,
+//! `OutputWords.antt` and `EventWords.antt`. Any words stand for something; of all words that stand for the same, `word`
 //! and `words` give the plain ones.
 
 /// Every NaN's bits stand for the one NaN; these are its plain bits.
@@ -138,6 +138,29 @@ impl Analog {
             self.gain,
             self.offset,
         ]
+    }
+}
+
+/// `kind` 0: 32-bit; 1: 16-bit; 2: float, of which the ends are bits.
+#[derive(Clone, Copy, Debug, PartialEq)]
+pub struct Output {
+    pub kind: u8,
+    pub low: u32,
+    pub high: u32,
+}
+
+/// Words of one analog output.
+pub const OUTPUT_RECORD: usize = 3;
+
+impl Output {
+    pub fn of(words: &[u32]) -> Output {
+        let [kind, low, high] = words[..OUTPUT_RECORD] else { unreachable!("three words") };
+        let end = |bits| if kind < 2 { bits } else { float(bits) };
+        Output { kind: kind.min(2) as u8, low: end(low), high: end(high) }
+    }
+
+    pub fn words(&self) -> [u32; OUTPUT_RECORD] {
+        [u32::from(self.kind), self.low, self.high]
     }
 }
 

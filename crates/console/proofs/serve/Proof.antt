@@ -7,10 +7,10 @@ use Rattle.console.proofs.serve.Statement.{statement}
 use Rattle.console.proofs.serve.Tie as tie
 
 abbrev Inv-loop : tie.InvT-loop
-Inv-loop t₀ binaries₀ analogs₀ held₀ request₀ answer₀ objects₀ setup₀ bytes₀ lent₀ gathered₀ memory₀ out₀ u₀ r₀ turns₀ t binaries analogs held request answer objects setup bytes lent gathered memory out u r turns = length t ≡ length t₀
+Inv-loop t₀ binaries₀ analogs₀ held₀ request₀ answer₀ objects₀ outputs₀ setup₀ bytes₀ lent₀ gathered₀ memory₀ out₀ u₀ r₀ turns₀ t binaries analogs held request answer objects outputs setup bytes lent gathered memory out u r turns = length t ≡ length t₀
 
 abbrev μ-loop : tie.MeasureT-loop
-μ-loop t₀ binaries₀ analogs₀ held₀ request₀ answer₀ objects₀ setup₀ bytes₀ lent₀ gathered₀ memory₀ out₀ u₀ r₀ turns₀ t binaries analogs held request answer objects setup bytes lent gathered memory out u r turns = turns
+μ-loop t₀ binaries₀ analogs₀ held₀ request₀ answer₀ objects₀ outputs₀ setup₀ bytes₀ lent₀ gathered₀ memory₀ out₀ u₀ r₀ turns₀ t binaries analogs held request answer objects outputs setup bytes lent gathered memory out u r turns = turns
 
 fresh-requires : tie.Need-fresh-requires Inv-loop μ-loop
 fresh-requires c κs = tt
