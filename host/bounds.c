@@ -399,12 +399,23 @@ static uint32_t some_value(const struct pomarisco_analog_output *o) {
     return values[any() % (any() % 8 == 0 ? sizeof values / sizeof values[0] : 2)];
 }
 
-/* Words of an output: ends next to each other, from the first to the second, or anything. */
-static void some_output(uint32_t *w) {
+/* Words of an output: mostly of this kind, with ends that a setup may give; else ends next to each other, or anything. */
+static void some_output(uint32_t *w, uint32_t kind) {
+    enum { ENDS = 5 };
+    static const uint32_t ends[3][ENDS][2] = {
+        {{0, 0}, {0x80000000, 0x7FFFFFFF}, {(uint32_t)-300, (uint32_t)-256}, {0x7FFFFFFF, 0x7FFFFFFF}, {(uint32_t)-70000, 70000}},
+        {{0, 0}, {(uint32_t)-32768, 32767}, {(uint32_t)-300, (uint32_t)-256}, {32767, 32767}, {254, 257}},
+        {{0, 0x80000000}, {0xFF7FFFFF, 0x7F7FFFFF}, {0xBF800000, 0x3F800000}, {0x80000001, 1}, {0x80000000, 0x80000000}},
+    };
     static const uint32_t around[] = {0, 0x80000000, 100, (uint32_t)-100, 0x3F800000, 0xBF800000, 0x7F7FFFFF, 0xFF7FFFFF, 0x7F800000, 0x7FC00000, 32767, (uint32_t)-32768};
-    w[0] = any() % 4 == 0 ? (uint32_t)any() : (uint32_t)(any() % 4);
+    const uint32_t *pair = ends[kind < 2 ? kind : 2][any() % ENDS];
+    w[0] = kind;
+    w[1] = pair[0];
+    w[2] = pair[1];
+    if (any() % 8 != 0) return;
+    if (any() % 4 == 0) w[0] = (uint32_t)any();
     w[1] = around[any() % 12] + (uint32_t)(any() % 3) - 1;
-    w[2] = any() % 8 == 0 ? (uint32_t)any() : any() % 2 == 0 ? w[1] + (uint32_t)(any() % 3) : around[any() % 12];
+    w[2] = any() % 4 == 0 ? (uint32_t)any() : any() % 2 == 0 ? w[1] + (uint32_t)(any() % 3) : around[any() % 12];
 }
 
 /* Asks for one to eight set points of one kind; writes them as a request has them, and gives the request's length. */
@@ -417,6 +428,7 @@ static size_t some_request(const struct pomarisco_outstation *s, uint8_t functio
     for (size_t i = 0; i < *count; i++) {
         struct pomarisco_analog_command *c = &asked[i];
         c->index = (uint16_t)(any() % 16 == 0 ? any() % 20 : (first + i) % POMARISCO_ANALOG_OUTPUTS);
+        if (i > 0 && any() % 16 == 0) c->index = asked[i - 1].index;
         if (width == 2 && any() % 30 == 0) c->index = (uint16_t)(c->index + 256);
         const struct pomarisco_analog_output o = pomarisco_analog_output_at(s, c->index % POMARISCO_ANALOG_OUTPUTS);
         c->kind = kind;
@@ -457,9 +469,9 @@ static void any_outputs(void) {
         size_t count, right = 0, zero = 0;
         s.head = full.head;
         s.head.analog_outputs = (uint16_t)(any() % 2 == 0 ? any() : any() % 18);
-        for (size_t i = 0; i < POMARISCO_ANALOG_OUTPUTS; i++) some_output(s.analog_outputs + 3 * i);
-        /* Often of one kind, so that more than one object may be right. */
-        for (size_t i = 1; round % 4 != 0 && i < POMARISCO_ANALOG_OUTPUTS; i++) s.analog_outputs[3 * i] = s.analog_outputs[0];
+        /* Often all of one kind, so that more than one object may be right. */
+        const uint32_t one = (uint32_t)(any() % 4);
+        for (size_t i = 0; i < POMARISCO_ANALOG_OUTPUTS; i++) some_output(s.analog_outputs + 3 * i, round % 4 == 0 ? (uint32_t)(any() % 4) : one);
         const uint8_t function = (const uint8_t[]){3, 3, 5, 6}[any() % 4];
         const size_t n = some_request(&s, function, request, asked, &count), each = (n - (request[4] == 0x17 ? 6 : 7)) / count;
         const struct pomarisco_fragment_answer a = pomarisco_fragment(&s, 1000, request, n, out, sizeof out, &operated);
@@ -483,7 +495,7 @@ static void any_outputs(void) {
         zeros += other == 1;
     }
     expect(good, "any analog outputs: set points by their definition");
-    expect(armed > 1000 && direct > 1000 && eight > 10 && zeros > 100 && reached[0] > 1000 && reached[3] > 1000 && reached[4] > 1000 && reached[8] > 1000, "any analog outputs: each outcome reached");
+    expect(armed > 1000 && direct > 1000 && eight > 20 && zeros > 1000 && reached[0] > 1000 && reached[3] > 1000 && reached[4] > 1000 && reached[8] > 1000, "any analog outputs: each outcome reached");
 }
 
 /* ---- the receiver */

@@ -6,6 +6,7 @@ use crate::sums::fold;
 use crate::sums::fold_all;
 use crate::sums::plus;
 use crate::sums::poke;
+use analog_outputs::ANALOG_OUTPUT_WORDS;
 use application::FRAGMENT_MAX;
 use control::ANSWER_MAX;
 use control::ECHO_MAX;
@@ -54,6 +55,7 @@ fn exchange(
     request: &mut [u8; FRAGMENT_MAX],
     answer: &mut [u8; ANSWER_MAX],
     objects: &mut [u8; ECHO_MAX],
+    outputs: &[u32; ANALOG_OUTPUT_WORDS],
     time: u64,
     ask: &[u8],
     confirm: &[u8],
@@ -67,6 +69,7 @@ fn exchange(
         request,
         answer,
         objects,
+        outputs,
         time,
         ask,
         out,
@@ -82,6 +85,7 @@ fn exchange(
         request,
         answer,
         objects,
+        outputs,
         time,
         confirm,
         out,
@@ -113,6 +117,7 @@ fn exchanges(
     request: &mut [u8; FRAGMENT_MAX],
     answer: &mut [u8; ANSWER_MAX],
     objects: &mut [u8; ECHO_MAX],
+    outputs: &[u32; ANALOG_OUTPUT_WORDS],
     ask: &mut [u8],
     confirm: &mut [u8],
     out: &mut [u8],
@@ -132,6 +137,7 @@ fn exchanges(
             request,
             answer,
             objects,
+            outputs,
             1000 + left % 1000,
             ask,
             confirm,
@@ -151,6 +157,7 @@ pub fn event_read(count: u64, n: u64) -> u64 {
     let mut request = [0u8; FRAGMENT_MAX];
     let mut answer = [0u8; ANSWER_MAX];
     let mut objects = [0u8; ECHO_MAX];
+    let outputs = [0u32; ANALOG_OUTPUT_WORDS];
     let mut ask = [192u8, 1, 60, 2, 6, 60, 3, 6, 60, 4, 6];
     let mut confirm = [192u8, 0];
     let mut out = [0u8; FRAGMENT_MAX];
@@ -165,6 +172,7 @@ pub fn event_read(count: u64, n: u64) -> u64 {
         &mut request,
         &mut answer,
         &mut objects,
+        &outputs,
         &mut ask,
         &mut confirm,
         &mut out,
@@ -178,6 +186,7 @@ pub fn event_read(count: u64, n: u64) -> u64 {
         &mut request,
         &mut answer,
         &mut objects,
+        &outputs,
         1000,
         &ask,
         &confirm,

@@ -5,6 +5,9 @@ ghost use Rattle.laws.specs.Limits.{pointsMax};
 use crate::sums::digest;
 use crate::sums::fold;
 use crate::sums::plus;
+use analog_outputs::ANALOG_OUTPUT_WORDS;
+use analog_outputs::ANALOG_OUTPUTS_MAX;
+use analog_outputs::AnalogOutputWords;
 use event_store::BufferStatus;
 use event_store::EVENT_WORDS;
 use events::CAPACITY;
@@ -63,16 +66,25 @@ fn points_of(n: u16) -> usize
 
 // So many points of each kind, none read yet.
 fn fresh(n: u16, binaries: &mut [u32; BINARY_WORDS], analogs: &mut [u32; ANALOG_WORDS]) -> Head {
+    let none = AnalogOutputWords {
+        low: 0,
+        high: 0,
+        kind: 0,
+    };
+    let items = [none; ANALOG_OUTPUTS_MAX];
     let s = SetupWords {
         arm_time: 2000,
         confirm_time: 5000,
         own: 10,
         master: 1,
         outputs: 8,
+        analog_output_count: 0,
+        analog_outputs: items,
     };
     let classes = [1u8; POINTS_MAX];
     let k = points_of(n);
-    let g = restart::begin_restart(s, &classes[0..k], k, binaries);
+    let mut outputs = [0u32; ANALOG_OUTPUT_WORDS];
+    let g = restart::begin_restart(s, &classes[0..k], k, binaries, &mut outputs);
     let r = restart::finish_restart(s, k, added(g, k, analogs));
     r.head
 }

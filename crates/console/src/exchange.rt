@@ -228,20 +228,17 @@ fn put_crob(c: Crob, out: &mut [u8], at: usize) -> usize {
 
 // ` V@INDEX:` and the value's bytes
 fn put_value(v: Value, index: u16, out: &mut [u8], at: usize) -> usize {
-    match v {
-        Value::Int32(z) => {
-            let a = put_output(b" 1", index, out, at);
-            put_four(words::signed_bits(z), out, a)
-        }
-        Value::Int16(z) => {
-            let a = put_output(b" 2", index, out, at);
-            put_two(words::signed_bits(z as i32), out, a)
-        }
-        Value::Float32(x) => {
-            let a = put_output(b" 3", index, out, at);
-            put_four(words::float_bits(x), out, a)
-        }
+    let c = point_store::value_coded(v);
+    if c.kind == 0 {
+        let a = put_output(b" 1", index, out, at);
+        return put_four(c.bits, out, a);
     }
+    if c.kind == 1 {
+        let a = put_output(b" 2", index, out, at);
+        return put_two(c.bits, out, a);
+    }
+    let a = put_output(b" 3", index, out, at);
+    put_four(c.bits, out, a)
 }
 
 fn put_output(variation: &[u8], index: u16, out: &mut [u8], at: usize) -> usize {
@@ -261,5 +258,6 @@ fn put_four(n: u32, out: &mut [u8], at: usize) -> usize {
 fn put_two(n: u32, out: &mut [u8], at: usize) -> usize {
     let mut b = [0u8; 4];
     octets::put4(&mut b, 0, n);
-    text::put_hex(out, at, &b[..2])
+    let a = text::put_byte(out, at, b[0]);
+    text::put_byte(out, a, b[1])
 }

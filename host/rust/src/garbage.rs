@@ -50,9 +50,11 @@ fn image(live: &Outstation, random: &mut Random) -> Outstation {
             *second = u64::from_le_bytes(bytes);
         }
     }
-    image.analog_outputs.chunks_exact_mut(OUTPUT_RECORD).for_each(|words| output(words, random));
-    if random.chance(30) {
-        image.analog_outputs.chunks_exact_mut(OUTPUT_RECORD).for_each(|words| words[0] = 2);
+    // Often all of one kind, so that more than one object may be right.
+    let one = random.below(6) as u32;
+    for words in image.analog_outputs.chunks_exact_mut(OUTPUT_RECORD) {
+        let kind = if one < 3 { one } else { random.below(4) as u32 };
+        output(words, kind, random);
     }
     let head = &mut image.head;
     let any = random.next() as u16;
@@ -92,8 +94,12 @@ fn image(live: &Outstation, random: &mut Random) -> Outstation {
     image
 }
 
-/// Ends that are next to each other or far apart, of a kind that there is; or as they are.
-fn output(words: &mut [u32], random: &mut Random) {
+/// An output of this kind that a setup may have; or ends that are next to each other or far apart; or
+/// as it is.
+fn output(words: &mut [u32], kind: u32, random: &mut Random) {
+    const LONG: [u32; 2] = [0xFFFE_EE90, 70_000];
+    const SHORT: [u32; 2] = [0xFFFF_FED4, 256];
+    const FLOATS: [[u32; 2]; 3] = [[0, 0x8000_0000], [0xBF80_0000, 0x3F80_0000], [0x8000_0001, 1]];
     const ENDS: [u32; 12] = [
         0,
         0x8000_0000,
@@ -108,11 +114,18 @@ fn output(words: &mut [u32], random: &mut Random) {
         0x7FFF,
         0xFFFF_8000,
     ];
-    if random.chance(80) {
-        words[0] %= 4;
-        words[1] = random.pick(&ENDS);
-        let near = words[1].wrapping_add(random.below(3) as u32);
-        words[2] = random.pick(&[near, near, near, random.pick(&ENDS)]);
+    match random.below(10) {
+        0..=5 => {
+            let ends = [LONG, SHORT].get(kind as usize).copied();
+            let [low, high] = ends.unwrap_or_else(|| random.pick(&FLOATS));
+            words.copy_from_slice(&[kind, low, high]);
+        }
+        6..=7 => {
+            (words[0], words[1]) = (words[0] % 4, random.pick(&ENDS));
+            let (near, far) = (words[1].wrapping_add(random.below(3) as u32), random.pick(&ENDS));
+            words[2] = random.pick(&[near, far]);
+        }
+        _ => {}
     }
 }
 
@@ -125,7 +138,7 @@ fn set_point_objects(image: &Outstation, random: &mut Random) -> Vec<u8> {
     let any = random.below(3) as u8;
     let kind = if random.chance(85) { output(first).kind } else { any };
     let wide = random.chance(40);
-    let objects = random.pick(&[1, 1, 1, 2, 3, 8]);
+    let objects = random.pick(&[1, 1, 2, 3, 8]);
     let mut bytes = vec![41, kind + 1, if wide { 0x28 } else { 0x17 }, objects as u8];
     if wide {
         bytes.push(0);
@@ -133,7 +146,7 @@ fn set_point_objects(image: &Outstation, random: &mut Random) -> Vec<u8> {
     for place in 0..objects {
         let mut index = (first + place) % ANALOG_OUTPUTS;
         if random.chance(8) {
-            index = random.pick(&[0, 15, 16, 17, 255]);
+            index = random.pick(&[first, first, 0, 15, 16, 17, 255]);
         }
         bytes.push(index as u8);
         if wide {
@@ -254,16 +267,12 @@ fn set_points(
     let asked = &asked.items[..asked.count];
     let given_statuses = statuses(bytes, asked.len(), answer).unwrap_or_default();
     if function == 4 {
-        let latched = &given.latch_objects[..given.head.latch_len.min(OBJECTS)];
-        let same = latched == objects && given_statuses.iter().all(|&status| status < 2);
-        let armed_for_relays = given.head.latch_armed == 1;
-        seen.note("garbage: set points of a latch carried out", operated.count() > 0);
-        seen.note(
-            "garbage: set points of a latch armed for relays not carried out",
-            latched == objects && armed_for_relays && operated.count() == 0,
-        );
-        let met = given.head.latch_armed > 1 && same;
-        return match operated.count() > 0 && !met {
+        let latched = &given.latch_objects[..given.head.latch_len.min(OBJECTS)] == objects;
+        let (armed, done) = (given.head.latch_armed, operated.count() > 0);
+        seen.note("garbage: set points of a latch carried out", done);
+        let relays = latched && armed == 1 && !done;
+        seen.note("garbage: set points of a latch armed for relays not carried out", relays);
+        return match done && !(latched && armed > 1) {
             true => Err("set points carried out that were not selected".into()),
             false => Ok(()),
         };

@@ -222,13 +222,13 @@ fn lengths(pair: &mut Pair, call: &str) -> Result<(), String> {
                 vec![0xC2, 0],
                 vec![0xC3, 0],
             ];
-            // Set points: a SELECT, its OPERATE, direct operation, eight of which one is outside.
-            let object = [0x29, 2, 0x17, 1, 5, 0xD4, 0xFE, 0];
-            fragments.extend([[&[0xC5, 3][..], &object].concat(), [&[0xC6, 4][..], &object].concat()]);
-            fragments.extend([[&[0xC7, 5][..], &object].concat(), [&[0xC8, 6][..], &object].concat()]);
-            let mut eight = vec![0xC9, 5, 0x29, 3, 0x28, 8, 0];
+            // Set points: a SELECT, its OPERATE, direct operation; then eight, minus zero but for one.
+            for (sequence, function) in [(0xC5, 3), (0xC6, 4), (0xC7, 5), (0xC8, 6)] {
+                fragments.push(vec![sequence, function, 41, 2, 0x17, 1, 5, 0xD4, 0xFE, 0]);
+            }
+            let mut eight = vec![0xC9, 5, 41, 3, 0x28, 8, 0];
             for index in [2, 3, 6, 7, 10, 11, 14, 15] {
-                eight.extend_from_slice(&[index, 0, 0, 0, if index == 14 { 0xC0 } else { 0 }, 0x80, 0]);
+                eight.extend_from_slice(&[index, 0, u8::from(index == 15), 0, 0, 0x80, 0]);
             }
             fragments.push(eight);
             for n in [3, 2047, 2048, 2049, 3000] {

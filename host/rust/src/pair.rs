@@ -282,9 +282,7 @@ impl Pair {
         }
         match &self.second {
             Some(second) => state::compare(&self.image, second),
-            None => {
-                equal("what a refused setup leaves", installed(&self.image.head), (0, 0, 0, 0))
-            }
+            None => equal("what a refused setup leaves", installed(&self.image.head), (0, 0, 0, 0)),
         }
     }
 

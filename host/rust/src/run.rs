@@ -6,12 +6,13 @@ use reference::link::{self, Heard, LineRecord};
 use reference::outstation;
 use reference::points::{self, Form, Gate, Taken};
 use reference::receiver;
+use reference::set_points::SetPoint;
 use reference::transport::{Assembled, Transport};
 
 use crate::header::*;
 use crate::meaning;
 use crate::memory::Memory;
-use crate::pair::{assembly_image, keep};
+use crate::pair::{assembly_image, installed, keep, operated_image};
 use crate::state::{self, equal};
 use crate::stress::{Answered, Call, Generator, Kind, Sum, COUNTS, FILL, LENGTHS, LINE, WHOLE};
 
@@ -48,11 +49,22 @@ fn form(analog: &AnalogSetup) -> Form {
     }
 }
 
-/// Its numbers of points and outputs are bytes; its lists have at most 64.
+fn set_point(output: &AnalogOutput) -> SetPoint {
+    let AnalogOutput { low, high, kind } = *output;
+    let whole = |bits: u32| i64::from(bits as i32);
+    match kind {
+        0 => SetPoint::Whole32(whole(low), whole(high)),
+        1 => SetPoint::Whole16(whole(low), whole(high)),
+        _ => SetPoint::Float(f32::from_bits(low), f32::from_bits(high)),
+    }
+}
+
+/// Its numbers of points and outputs are bytes; its lists have at most 64 points and 16 set points.
 fn setup(call: &Call) -> outstation::Setup {
     let byte = |count: usize| count.min(255) as u8;
     let setup = &call.setup;
     let analogs = call.setups.iter().take(ANALOGS);
+    let set_points = usize::from(setup.analog_output_count);
     outstation::Setup {
         own: setup.own,
         master: setup.master,
@@ -61,8 +73,10 @@ fn setup(call: &Call) -> outstation::Setup {
         binary_count: byte(call.classes.len()),
         analog_count: byte(call.setups.len()),
         outputs: byte(usize::from(setup.outputs)),
+        set_point_count: byte(set_points),
         binaries: call.classes.iter().take(BINARIES).copied().collect(),
         analogs: analogs.map(|analog| (analog.class_, form(analog))).collect(),
+        set_points: setup.analog_outputs.iter().take(set_points).map(set_point).collect(),
     }
 }
 
@@ -101,20 +115,7 @@ fn fragment(
             return;
         }
     };
-    result.operated.count = operated.len();
-    for (crob, control) in result.operated.items.iter_mut().zip(&operated) {
-        let [code, count, times @ .., status] = control.object;
-        let [on @ .., _, _, _, _] = times;
-        let [_, _, _, _, off @ ..] = times;
-        *crob = Crob {
-            on_time: u32::from_le_bytes(on),
-            off_time: u32::from_le_bytes(off),
-            index: control.index,
-            code,
-            count,
-            status,
-        };
-    }
+    result.operated = operated_image(&operated);
 }
 
 /// A whole fragment in segments.
@@ -489,14 +490,10 @@ fn same_result(library: &Answered, second: &Answered) -> Result<(), String> {
     equal("taken", library.taken, second.taken)?;
     equal("kind, length", (library.kind, library.length), (second.kind, second.length))?;
     equal("sum of the other numbers", library.more, second.more)?;
-    let (one, two) = (&library.operated, &second.operated);
-    equal("number of objects", one.count, two.count)?;
-    for (one, two) in one.items.iter().zip(&two.items).take(one.count) {
-        if let Some(found) = one.differs(two) {
-            return Err(format!("object{found}"));
-        }
+    match library.operated.differs_in_objects(&second.operated) {
+        None => Ok(()),
+        Some(found) => Err(format!("object{found}")),
     }
-    Ok(())
 }
 
 /// One call on both sides: answer, lent bytes, state.
@@ -512,9 +509,8 @@ fn both(library: &mut Library, second: &mut Second, call: &Call) -> Result<Answe
     match &second.outstation {
         Some(second) => state::compare(&library.image, second)?,
         None => {
-            let head = &library.image.head;
-            let left = (head.binary_count, head.analog_count, head.outputs);
-            equal("what a refused setup leaves", left, (0, 0, 0))?;
+            let left = installed(&library.image.head);
+            equal("what a refused setup leaves", left, (0, 0, 0, 0))?;
         }
     }
     Ok(result)
@@ -550,7 +546,9 @@ pub fn random(calls: u64, seed: u64, exact: bool) -> Result<(Generator, u64), St
 fn told(call: &Call) -> String {
     let mut text = match call.kind {
         Kind::Restart => {
-            format!("restart of {} and {} points", call.classes.len(), call.setups.len())
+            let (points, analogs) = (call.classes.len(), call.setups.len());
+            let outputs = call.setup.analog_output_count;
+            format!("restart of {points} and {analogs} points, {outputs} analog outputs")
         }
         Kind::Reading | Kind::Table => {
             let readings: Vec<String> = call

@@ -117,6 +117,7 @@ impl Sum {
         ] {
             self.fold(u64::from(number));
         }
+        self.fold(u64::from(head.analog_outputs));
     }
 
     /// The arrays of a plain image, as far as they count.
@@ -128,6 +129,9 @@ impl Sum {
         for words in image.analogs.chunks_exact(8).take(head.analog_count) {
             self.fold(u64::from(unseen_reported(words[0])));
             words[1..].iter().for_each(|&word| self.fold(u64::from(word)));
+        }
+        for &word in &image.analog_outputs[..3 * usize::from(head.analog_outputs)] {
+            self.fold(u64::from(word));
         }
         for &word in &image.events[..2 * head.event_count] {
             self.fold(word);
@@ -146,14 +150,22 @@ impl Sum {
             self.fold(result.length as u64);
             self.fold(result.more);
             self.bytes(out);
-            self.fold(result.operated.count as u64);
-            for crob in &result.operated.items[..result.operated.count] {
+            let Operated { crobs, analog_commands } = &result.operated;
+            self.fold(crobs.count as u64);
+            for crob in &crobs.items[..crobs.count] {
                 self.fold(u64::from(crob.on_time));
                 self.fold(u64::from(crob.off_time));
                 self.fold(u64::from(crob.index));
                 for number in [crob.code, crob.count, crob.status] {
                     self.fold(u64::from(number));
                 }
+            }
+            self.fold(analog_commands.count as u64);
+            for command in &analog_commands.items[..analog_commands.count] {
+                self.fold(u64::from(command.bits));
+                self.fold(u64::from(command.index));
+                self.fold(u64::from(command.kind));
+                self.fold(u64::from(command.status));
             }
         }
     }
@@ -217,12 +229,12 @@ pub struct Answered {
     /// The sum of the other numbers: of a frame read, a line record, an assembly, segments sent,
     /// bytes kept.
     pub more: u64,
-    pub operated: Crobs,
+    pub operated: Operated,
 }
 
 impl Answered {
     pub fn zero() -> Answered {
-        Answered { refusal: 0, taken: 0, kind: 0, length: 0, more: 0, operated: Crobs::zero() }
+        Answered { refusal: 0, taken: 0, kind: 0, length: 0, more: 0, operated: Operated::zero() }
     }
 }
 
@@ -250,15 +262,24 @@ enum Count {
     ReadPlain,
     ReadFault,
     Write,
-    SelectArmed,
+    SelectRelays,
+    SelectSets,
     SelectOther,
-    OperateDone,
+    OperateRelays,
+    OperateSets,
     OperateOther,
-    DirectDone,
+    OperateZero,
+    OperateVariation,
+    OperateGroup,
+    DirectRelays,
+    DirectSets,
     DirectOther,
     NoResponse,
     OtherFunction,
-    Objects,
+    Relays,
+    Sets32,
+    Sets16,
+    SetsFloat,
     Full,
     Dropped,
     Cleared,
@@ -283,7 +304,7 @@ enum Count {
     PieceLent,
 }
 
-pub const COUNTS: [&str; 51] = [
+pub const COUNTS: [&str; 60] = [
     "restart taken",
     "restart refused 5",
     "reading taken",
@@ -304,15 +325,24 @@ pub const COUNTS: [&str; 51] = [
     "READ without CON",
     "READ with a fault",
     "WRITE",
-    "SELECT that armed the latch",
+    "SELECT that armed the latch for relays",
+    "SELECT that armed the latch for analog outputs",
     "SELECT that did not",
-    "OPERATE carried out",
+    "OPERATE of relays carried out",
+    "OPERATE of analog outputs carried out",
     "OPERATE not carried out",
-    "DIRECT OPERATE carried out",
+    "OPERATE with a zero of the other sign not carried out",
+    "OPERATE with another variation not carried out",
+    "OPERATE of the other group not carried out",
+    "DIRECT OPERATE of relays carried out",
+    "DIRECT OPERATE of analog outputs carried out",
     "DIRECT OPERATE not carried out",
     "DIRECT OPERATE NO RESPONSE",
     "another function",
-    "objects handed to the host",
+    "relays' objects handed to the host",
+    "32-bit set points handed to the host",
+    "16-bit set points handed to the host",
+    "float set points handed to the host",
     "256 events held after the call",
     "IIN2.3 set by the call",
     "IIN2.3 cleared by the call",
@@ -351,6 +381,7 @@ pub struct Generator {
     binaries: u32,
     analogs: u32,
     outputs: u32,
+    analog_outputs: u32,
     arm_time: u64,
     confirm_time: u64,
     states: [bool; 64],
@@ -366,6 +397,8 @@ pub struct Generator {
     select_time: u64,
     objects: Vec<u8>,
     request: Vec<u8>,
+    /// In what an OPERATE differs from the SELECT, where it is counted.
+    other: Option<Count>,
     /// Calls left in which the buffer is to fill.
     filling: u32,
     overflow: u8,
@@ -407,6 +440,40 @@ const CODES: [u32; 5] = [0x01, 0x03, 0x04, 0x41, 0x81];
 const PULSES: [u32; 4] = [1, 100, 59_999, 60_000];
 const NO_PULSES: [u32; 4] = [0, 60_001, 65_536, 65_537];
 
+/// Ends of analog outputs, by their kind.
+const ENDS: [[(u32, u32); 8]; 3] = [
+    [
+        (0x8000_0000, 0x7FFF_FFFF),
+        (0, 0),
+        (0x8000_0000, 0x8000_0000),
+        (0x7FFF_FFFF, 0x7FFF_FFFF),
+        (0xFFFF_FED4, 0xFFFF_FF00),
+        (254, 257),
+        (0xFFFF_FF9C, 100),
+        (0xFFFF_0000, 65_536),
+    ],
+    [
+        (0xFFFF_8000, 32_767),
+        (0, 0),
+        (0xFFFF_8000, 0xFFFF_8000),
+        (32_767, 32_767),
+        (0xFFFF_FED4, 0xFFFF_FF00),
+        (254, 257),
+        (0xFFFF_FF9C, 100),
+        (0xFFFF_FFFF, 1),
+    ],
+    [
+        (0xFF7F_FFFF, 0x7F7F_FFFF),
+        (0, 0x8000_0000),
+        (0x8000_0000, 0),
+        (0x3F80_0000, 0x3F80_0000),
+        (0x8000_0001, 0x0000_0001),
+        (0xBF80_0000, 0x3F80_0000),
+        (0xC2C8_0000, 0x42C8_0000),
+        (0, 0x3F80_0000),
+    ],
+];
+
 impl Generator {
     pub fn new(seed: u64) -> Generator {
         Generator {
@@ -419,6 +486,7 @@ impl Generator {
             binaries: 0,
             analogs: 0,
             outputs: 0,
+            analog_outputs: 0,
             arm_time: 0,
             confirm_time: 0,
             states: [false; 64],
@@ -434,6 +502,7 @@ impl Generator {
             select_time: 0,
             objects: Vec::new(),
             request: Vec::new(),
+            other: None,
             filling: 0,
             overflow: 0,
             frame: Vec::new(),
@@ -515,16 +584,19 @@ impl Generator {
         let own = self.source.below(65_520);
         let master = (own + 1 + self.source.below(100)) % 65_520;
         let outputs = self.source.pick(&[0, 1, 8, 16, 16]);
+        let analog_output_count = self.source.pick(&[0, 1, 8, 16, 16]);
         call.setup = Setup {
             arm_time,
             confirm_time,
             own: own as u16,
             master: master as u16,
             outputs: outputs as u16,
+            analog_output_count: analog_output_count as u16,
+            analog_outputs: [AnalogOutput::zero(); ANALOG_OUTPUTS],
         };
         let mut binaries = self.points();
         let mut analogs = self.points();
-        let fault = if broken { 1 + self.source.below(13) } else { 0 };
+        let fault = if broken { 1 + self.source.below(17) } else { 0 };
         match fault {
             1 => binaries = 65 + self.source.below(MOST_POINTS - 64),
             2 => analogs = 65 + self.source.below(MOST_POINTS - 64),
@@ -535,6 +607,7 @@ impl Generator {
             7 => call.setup.arm_time = 64_001 + self.source.below(1000),
             8 => call.setup.confirm_time = 0,
             9 => call.setup.confirm_time = 60_001 + self.source.below(1000),
+            14 => call.setup.analog_output_count = 17 + self.source.below(65_519) as u16,
             _ => {}
         }
         for _ in 0..binaries {
@@ -545,11 +618,12 @@ impl Generator {
             let analog = self.analog_setup();
             call.setups.push(analog);
         }
+        self.analog_outputs(&mut call.setup);
         if fault == 10 && binaries > 0 {
             let place = self.source.below(binaries) as usize;
             call.classes[place] = 4 + self.source.below(252) as u8;
         }
-        if fault > 10 && analogs > 0 {
+        if fault > 10 && fault < 14 && analogs > 0 {
             let place = self.source.below(analogs) as usize;
             let analog = &mut call.setups[place];
             match fault {
@@ -557,6 +631,10 @@ impl Generator {
                 12 => analog.gain = self.source.pick(&NOT_FINITE),
                 _ => analog.limit = 0x8000_0001 + self.source.below(0x7FFF_FFFF),
             }
+        }
+        if fault > 14 && analog_output_count > 0 {
+            let place = self.source.below(analog_output_count) as usize;
+            call.setup.analog_outputs[place] = self.wrong_output(fault);
         }
     }
 
@@ -587,6 +665,43 @@ impl Generator {
         AnalogSetup { limit, gain, offset, class_, kind: kind as u8, gate: gate as u8 }
     }
 
+    fn analog_output(&mut self, kind: u32) -> AnalogOutput {
+        let (low, high) = ENDS[kind as usize][self.source.below(8) as usize];
+        // Any other number is a float's.
+        let other = kind == 2 && self.source.chance(20);
+        let kind = if other { 2 + self.source.below(254) } else { kind };
+        AnalogOutput { low, high, kind: kind as u8 }
+    }
+
+    /// Of all kinds, or all of one; those past the count are anything.
+    fn analog_outputs(&mut self, setup: &mut Setup) {
+        let one = self.source.below(6);
+        for place in 0..ANALOG_OUTPUTS {
+            setup.analog_outputs[place] = if place < usize::from(setup.analog_output_count) {
+                let kind = if one < 3 { one } else { self.source.below(3) };
+                self.analog_output(kind)
+            } else {
+                let (low, high) = (self.source.next(), self.source.next());
+                AnalogOutput { low, high, kind: self.source.below(256) as u8 }
+            };
+        }
+    }
+
+    /// The first end above the second, one that 16 bits do not hold, or one that is not finite.
+    fn wrong_output(&mut self, fault: u32) -> AnalogOutput {
+        let by = self.source.below(1000);
+        let not_finite = self.source.pick(&NOT_FINITE);
+        let kind = 2 + self.source.below(254) as u8;
+        let first = self.source.chance(50);
+        match fault {
+            15 => AnalogOutput { low: 1, high: 0, kind: self.source.below(3) as u8 },
+            16 if first => AnalogOutput { low: 0xFFFF_7FFF - by, high: 0, kind: 1 },
+            16 => AnalogOutput { low: 0, high: 32_768 + by, kind: 1 },
+            _ if first => AnalogOutput { low: not_finite, high: 0x7F7F_FFFF, kind },
+            _ => AnalogOutput { low: 0, high: not_finite, kind },
+        }
+    }
+
     fn restarted(&mut self, call: &Call, refusal: u8) {
         self.none = refusal != 0;
         if self.none {
@@ -599,6 +714,7 @@ impl Generator {
         self.binaries = call.classes.len() as u32;
         self.analogs = call.setups.len() as u32;
         self.outputs = u32::from(call.setup.outputs);
+        self.analog_outputs = u32::from(call.setup.analog_output_count);
         self.arm_time = u64::from(call.setup.arm_time);
         self.confirm_time = u64::from(call.setup.confirm_time);
         for (place, analog) in call.setups.iter().enumerate() {
@@ -804,7 +920,7 @@ impl Generator {
         }
     }
 
-    fn control(&mut self, bytes: &mut Vec<u8>) {
+    fn relays(&mut self, bytes: &mut Vec<u8>) {
         let count = if self.source.chance(50) { 1 } else { 1 + self.source.below(8) };
         let wide = self.source.chance(40);
         bytes.extend_from_slice(&[12, 1, if wide { 0x28 } else { 0x17 }, count as u8]);
@@ -853,14 +969,174 @@ impl Generator {
         }
     }
 
+    fn output_kind(&self, place: u32) -> u32 {
+        u32::from(self.setup.analog_outputs[place as usize].kind.min(2))
+    }
+
+    /// A float: mostly an end of its output or a zero within them.
+    fn set_float(&mut self, low: u32, high: u32) -> u32 {
+        let inside = self.source.chance(90);
+        let which = self.source.below(8);
+        if inside {
+            let zero = f32::from_bits(low) <= 0.0 && 0.0 <= f32::from_bits(high);
+            return match which {
+                0 | 1 => low,
+                2 | 3 => high,
+                _ if zero => self.source.pick(&[0, 0x8000_0000]),
+                _ => low,
+            };
+        }
+        match which {
+            0 => low.wrapping_sub(1),
+            1 => low.wrapping_add(1),
+            2 => high.wrapping_sub(1),
+            3 => high.wrapping_add(1),
+            4 => low ^ 0x8000_0000,
+            5 => self.source.pick(&NOT_FINITE),
+            6 => self.source.pick(&FLOATS),
+            _ => self.source.next(),
+        }
+    }
+
+    /// A whole value: mostly within the ends of its output, often an end; else next to one, or one
+    /// that is cut to 16 bits.
+    fn set_whole(&mut self, low: u32, high: u32) -> u32 {
+        let inside = self.source.chance(90);
+        let which = self.source.below(8);
+        if inside {
+            return match which {
+                0 | 1 => low,
+                2 | 3 => high,
+                _ => low.wrapping_add(self.source.below(high.wrapping_sub(low).wrapping_add(1))),
+            };
+        }
+        match which {
+            0 | 1 => low.wrapping_sub(1),
+            2 | 3 => high.wrapping_add(1),
+            4 => low ^ 0x8000,
+            5 => 0_u32.wrapping_sub(high),
+            6 => high.wrapping_add(65_536),
+            _ => self.source.next(),
+        }
+    }
+
+    /// The next output of this kind; where there is no other, the same.
+    fn next_alike(&self, place: u32, kind: u32) -> u32 {
+        (1..self.analog_outputs)
+            .map(|by| (place + by) % self.analog_outputs)
+            .find(|&next| self.output_kind(next) == kind)
+            .unwrap_or(place)
+    }
+
+    /// Mostly for different outputs of the header's kind.
+    fn set_points(&mut self, bytes: &mut Vec<u8>) {
+        let count = if self.source.chance(50) { 1 } else { 1 + self.source.below(8) };
+        let wide = self.source.chance(40);
+        let most = if self.analog_outputs > 0 { self.analog_outputs } else { 1 };
+        let mut place = self.source.below(most);
+        let mut kind = self.source.below(3);
+        if self.analog_outputs > 0 && self.source.chance(97) {
+            kind = self.output_kind(place);
+        }
+        let qualifier = if wide { 0x28 } else { 0x17 };
+        bytes.extend_from_slice(&[41, kind as u8 + 1, qualifier, count as u8]);
+        if wide {
+            bytes.push(0);
+        }
+        for _ in 0..count {
+            let mut index = place;
+            if self.source.chance(3) {
+                index = self.source.pick(&[0, 15, 16, 17, 255]);
+            }
+            bytes.push(index as u8);
+            if wide {
+                let high = if self.source.chance(2) { 1 } else { 0 };
+                bytes.push(high);
+            }
+            let mut bits = self.source.next();
+            if index < self.analog_outputs {
+                let AnalogOutput { low, high, .. } = self.setup.analog_outputs[index as usize];
+                bits = match kind {
+                    2 => self.set_float(low, high),
+                    _ => self.set_whole(low, high),
+                };
+            }
+            bytes.extend_from_slice(&bits.to_le_bytes()[..if kind == 1 { 2 } else { 4 }]);
+            let status = if self.source.chance(2) { self.source.below(256) } else { 0 };
+            bytes.push(status as u8);
+            place = self.next_alike(place, kind);
+        }
+    }
+
+    fn control(&mut self, bytes: &mut Vec<u8>) {
+        if self.source.chance(if self.analog_outputs > 0 { 50 } else { 8 }) {
+            self.set_points(bytes);
+        } else {
+            self.relays(bytes);
+        }
+    }
+
     /// The selected objects as with qualifier 28: they are not those selected.
     fn widened(&mut self, bytes: &mut Vec<u8>) {
+        let each = match self.objects[..2] {
+            [12, _] => 12,
+            [_, 2] => 4,
+            _ => 6,
+        };
         for (place, &byte) in self.objects.iter().enumerate() {
             bytes.push(if place == 2 { 0x28 } else { byte });
             // After the count and after each index.
-            if place >= 3 && (place == 3 || (place - 4) % 12 == 0) {
+            if place >= 3 && (place == 3 || (place - 4) % each == 0) {
                 bytes.push(0);
             }
+        }
+    }
+
+    /// The selected objects, each float zero with the other sign.
+    fn other_zeros(&mut self, bytes: &mut Vec<u8>) {
+        let from = bytes.len();
+        bytes.extend_from_slice(&self.objects);
+        if self.objects[..2] != [41, 3] {
+            return;
+        }
+        let width = if self.objects[2] == 0x17 { 1 } else { 2 };
+        for object in bytes[from + 3 + width..].chunks_exact_mut(width + 5) {
+            let value = &mut object[width..width + 4];
+            if value[0] | value[1] | value[2] | (value[3] & 0x7F) == 0 {
+                value[3] ^= 0x80;
+                self.other = Some(Count::OperateZero);
+            }
+        }
+    }
+
+    /// The selected objects under the other variation of that size, where there is one.
+    fn other_variation(&mut self, bytes: &mut Vec<u8>) {
+        let from = bytes.len();
+        bytes.extend_from_slice(&self.objects);
+        if matches!(self.objects[..2], [41, 1 | 3]) {
+            bytes[from + 1] ^= 2;
+            self.other = Some(Count::OperateVariation);
+        }
+    }
+
+    fn other_group(&mut self, bytes: &mut Vec<u8>) {
+        self.other = Some(Count::OperateGroup);
+        if self.objects[0] == 12 {
+            self.set_points(bytes);
+        } else {
+            self.relays(bytes);
+        }
+    }
+
+    /// The OPERATE of what was selected, or one that differs from it.
+    fn selected(&mut self, bytes: &mut Vec<u8>) {
+        let how = if self.objects.len() > 3 { self.source.below(100) } else { 100 };
+        match how {
+            0..=3 if self.objects[2] == 0x17 => self.widened(bytes),
+            4..=7 => self.other_group(bytes),
+            8..=19 => self.other_zeros(bytes),
+            20..=23 => self.other_variation(bytes),
+            _ => bytes.extend_from_slice(&self.objects),
         }
     }
 
@@ -879,6 +1155,7 @@ impl Generator {
     fn fragment(&mut self, call: &mut Call) {
         call.kind = Kind::Fragment;
         call.time = self.time();
+        self.other = None;
         let mut which = self.source.below(100);
         // What is awaited comes soon, as a master would send it.
         if self.waiting && self.source.chance(30) {
@@ -925,12 +1202,7 @@ impl Generator {
                     let sequence = (self.select_sequence + 1) % 16;
                     self.sequence = sequence;
                     call.fragment.extend_from_slice(&[0xC0 | sequence, 4]);
-                    let narrow = self.objects.get(2) == Some(&0x17);
-                    if narrow && self.source.chance(4) {
-                        self.widened(&mut call.fragment);
-                    } else {
-                        call.fragment.extend_from_slice(&self.objects);
-                    }
+                    self.selected(&mut call.fragment);
                     self.at_end(call, self.select_time, self.arm_time);
                 } else {
                     self.begin(call, 4);
@@ -1005,7 +1277,12 @@ impl Generator {
             self.waiting = false;
             return self.count(Count::ConfirmAccepted);
         }
-        self.counts[Count::Objects as usize] += result.operated.count as u64;
+        let Operated { crobs, analog_commands: sets } = &result.operated;
+        self.counts[Count::Relays as usize] += crobs.count as u64;
+        for command in &sets.items[..sets.count] {
+            let kinds = [Count::Sets32, Count::Sets16, Count::SetsFloat];
+            self.count(kinds[usize::from(command.kind.min(2))]);
+        }
         let (sequence, function) = (call.fragment[0] % 16, call.fragment[1]);
         if function != 1 && call.fragment == self.request {
             return self.count(Count::Repeat);
@@ -1015,7 +1292,7 @@ impl Generator {
         self.sequence = sequence;
         self.waiting = false;
         self.selected = false;
-        let done = result.operated.count > 0;
+        let (done, relays) = (result.operated.count() > 0, crobs.count > 0);
         if result.length > 2000 {
             self.count(Count::Long);
         }
@@ -1037,10 +1314,22 @@ impl Generator {
                 self.select_time = call.time;
                 self.objects.clear();
                 self.objects.extend_from_slice(&call.fragment[2..]);
-                self.count(if armed != 0 { Count::SelectArmed } else { Count::SelectOther });
+                self.count(match armed {
+                    0 => Count::SelectOther,
+                    1 => Count::SelectRelays,
+                    _ => Count::SelectSets,
+                });
             }
-            4 => self.count(if done { Count::OperateDone } else { Count::OperateOther }),
-            5 => self.count(if done { Count::DirectDone } else { Count::DirectOther }),
+            4 if relays => self.count(Count::OperateRelays),
+            4 if done => self.count(Count::OperateSets),
+            4 => {
+                self.count(Count::OperateOther);
+                if let Some(other) = self.other {
+                    self.count(other);
+                }
+            }
+            5 if relays => self.count(Count::DirectRelays),
+            5 => self.count(if done { Count::DirectSets } else { Count::DirectOther }),
             6 => self.count(Count::NoResponse),
             _ => self.count(Count::OtherFunction),
         }
