@@ -421,11 +421,8 @@ fn status(n: OutputCounts, ws: &[u32; ANALOG_OUTPUT_WORDS], again: bool, c: Cont
         return 3;
     }
     let command = c.command;
-    if can_do(n, ws, c.index, command) {
-        if again { 8 } else { 0 }
-    } else {
-        4
-    }
+    let wrong = !can_do(n, ws, c.index, command);
+    if wrong { 4 } else { if again { 8 } else { 0 } }
 }
 
 // The status of each object, for SELECT and direct operation.

@@ -179,9 +179,9 @@ fn reading(clock: u64, random: &mut Random) -> Reading {
 /// A fragment that an image may take up: a READ, a CONFIRM, an OPERATE of its latch, a repeat.
 fn fragment(image: &Outstation, random: &mut Random) -> Vec<u8> {
     let head = &image.head;
-    match random.below(10) {
+    match random.below(8) {
         0 => vec![0xC0 | (head.wait_sequence % 16), 0],
-        1 | 5 => {
+        1 => {
             let mut bytes = vec![0xC0 | (head.latch_sequence.wrapping_add(1) % 16), 4];
             bytes.extend_from_slice(&image.latch_objects[..head.latch_len.min(OBJECTS)]);
             bytes
@@ -196,10 +196,6 @@ fn fragment(image: &Outstation, random: &mut Random) -> Vec<u8> {
             let mut bytes = vec![0xC1, function, 12, 1, 0x17, 1, random.byte() % 20, 3, 1];
             bytes.extend_from_slice(&[0; 9]);
             bytes
-        }
-        6 => {
-            let function = random.pick(&[3, 5, 6]);
-            [vec![0xC1, function], set_point_objects(image, random)].concat()
         }
         _ => {
             let mut bytes = vec![0xC2, 1];
@@ -353,10 +349,27 @@ pub fn outstation(
     };
     let len = random.pick(&[0, 2047, 2048, 2048, 2048, 2049, 5000]);
     let mut lent = Lent::new(len, random);
-    let (mut left, mut expected) = (given, plain_image);
-    let (answer, operated) = memory.fragment(&mut left, time, &bytes, lent.library())?;
+    one_fragment(&given, memory, time, &bytes, &mut lent, seen)?;
+    // Set points at every image, as their definition says.
+    let function = random.pick(&[3, 5, 6]);
+    let bytes = [vec![0xC1, function], set_point_objects(&given, random)].concat();
+    let mut lent = Lent::new(FRAGMENT, random);
+    one_fragment(&given, memory, given.head.clock, &bytes, &mut lent, seen)
+}
+
+/// A fragment on an image as it is, and on the plain one.
+fn one_fragment(
+    given: &Outstation,
+    memory: &mut Memory,
+    time: u64,
+    bytes: &[u8],
+    lent: &mut Lent,
+    seen: &mut Seen,
+) -> Result<(), String> {
+    let (mut left, mut expected) = (*given, plain(given));
+    let (answer, operated) = memory.fragment(&mut left, time, bytes, lent.library())?;
     let (plain_answer, plain_operated) =
-        memory.fragment(&mut expected, time, &bytes, lent.second())?;
+        memory.fragment(&mut expected, time, bytes, lent.second())?;
     same("fragment: answer", &answer, &plain_answer)?;
     if let Some(found) = operated.differs_in_objects(&plain_operated) {
         return Err(format!("fragment: objects{found} (given as it is, and plain)"));
@@ -366,7 +379,7 @@ pub fn outstation(
     same("fragment", &plain(&left), &plain(&expected))?;
     if answer.kind < 2 {
         let out = &lent.library()[..answer.length];
-        set_points(&given, &left, &bytes, out, &operated, seen)?;
+        set_points(given, &left, bytes, out, &operated, seen)?;
     }
     seen.note("garbage: fragment answered", answer.kind == 0);
     let read = answer.kind == 0 && bytes[1] == 1;

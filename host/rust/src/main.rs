@@ -622,7 +622,7 @@ fn own_cases(short: bool) -> Vec<Case> {
     cases.extend(lent.map(Case::Lengths));
     cases.extend([Case::Repeats, Case::Past]);
     cases.extend((1..=if short { 1 } else { GARBAGE }).map(Case::Garbage));
-    cases.push(Case::Random { calls: if short { 30_000 } else { RANDOM }, seed: 11 });
+    cases.push(Case::Random { calls: if short { 30_000 } else { RANDOM }, seed: 12 });
     cases
 }
 

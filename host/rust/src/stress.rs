@@ -1100,7 +1100,8 @@ impl Generator {
             return;
         }
         let width = if self.objects[2] == 0x17 { 1 } else { 2 };
-        for object in bytes[from + 3 + width..].chunks_exact_mut(width + 5) {
+        let first = (from + 3 + width).min(bytes.len());
+        for object in bytes[first..].chunks_exact_mut(width + 5) {
             let value = &mut object[width..width + 4];
             if value[0] | value[1] | value[2] | (value[3] & 0x7F) == 0 {
                 value[3] ^= 0x80;

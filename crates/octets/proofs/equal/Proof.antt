@@ -31,7 +31,7 @@ returns-2 : tie.Need-returns-2 Inv-loop μ-loop
 returns-2 c =
     let l = c .before .before .before .before in
     let a = l .before .before .args in
-    sym (same-stop (a .a .now) (a .b .now) (l .loop .i) (omega arith) (omega arith) (c .if2 .taken)) ∙ l .loop .inv .0
+    sym (same-stop (a .a .now) (a .b .now) (l .loop .i) (omega arith) (omega arith) (λ e. c .if2 .taken cc)) ∙ l .loop .inv .0
 
 add-i : tie.Need-add-i Inv-loop μ-loop
 add-i c = omega arith
