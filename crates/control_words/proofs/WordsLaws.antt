@@ -26,21 +26,25 @@ module _ (p : ControlObject → Bool) (cs : List ControlObject) (n i : ℕ) wher
   unfolding filter
   filter-end h k = rw (part-none cs n i h k)
 
-module _ {W : Type 0} (f : W → ControlObject) where
+module _ {W X : Type 0} (f : W → X) where
   map-set : (ws : List W) (j : ℕ) (w : W) → map f (set ws j w) ≡ set (map f ws) j (f w)
   map-set [] j w = refl
   map-set (x ∷ ws) zero w = refl
-  map-set (x ∷ ws) (suc j) w = ap (λ (l : List ControlObject). f x ∷ l) (map-set ws j w)
+  map-set (x ∷ ws) (suc j) w = ap (λ (l : List X). f x ∷ l) (map-set ws j w)
 
   -- a turn stores what stands for the front one
-  pub taken-more : (ws : List W) (j : ℕ) (w : W) (x : ControlObject) (rest whole : List ControlObject) → j < length ws → f w ≡ x → whole ≡ x ∷ rest
+  pub taken-more : (ws : List W) (j : ℕ) (w : W) (x : X) (rest whole : List X) → j < length ws → f w ≡ x → whole ≡ x ∷ rest
       → take (j + 1) (map f (set ws j w)) ++ rest ≡ take j (map f ws) ++ whole
   taken-more ws j w x rest whole h e g =
-      ap (λ (l : List ControlObject). take (j + 1) l ++ rest) (map-set ws j w ∙ ap (set (map f ws) j) e)
+      ap (λ (l : List X). take (j + 1) l ++ rest) (map-set ws j w ∙ ap (set (map f ws) j) e)
       ∙ stored (map f ws) j x rest whole (rw (length-map ws f) h) g
 
   pub taken-length : (ws : List W) (j : ℕ) → j ≤ length ws → j ≡ length (map f (take j ws))
   taken-length ws j h = sym (length-map (take j ws) f ∙ length-take-le j ws h)
+
+  -- so many as the objects that they stand for
+  pub taken-count : (ws : List W) (j : ℕ) (g : ControlObject → X) (xs : List ControlObject) → j ≤ length ws → map f (take j ws) ≡ map g xs → j ≡ length xs
+  taken-count ws j g xs h e = taken-length ws j h ∙ ap length e ∙ length-map xs g
 
   pub taken-map : (ws : List W) (j : ℕ) → map f (take j ws) ≡ take j (map f ws)
   taken-map ws j = sym (map-take f j ws)

@@ -2,11 +2,12 @@
 // for the other.
 ghost use mathlib.Core.Path.{_≡_};
 ghost use mathlib.Core.List.{[], map};
+ghost use mathlib.Core.Option.{some};
 ghost use Prim.Native.Nat.{_≤_};
 ghost use lib.ListN.{length, take};
 ghost use Rattle.laws.specs.Lists.{filter};
 ghost use Rattle.control.specs.Objects.{isCrob, isAnalogOutput, listOf};
-ghost use Rattle.control_words.specs.Operated.{crobObject, analogObject, CrobsAs, AnalogCommandsAs, OperatedAs};
+ghost use Rattle.control_words.specs.Operated.{crobObject, asked, analogObject, CrobsAs, AnalogCommandsAs, OperatedAs};
 use control::Command;
 use control::ControlObject;
 use control::ControlObjects;
@@ -69,14 +70,27 @@ fn crob_words(index: u16, status: u8, x: Crob) -> CrobWords
 }
 
 fn analog_words(index: u16, status: u8, v: Value) -> AnalogCommandWords
-    ensures { λ r. ⌜ analogObject r ≡ record { index = index; status = status; command = Command.AnalogOutput v } ⌝ }
+    ensures { λ r. ⌜ analogObject r ≡ some (asked index status v) ⌝ }
 {
-    let c = point_store::value_coded(v);
-    AnalogCommandWords {
-        bits: c.bits,
-        index: index,
-        kind: c.kind as u8,
-        status: status,
+    match v {
+        Value::Int32(z) => AnalogCommandWords {
+            bits: words::signed_bits(z),
+            index: index,
+            kind: 0,
+            status: status,
+        },
+        Value::Int16(z) => AnalogCommandWords {
+            bits: words::signed_bits(z as i32),
+            index: index,
+            kind: 1,
+            status: status,
+        },
+        Value::Float32(x) => AnalogCommandWords {
+            bits: words::float_bits(x),
+            index: index,
+            kind: 2,
+            status: status,
+        },
     }
 }
 

@@ -2,6 +2,7 @@
 -- Assumes nothing.
 use mathlib.Core.Path.{_≡_, refl, sym, ap, _∙_}
 use mathlib.Core.Bool.{not}
+use mathlib.Core.Option.{some}
 use mathlib.Core.List.{List, _++_, map}
 use Prim.Native.Nat.{ℕ, _≤_, _+_, _-_}
 use native.Mathlib.Omega.{arith}
@@ -14,13 +15,13 @@ use Rattle.control.specs.declared.Command.{Command}
 use Rattle.control.specs.declared.ControlObject.{ControlObject}
 use Rattle.control.specs.Objects.{forCrob, isAnalogOutput, noObject, listOf}
 use Rattle.control_words.specs.Operated.{analogObject}
-use Rattle.control_words.proofs.WordsLaws.{filter-yes, filter-no, filter-end, taken-more, taken-length, taken-map}
+use Rattle.control_words.proofs.WordsLaws.{filter-yes, filter-no, filter-end, taken-more, taken-count, taken-map}
 use Rattle.control_words.proofs.analog_commands_of.Statement.{statement}
 use Rattle.control_words.proofs.analog_commands_of.Tie as tie
 
 abbrev Inv-loop : tie.InvT-loop
 Inv-loop cs n next₀ i₀ j₀ next i j =
-    (take j (map analogObject (next .items)) ++ filter isAnalogOutput (drop i (take n (cs .items))) ≡ filter isAnalogOutput (take n (cs .items))) × (length (next .items) ≡ 8)
+    (take j (map analogObject (next .items)) ++ map some (filter isAnalogOutput (drop i (take n (cs .items)))) ≡ map some (filter isAnalogOutput (take n (cs .items)))) × (length (next .items) ≡ 8)
     × (j ≤ i) × (i ≤ n)
 
 abbrev μ-loop : tie.MeasureT-loop
@@ -75,9 +76,9 @@ loop-again c =
     let h : length (a .t1 .items) ≡ 8 = search (length-mapped, needs) in
     let told = c .before .before .command .given .1 in
     let x : ControlObject = getD (a .t1 .items) (l .loop .i) noObject in (
-      taken-more analogObject (l .loop .next .items) (l .loop .j) (c .analog-words .result) x _ _ (omega (arith, few))
-          (c .analog-words .ensures ∙ (λ k. record { index = x .index; status = x .status; command = sym told k }))
-          (filter-yes isAnalogOutput (a .t1 .items) n (l .loop .i) (omega arith) (omega (arith, h, few)) (ap (λ (k : Command). not (forCrob k)) told))
+      taken-more analogObject (l .loop .next .items) (l .loop .j) (c .analog-words .result) (some x) _ _ (omega (arith, few))
+          (c .analog-words .ensures ∙ (λ k. some (record { index = x .index; status = x .status; command = sym told k })))
+          (ap (map some) (filter-yes isAnalogOutput (a .t1 .items) n (l .loop .i) (omega arith) (omega (arith, h, few)) (ap (λ (k : Command). not (forCrob k)) told)))
           ∙ l .loop .inv .0,
       simp length-set (omega arith),
       omega arith,
@@ -97,7 +98,7 @@ loop-again-2 c =
     let few = l .before .before .least .ensures in
     let a = l .before .before .before .args in
     let h : length (a .t1 .items) ≡ 8 = search (length-mapped, needs) in (
-      ap (λ (x : List ControlObject). take (l .loop .j) (map analogObject (l .loop .next .items)) ++ x)
+      ap (λ (x : List ControlObject). take (l .loop .j) (map analogObject (l .loop .next .items)) ++ map some x)
           (filter-no isAnalogOutput (a .t1 .items) n (l .loop .i) (omega arith) (omega (arith, h, few)) (ap (λ (k : Command). not (forCrob k)) (c .enum-told .given .1)))
           ∙ l .loop .inv .0,
       l .loop .inv .1,
@@ -116,9 +117,9 @@ returns c =
     let whole =
     taken-map analogObject (l .loop .next .items) (l .loop .j)
     ∙ finished (take (l .loop .j) (map analogObject (l .loop .next .items))) _ _
-    (filter-end isAnalogOutput (a .t1 .items) n (l .loop .i) (omega arith) (omega arith)) (l .loop .inv .0)
-    ∙ ap (filter isAnalogOutput) (clamped (a .t1 .items) 8 (a .t1 .count) n h few) in
-    record { objects = whole; count = taken-length analogObject (l .loop .next .items) (l .loop .j) (omega (arith, few)) ∙ ap length whole }
+    (ap (map some) (filter-end isAnalogOutput (a .t1 .items) n (l .loop .i) (omega arith) (omega arith))) (l .loop .inv .0)
+    ∙ ap (λ (x : List ControlObject). map some (filter isAnalogOutput x)) (clamped (a .t1 .items) 8 (a .t1 .count) n h few) in
+    record { objects = whole; count = taken-count analogObject (l .loop .next .items) (l .loop .j) some (filter isAnalogOutput (listOf (a .t1))) (omega (arith, few)) whole }
 
 pub analog-commands-of-spec : {M : Type 1} → statement M
 analog-commands-of-spec =
