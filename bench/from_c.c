@@ -95,44 +95,6 @@ static uint64_t outstation_reading(uint64_t count, size_t n) {
     return digest(sum);
 }
 
-static uint64_t binary_quiet(uint64_t count, size_t n) {
-    uint64_t sum = 1;
-    uint16_t point = 0;
-    fresh(n);
-    for (uint64_t left = count; left > 0; left--) {
-        const uint8_t refusal = pomarisco_reading(&o, pomarisco_binary_reading(count - left, point, 1, 1));
-        sum = fold(sum, refusal + 1u + o.head.clock);
-        point = (size_t)point + 1 < n ? (uint16_t)(point + 1) : 0;
-    }
-    return digest(fold(sum, o.head.event_count));
-}
-
-/* n counters, and no other points. */
-static void fresh_counters(size_t n, uint8_t class_, uint32_t limit) {
-    struct pomarisco_setup setup = {.arm_time = 2000, .confirm_time = 5000, .own = 10, .master = 1, .outputs = 8, .counter_count = (uint16_t)n};
-    fresh(0);
-    for (size_t i = 0; i < n; i++) setup.counters[i] = pomarisco_counter_of(class_, limit);
-    if (pomarisco_restart(&o, setup, NULL, 0, NULL, 0) != 0) exit(1);
-}
-
-/* A count more at each reading. With limit 0 each but the first of a counter raises an event. */
-static uint64_t counter_readings(uint64_t count, size_t n, uint32_t limit) {
-    uint64_t sum = 1;
-    uint16_t point = 0;
-    fresh_counters(n, 1, limit);
-    for (uint64_t left = count; left > 0; left--) {
-        if (left % 256 == 0) o.head.event_count = 0;
-        const uint8_t refusal = pomarisco_reading(&o, pomarisco_counter_reading(count - left, point, 1, 1));
-        sum = fold(sum, refusal + 1u + o.head.clock);
-        point = (size_t)point + 1 < n ? (uint16_t)(point + 1) : 0;
-    }
-    for (size_t i = 0; i < n; i++) sum = fold(sum, pomarisco_counter_at(&o, i).count);
-    return digest(fold(sum, o.head.event_count));
-}
-
-static uint64_t counter_event(uint64_t count, size_t n) { return counter_readings(count, n, 0); }
-static uint64_t counter_quiet(uint64_t count, size_t n) { return counter_readings(count, n, UINT32_MAX); }
-
 static uint64_t held_reading(uint64_t count, size_t n) {
     uint64_t sum = 1;
     holding(n);
@@ -149,11 +111,9 @@ static uint64_t held_reading(uint64_t count, size_t n) {
     return digest(sum);
 }
 
-/* 64 points of each kind, all read once, the analogs' kinds taking turns; n of them installed. And 32 counters, none installed. Gives a binary's words,
- * off and on. */
+/* 64 points of each kind, all read once, the analogs' kinds taking turns; n of them installed. Gives a binary's words, off and on. */
 static void read_points(size_t n, uint32_t words[2]) {
-    struct pomarisco_setup setup = {.arm_time = 2000, .confirm_time = 5000, .own = 10, .master = 1, .outputs = 8, .counter_count = POMARISCO_COUNTERS};
-    for (int i = 0; i < POMARISCO_COUNTERS; i++) setup.counters[i] = pomarisco_counter_of(3, 0);
+    static const struct pomarisco_setup setup = {.arm_time = 2000, .confirm_time = 5000, .own = 10, .master = 1, .outputs = 8};
     struct pomarisco_analog_setup analogs[64];
     uint8_t classes[64];
     fresh(0);
@@ -170,7 +130,6 @@ static void read_points(size_t n, uint32_t words[2]) {
     words[1] = o.binaries[0] | (uint32_t)1 << 25;
     for (int i = 0; i < 64; i++) o.binaries[i] = words[1];
     o.head.binary_count = o.head.analog_count = n;
-    o.head.counter_count = 0;
 }
 
 static struct pomarisco_fragment_answer fragment(uint64_t time, const uint8_t *f, size_t n) { return pomarisco_fragment(&o, time, f, n, out, sizeof out, &operated); }
@@ -200,52 +159,6 @@ static uint64_t class_0_fragment(uint64_t count, size_t n) {
         ask[0] = (uint8_t)(192 + left % 16);
         sum = fold_answer(sum, fragment(count - left, ask, sizeof ask));
     }
-    return digest(fold_all(sum, out, sizeof out));
-}
-
-/* As many counters as there can be, up to n, all read, frozen, and read again. */
-static void read_counters(size_t n) {
-    static const uint8_t freeze_all[] = {192, 7, 20, 0, 6};
-    const uint16_t counters = (uint16_t)(n < POMARISCO_COUNTERS ? n : POMARISCO_COUNTERS);
-    o.head.counter_count = counters;
-    for (uint16_t i = 0; i < counters; i++) pomarisco_reading(&o, pomarisco_counter_reading(0, i, 100000u + i, 1));
-    fragment(0, freeze_all, sizeof freeze_all);
-    for (uint16_t i = 0; i < counters; i++) pomarisco_reading(&o, pomarisco_counter_reading(0, i, 7u + i, 1));
-    o.head.event_count = 0;
-}
-
-/* The word of a counter that has its count. */
-static uint32_t *count_of(size_t i) { return &o.counters[6 * i + 1]; }
-
-static uint64_t class_0_all(uint64_t count, size_t n) {
-    uint8_t ask[] = {192, 1, 60, 1, 6};
-    uint32_t words[2];
-    uint64_t sum = 1;
-    read_points(n, words);
-    read_counters(n);
-    for (uint64_t left = count; left > 0; left--) {
-        o.binaries[left % 64] = words[left % 3 == 0];
-        *count_of(left % 32) = (uint32_t)left;
-        ask[0] = (uint8_t)(192 + left % 16);
-        sum = fold_answer(sum, fragment(count - left, ask, sizeof ask));
-    }
-    return digest(fold_all(sum, out, sizeof out));
-}
-
-/* The first n of 32 counters, by one header. Each freeze has another sequence than the one before it, so it is no repeat; every second one clears. */
-static uint64_t freeze(uint64_t count, size_t n) {
-    uint8_t ask[] = {192, 7, 20, 0, 0, 0, (uint8_t)(n - 1)};
-    uint64_t sum = 1;
-    fresh_counters(POMARISCO_COUNTERS, 3, 0);
-    read_counters(POMARISCO_COUNTERS);
-    for (uint64_t left = count; left > 0; left--) {
-        *count_of(left % 32) = (uint32_t)left;
-        ask[0] = (uint8_t)(192 + left % 16);
-        ask[1] = (uint8_t)(7 + left % 2 * 2);
-        sum = fold_answer(sum, fragment(count - left, ask, sizeof ask));
-        sum = fold(sum, pomarisco_counter_at(&o, left % 32).frozen);
-    }
-    for (size_t i = 0; i < POMARISCO_COUNTERS; i++) sum = fold(fold(sum, pomarisco_counter_at(&o, i).count), pomarisco_counter_at(&o, i).frozen);
     return digest(fold_all(sum, out, sizeof out));
 }
 
@@ -414,8 +327,7 @@ static uint64_t table_sized(uint64_t count, size_t n) { return (void)n, table_12
 /* The works, and the most points or held events of each, or bytes of a piece. */
 static const struct { const char *name; size_t most; uint64_t (*run)(uint64_t, size_t); } works[] = {
     {"nothing", 0, nothing_sized}, {"outstation-reading", 64, outstation_reading}, {"held-reading", 255, held_reading}, {"class-0", 64, class_0},
-    {"class-0-fragment", 64, class_0_fragment}, {"class-0-all", 64, class_0_all}, {"binary-quiet", 64, binary_quiet},
-    {"counter-event", 32, counter_event}, {"counter-quiet", 32, counter_quiet}, {"freeze", 32, freeze},
+    {"class-0-fragment", 64, class_0_fragment},
     {"event-read", 256, event_read}, {"confirm", 226, confirm}, {"select", 256, selects}, {"repeat", 256, repeat}, {"table-128", 0, table_sized},
     {"receive-clean", LINE, receive_clean}, {"receive-small", LINE, receive_small}, {"receive-noise", LINE, receive_noise},
     {"receive-starts", LINE, receive_starts}, {"receive-bytes", 0, receive_bytes}};

@@ -1,7 +1,6 @@
 /* What pomarisco.h says at its edges, from C: nothing lent as NULL, memory at any address up to the end of a page, a stack of POMARISCO_STACK
- * bytes, any content of the outstation, its counters and analog outputs, the receiver and the assembly, counters at their limits, freezes, set points at
- * the ends, a segment heard twice, a line cut into any pieces, two threads, and that the functions on an outstation do what the exported calls do. Ends
- * with `N passed, M failed`. */
+ * bytes, any content of the outstation, its analog outputs, the receiver and the assembly, set points at the ends, a segment heard twice, a line cut into
+ * any pieces, two threads, and that the functions on an outstation do what the exported calls do. Ends with `N passed, M failed`. */
 #define _GNU_SOURCE
 #include <pthread.h>
 #include <stdio.h>
@@ -12,7 +11,7 @@
 
 #include "pomarisco.h"
 
-enum { PAGE = 4096, TABLE = POMARISCO_BINARIES + POMARISCO_ANALOGS + POMARISCO_COUNTERS };
+enum { PAGE = 4096, TABLE = 128 };
 
 static int passed, failed;
 
@@ -24,7 +23,7 @@ static void expect(int good, const char *what) {
     }
 }
 
-static struct pomarisco_setup setup = {.arm_time = 5000, .confirm_time = 5000, .own = 1, .master = 2, .outputs = 16, .analog_output_count = POMARISCO_ANALOG_OUTPUTS, .counter_count = POMARISCO_COUNTERS};
+static struct pomarisco_setup setup = {.arm_time = 5000, .confirm_time = 5000, .own = 1, .master = 2, .outputs = 16, .analog_output_count = POMARISCO_ANALOG_OUTPUTS};
 static const struct pomarisco_station station = {.own = 1, .master = 2};
 static uint8_t classes[POMARISCO_BINARIES];
 static struct pomarisco_analog_setup analogs[POMARISCO_ANALOGS];
@@ -34,7 +33,6 @@ static const uint8_t events[] = {0xC3, 0x01, 60, 2, 6, 60, 3, 6, 60, 4, 6, 60, 1
 static uint8_t longest_frame[POMARISCO_FRAME];
 static const uint8_t operate[] = {0xC4, 5, 12, 1, 0x17, 1, 5, 3, 1, 0, 0, 0, 0, 0, 0, 0, 0, 0};
 static const uint8_t set[] = {0xC5, 5, 41, 2, 0x17, 2, 4, 0x18, 0xFC, 0, 7, 0xE8, 3, 0}; /* analog outputs 4 and 7: -1,000 and 1,000, their ends */
-static const uint8_t freeze[] = {0xC6, 9, 20, 0, 6}; /* all counters, with clear */
 
 /* The same numbers throughout: the bytes between a struct's fields are nobody's. */
 static int same_state(const struct pomarisco_outstation *a, const struct pomarisco_outstation *b) {
@@ -56,7 +54,6 @@ static uint8_t *at_end(size_t n) {
 static int prepare(void) {
     for (int i = 0; i < POMARISCO_ANALOG_OUTPUTS; i++)
         setup.analog_outputs[i] = i % 3 == 0 ? pomarisco_output_32(-100000, 100000) : i % 3 == 1 ? pomarisco_output_16(-1000, 1000) : pomarisco_output_float(-1.5f, 1.5f);
-    for (int i = 0; i < POMARISCO_COUNTERS; i++) setup.counters[i] = pomarisco_counter_of((uint8_t)(1 + i % 3), 5);
     for (int i = 0; i < 64; i++) {
         classes[i] = (uint8_t)(1 + i % 3);
         analogs[i] = i % 3 == 0 ? pomarisco_point_32(1, POMARISCO_SUMMED, 5) : i % 3 == 1 ? pomarisco_point_16(1, POMARISCO_SUMMED, 5) : pomarisco_point_float(1, 2.5f, 0.25f, POMARISCO_SUMMED, 1.5f);
@@ -69,7 +66,7 @@ static int prepare(void) {
         for (int i = 0; i < TABLE; i++) {
             const uint16_t point = (uint16_t)(i % 64);
             const uint8_t flags = (uint8_t)round;
-            table[i] = i < 64 ? pomarisco_binary_reading(1000, point, (uint8_t)(round % 2), flags) : i >= 128 ? pomarisco_counter_reading(1000, point, (uint32_t)(i * round), flags) : point % 3 == 2 ? pomarisco_float_reading(1000, point, (float)(i * round), flags) : pomarisco_whole_reading(1000, point, i * 100 * round, flags);
+            table[i] = i < 64 ? pomarisco_binary_reading(1000, point, (uint8_t)(round % 2), flags) : point % 3 == 2 ? pomarisco_float_reading(1000, point, (float)(i * round), flags) : pomarisco_whole_reading(1000, point, i * 100 * round, flags);
         }
         if (pomarisco_table(&full, table, TABLE, &taken) != 0 || taken != TABLE) return 0;
     }
@@ -117,7 +114,7 @@ static void null_pointers(void) {
     expect(memcmp(out, before, sizeof out) == 0, "refused calls leave the lent bytes");
     expect(same_state(&s, &full), "refused calls and an empty table leave the state");
     memset(&empty, 0x5C, sizeof empty);
-    expect(pomarisco_restart(&empty, setup, NULL, 0, NULL, 0) == 0 && empty.head.binary_count == 0 && empty.head.analog_count == 0 && empty.head.counter_count == 32 && empty.head.outputs == 16 && empty.head.analog_outputs == 16, "restart: NULL twice");
+    expect(pomarisco_restart(&empty, setup, NULL, 0, NULL, 0) == 0 && empty.head.binary_count == 0 && empty.head.analog_count == 0 && empty.head.outputs == 16 && empty.head.analog_outputs == 16, "restart: NULL twice");
 }
 
 /* ---- any address */
@@ -148,10 +145,6 @@ static void addresses(void) {
         memcpy(input - sizeof set, set, sizeof set);
         same &= pomarisco_fragment(s, 1000, input - sizeof set, sizeof set, out, POMARISCO_FRAGMENT + shift, &operated).length == 2 + sizeof set;
         same &= operated.analog_commands.count == 2 && memcmp(out + 4, set + 2, sizeof set - 2) == 0;
-        const uint32_t count = pomarisco_counter_at(s, 31).count;
-        memcpy(input - sizeof freeze, freeze, sizeof freeze);
-        same &= pomarisco_fragment(s, 1000, input - sizeof freeze, sizeof freeze, out, POMARISCO_FRAGMENT + shift, &operated).length == 4;
-        same &= count != 0 && pomarisco_counter_at(s, 31).frozen == count && pomarisco_counter_at(s, 31).count == 0;
 
         uint8_t *user = input - POMARISCO_USER;
         for (size_t i = 0; i < POMARISCO_USER; i++) user[i] = (uint8_t)(i * 7 + 0xC0);
@@ -204,14 +197,13 @@ static struct pomarisco_operated fragment_in_place(const uint8_t *bytes, size_t 
     struct pomarisco_operated operated;
     s = t = full;
     const struct pomarisco_fragment_answer a = pomarisco_fragment(&s, 2000, bytes, n, one, sizeof one, &operated);
-    const struct pomarisco_answer b = pomarisco_lent_fragment(t.head, t.binaries, t.analogs, t.counters, t.events, t.request, t.answer, t.latch_objects, t.analog_outputs, 2000, bytes, n, two, sizeof two);
+    const struct pomarisco_answer b = pomarisco_lent_fragment(t.head, t.binaries, t.analogs, t.events, t.request, t.answer, t.latch_objects, t.analog_outputs, 2000, bytes, n, two, sizeof two);
     expect(a.kind == b.answer.kind && a.length == b.answer.length && memcmp(one, two, sizeof one) == 0, "fragment: the same answer");
     expect(same_operated(&operated, &b.operated), "fragment: the same objects");
     expect(s.head.clock == 2000 && b.head.clock == 2000 && t.head.clock == 1000 && s.head.request_len == n && memcmp(s.request, bytes, n) == 0, "fragment: the head is given back");
     expect(memcmp(s.binaries, full.binaries, sizeof s.binaries) == 0 && memcmp(s.analogs, full.analogs, sizeof s.analogs) == 0, "fragment: the points stay");
     expect(memcmp(s.analog_outputs, full.analog_outputs, sizeof s.analog_outputs) == 0 && s.head.analog_outputs == full.head.analog_outputs, "fragment: the analog outputs stay");
-    expect((memcmp(s.counters, full.counters, sizeof s.counters) != 0) == (bytes == freeze), "fragment: only a freeze changes counters");
-    expect(memcmp(s.counters, t.counters, sizeof s.counters) == 0 && memcmp(s.events, t.events, sizeof s.events) == 0 && memcmp(s.request, t.request, sizeof s.request) == 0 && memcmp(s.answer, t.answer, sizeof s.answer) == 0, "fragment: the same arrays");
+    expect(memcmp(s.events, t.events, sizeof s.events) == 0 && memcmp(s.request, t.request, sizeof s.request) == 0 && memcmp(s.answer, t.answer, sizeof s.answer) == 0, "fragment: the same arrays");
     return operated;
 }
 
@@ -225,21 +217,10 @@ static void in_place(void) {
     expect(c[0].index == 4 && c[0].kind == 1 && pomarisco_bits_whole(c[0].bits) == -1000 && c[0].status == 0, "fragment: the first one");
     expect(c[1].index == 7 && c[1].kind == 1 && pomarisco_bits_whole(c[1].bits) == 1000 && c[1].status == 0, "fragment: the second one");
 
-    operated = fragment_in_place(freeze, sizeof freeze);
-    expect(handed_over(&operated) == 0, "fragment: a freeze hands over nothing");
-
-    s = t = full;
-    const struct pomarisco_reading counts = pomarisco_counter_reading(3000, 31, 7, 5);
-    expect(pomarisco_reading(&s, counts) == 0, "counter reading");
-    t.head = pomarisco_lent_reading(t.head, t.binaries, t.analogs, t.counters, t.events, counts).head;
-    expect(s.head.clock == 3000 && t.head.clock == 3000 && memcmp(s.counters, t.counters, sizeof s.counters) == 0 && pomarisco_counter_at(&s, 31).count == pomarisco_counter_at(&full, 31).count + 7, "counter reading: the same");
-    s = full;
-    expect(pomarisco_reading(&s, pomarisco_counter_reading(3000, 32, 0, 1)) == 2 && pomarisco_reading(&s, pomarisco_counter_reading(3000, 31, 0, 32)) == 4 && same_state(&s, &full), "counter reading: refused, nothing changed");
-
     s = t = full;
     const struct pomarisco_reading change = pomarisco_binary_reading(3000, 5, 0, 3), none = pomarisco_binary_reading(3000, 64, 0, 1);
     expect(pomarisco_reading(&s, change) == 0, "reading");
-    t.head = pomarisco_lent_reading(t.head, t.binaries, t.analogs, t.counters, t.events, change).head;
+    t.head = pomarisco_lent_reading(t.head, t.binaries, t.analogs, t.events, change).head;
     expect(s.head.clock == 3000 && t.head.clock == 3000 && memcmp(s.binaries, t.binaries, sizeof s.binaries) == 0 && pomarisco_binary_at(&s, 5).flags == 3, "reading: the same");
     s = full;
     expect(pomarisco_reading(&s, none) == 2 && same_state(&s, &full), "reading: refused, nothing changed");
@@ -248,8 +229,6 @@ static void in_place(void) {
     expect(pomarisco_table(&s, two_readings, 2, &taken) == 2 && taken == 1 && s.head.clock == 3000, "table: up to the refused reading");
 }
 
-static int nothing_installed(const struct pomarisco_head *h) { return h->binary_count == 0 && h->analog_count == 0 && h->counter_count == 0 && h->outputs == 0 && h->analog_outputs == 0; }
-
 /* A restart with just this analog output: its refusal, 255 where the words or the head are not as it says. */
 static uint8_t restart_with(struct pomarisco_outstation *s, struct pomarisco_analog_output output) {
     struct pomarisco_setup one = setup;
@@ -257,8 +236,9 @@ static uint8_t restart_with(struct pomarisco_outstation *s, struct pomarisco_ana
     one.analog_outputs[0] = output;
     memset(s, 0x5C, sizeof *s);
     const uint8_t refusal = pomarisco_restart(s, one, classes, 64, analogs, 64);
+    const int nothing = s->head.binary_count == 0 && s->head.analog_count == 0 && s->head.outputs == 0 && s->head.analog_outputs == 0;
     const int stored = s->head.analog_outputs == 1 && s->analog_outputs[0] == output.kind && s->analog_outputs[1] == output.low && s->analog_outputs[2] == output.high;
-    return (refusal == 0 ? stored : nothing_installed(&s->head)) ? refusal : 255;
+    return (refusal == 0 ? stored : nothing) ? refusal : 255;
 }
 
 static void refused_setups(void) {
@@ -268,100 +248,14 @@ static void refused_setups(void) {
     struct pomarisco_setup wrong = setup;
     wrong.master = wrong.own;
     s = full;
-    expect(pomarisco_restart(&s, wrong, classes, 64, analogs, 64) == 5 && nothing_installed(&s.head), "restart: addresses");
+    expect(pomarisco_restart(&s, wrong, classes, 64, analogs, 64) == 5 && s.head.binary_count == 0 && s.head.analog_count == 0 && s.head.outputs == 0 && s.head.analog_outputs == 0, "restart: addresses");
     expect(pomarisco_restart(&s, setup, many, 65, analogs, 64) == 5 && pomarisco_restart(&s, setup, many, sizeof many, analogs, 64) == 5, "restart: over 64 binaries");
     expect(pomarisco_restart(&s, setup, classes, 64, many_analogs, 65) == 5, "restart: over 64 analogs");
     many[63] = 4;
     expect(pomarisco_restart(&s, setup, many, 64, NULL, 0) == 5 && s.head.binary_count == 0, "restart: a class");
     many_analogs[0] = pomarisco_point_float(1, 1.0f, 0.0f, POMARISCO_BEYOND, -0.5f);
     expect(pomarisco_restart(&s, setup, classes, 64, many_analogs, 1) == 5 && s.head.analog_count == 0, "restart: a limit below 0");
-    expect(pomarisco_reading(&s, pomarisco_binary_reading(1, 0, 0, 1)) == 2 && pomarisco_reading(&s, pomarisco_counter_reading(1, 0, 0, 1)) == 2, "restart: a refused one has no points");
-}
-
-/* A restart with just this counter: its refusal, 255 where the words or the head are not as it says. */
-static uint8_t restart_counting(struct pomarisco_outstation *s, struct pomarisco_counter_setup counter) {
-    struct pomarisco_setup one = setup;
-    one.counter_count = 1;
-    one.counters[0] = counter;
-    memset(s, 0x5C, sizeof *s);
-    const uint8_t refusal = pomarisco_restart(s, one, classes, 64, analogs, 64);
-    const struct pomarisco_counter c = pomarisco_counter_at(s, 0);
-    const int stored = s->head.counter_count == 1 && c.class_ == counter.class_ && c.limit == counter.limit && c.count == 0 && c.flags == 2 && c.frozen == 0 && c.frozen_flags == 2 && c.seen == 0;
-    return (refusal == 0 ? stored : nothing_installed(&s->head)) ? refusal : 255;
-}
-
-/* How many counters a setup may say, and which. */
-static void counter_setups(void) {
-    static const uint16_t counts[] = {33, 34, 255, 256, 288, 65535};
-    static struct pomarisco_outstation s;
-    static uint8_t out[POMARISCO_FRAGMENT];
-    struct pomarisco_operated operated;
-    struct pomarisco_setup past = setup;
-    expect(full.head.counter_count == 32 && pomarisco_counter_at(&full, 31).class_ == 2 && pomarisco_counter_at(&full, 31).limit == 5, "32 counters");
-    int refused = 1, classed = 1;
-    for (size_t i = 0; i < sizeof counts / sizeof counts[0]; i++) {
-        past.counter_count = counts[i];
-        refused &= pomarisco_restart(&s, past, classes, 64, analogs, 64) == 5 && nothing_installed(&s.head);
-    }
-    expect(refused, "restart: over 32 counters");
-    /* What stands past the count does not count. */
-    past.counter_count = 31;
-    past.counters[31] = pomarisco_counter_of(4, 0);
-    expect(pomarisco_restart(&s, past, classes, 64, analogs, 64) == 0 && s.head.counter_count == 31, "restart: a wrong counter past the count");
-    past.counter_count = 32;
-    expect(pomarisco_restart(&s, past, classes, 64, analogs, 64) == 5, "restart: the same counter, counted");
-    for (int class_ = 0; class_ < 256; class_++) classed &= restart_counting(&s, pomarisco_counter_of((uint8_t)class_, 7)) == (class_ < 4 ? 0 : 5);
-    expect(classed, "restart: a counter's class");
-    expect(restart_counting(&s, pomarisco_counter_of(3, 0)) == 0 && restart_counting(&s, pomarisco_counter_of(0, UINT32_MAX)) == 0, "restart: a counter's limit");
-    past.counter_count = 0;
-    expect(pomarisco_restart(&s, past, classes, 64, analogs, 64) == 0 && s.head.counter_count == 0, "restart: no counters");
-    expect(pomarisco_fragment(&s, 1000, freeze, sizeof freeze, out, sizeof out, &operated).length == 4 && out[3] == 0, "a freeze of all counters, of which there are none");
-    expect(pomarisco_fragment(&s, 1000, (const uint8_t[]){0xC7, 7, 20, 0, 0, 0, 0}, 7, out, sizeof out, &operated).length == 4 && out[3] == 4, "a freeze of a counter that is not there");
-    const struct pomarisco_setup old = {.arm_time = 5000, .confirm_time = 5000, .own = 1, .master = 2, .outputs = 4};
-    expect(pomarisco_restart(&s, old, classes, 64, analogs, 64) == 0 && s.head.counter_count == 0, "restart: a setup that says nothing of counters");
-}
-
-/* Counts of counter 0: where it stands then, and how many events are held. */
-static int counts_to(struct pomarisco_outstation *s, uint32_t counts, uint8_t flags, uint32_t count, size_t events_held) {
-    const uint8_t refusal = pomarisco_reading(s, pomarisco_counter_reading(1000, 0, counts, flags));
-    const struct pomarisco_counter c = pomarisco_counter_at(s, 0);
-    return refusal == 0 && c.count == count && c.flags == flags && pomarisco_held(s) == events_held;
-}
-
-/* Up to each limit and past it, also round 2^32. */
-static void counter_limits(void) {
-    static const uint32_t limits[] = {0, 1, 10, 0x7FFFFFFF, 0x80000000, UINT32_MAX - 1, UINT32_MAX}, firsts[] = {0, 5, UINT32_MAX - 3, UINT32_MAX};
-    static struct pomarisco_outstation s;
-    int good = 1;
-    for (size_t i = 0; i < sizeof limits / sizeof limits[0]; i++)
-        for (size_t k = 0; k < sizeof firsts / sizeof firsts[0]; k++) {
-            const uint32_t limit = limits[i], at = firsts[k];
-            const size_t passes = limit != UINT32_MAX;
-            good &= restart_counting(&s, pomarisco_counter_of(1, limit)) == 0;
-            good &= counts_to(&s, at, 1, at, 0) && counts_to(&s, 0, 1, at, 0) && counts_to(&s, limit, 1, at + limit, 0);
-            good &= counts_to(&s, 1, 1, at + limit + 1, passes) && counts_to(&s, 0, 3, at + limit + 1, passes + 1);
-            good &= counts_to(&s, UINT32_MAX, 3, at + limit, 2 * passes + 1);
-            const struct pomarisco_event e = pomarisco_event_at(&s, 2 * passes);
-            good &= e.kind == 4 && e.point == 0 && e.time == 1000 && e.flags == 3 && e.class_ == 1 && e.carried == 0 && e.bits == (passes ? at + limit : at);
-        }
-    expect(good, "counters at their limits, also round 2^32");
-}
-
-/* What the master is told of a counter: its event, then count and frozen count in class 0, before and after a freeze with clear. */
-static void counter_told(void) {
-    static const uint8_t event[] = {0xE1, 129, 0x80, 0, 22, 5, 0x28, 1, 0, 0, 0, 3, 0x0C, 0, 0, 0, 0xE8, 3, 0, 0, 0, 0};
-    static const uint8_t before[] = {0xC2, 129, 0x80, 0, 20, 1, 1, 0, 0, 0, 0, 3, 0x0C, 0, 0, 0, 21, 1, 1, 0, 0, 0, 0, 2, 0, 0, 0, 0};
-    static const uint8_t after[] = {0xC4, 129, 0x80, 0, 20, 1, 1, 0, 0, 0, 0, 3, 0, 0, 0, 0, 21, 1, 1, 0, 0, 0, 0, 3, 0x0C, 0, 0, 0};
-    static struct pomarisco_outstation s;
-    static uint8_t out[POMARISCO_FRAGMENT];
-    const struct pomarisco_setup one = {.arm_time = 5000, .confirm_time = 5000, .own = 1, .master = 2, .counter_count = 1, .counters = {pomarisco_counter_of(1, 6)}};
-    struct pomarisco_operated operated;
-    expect(pomarisco_restart(&s, one, NULL, 0, NULL, 0) == 0 && counts_to(&s, 5, 3, 5, 0) && counts_to(&s, 7, 3, 12, 1), "a counter's event");
-    expect(pomarisco_fragment(&s, 1000, (const uint8_t[]){0xC1, 1, 60, 2, 6}, 5, out, sizeof out, &operated).length == sizeof event && memcmp(out, event, sizeof event) == 0, "a counter's event as the master is told");
-    expect(pomarisco_fragment(&s, 1000, (const uint8_t[]){0xC1, 0}, 2, out, sizeof out, &operated).kind == 2 && pomarisco_held(&s) == 0, "a counter's event, confirmed");
-    expect(pomarisco_fragment(&s, 1000, (const uint8_t[]){0xC2, 1, 60, 1, 6}, 5, out, sizeof out, &operated).length == sizeof before && memcmp(out, before, sizeof before) == 0, "a counter that was never frozen");
-    expect(pomarisco_fragment(&s, 1000, (const uint8_t[]){0xC3, 10, 20, 0, 6}, 5, out, sizeof out, &operated).kind == 1, "a freeze with clear, not answered");
-    expect(pomarisco_fragment(&s, 1000, (const uint8_t[]){0xC4, 1, 60, 1, 6}, 5, out, sizeof out, &operated).length == sizeof after && memcmp(out, after, sizeof after) == 0, "a counter frozen and cleared");
+    expect(pomarisco_reading(&s, pomarisco_binary_reading(1, 0, 0, 1)) == 2, "restart: a refused one has no points");
 }
 
 /* How many analog outputs a setup may say. */
@@ -438,7 +332,6 @@ static void any_content(void) {
             s->head.clock %= 2000;
             s->head.binary_count %= 130;
             s->head.analog_count %= 130;
-            s->head.counter_count %= 70;
             s->head.event_count %= 520;
             s->head.request_len %= 4100;
             s->head.answer_len %= 230;
@@ -474,135 +367,9 @@ static void any_content(void) {
             set_points += operated.analog_commands.count != 0;
         }
         good &= pomarisco_table(s, table, TABLE, &taken) <= 4 && taken <= TABLE;
-        for (size_t i = 0; i < POMARISCO_EVENTS; i++) good &= pomarisco_event_at(s, i).kind <= 4;
+        for (size_t i = 0; i < POMARISCO_EVENTS; i++) good &= pomarisco_event_at(s, i).kind <= 3;
     }
     expect(good && answered > 100 && relays > 10 && set_points > 10, "any content of the outstation");
-}
-
-/* ---- counters */
-
-static int same_counter(const struct pomarisco_counter *a, const struct pomarisco_counter *b) {
-    return a->count == b->count && a->limit == b->limit && a->reported == b->reported && a->frozen == b->frozen && a->class_ == b->class_ && a->flags == b->flags && a->reported_flags == b->reported_flags && a->frozen_flags == b->frozen_flags && a->seen == b->seen;
-}
-
-/* A counter after a reading, whatever it is; gives whether that raises an event. */
-static int counted(struct pomarisco_counter *c, uint32_t counts, uint8_t flags) {
-    const int before = c->seen;
-    c->count += counts;
-    c->flags = flags;
-    c->seen = 1;
-    const int reports = !before || flags != c->reported_flags || c->count - c->reported > c->limit;
-    if (reports) {
-        c->reported = c->count;
-        c->reported_flags = flags;
-    }
-    return before && reports && c->class_ >= 1 && c->class_ <= 3;
-}
-
-/* Which of n counters a freeze names; -1 where it has a fault. */
-static int64_t named(const uint8_t *objects, size_t length, size_t n) {
-    uint64_t which = 0;
-    for (size_t at = 0, headers = 0; at < length; headers++) {
-        const uint8_t *h = objects + at;
-        const size_t left = length - at;
-        size_t start = 0, end = n, size = 3;
-        if (headers == 16 || left < 3 || h[0] != 20 || h[1] != 0 || (h[2] != 0 && h[2] != 1 && h[2] != 6)) return -1;
-        if (h[2] != 6) {
-            size = h[2] == 0 ? 5 : 7;
-            if (left < size) return -1;
-            start = h[2] == 0 ? h[3] : (size_t)(h[3] | h[4] << 8);
-            end = 1 + (h[2] == 0 ? h[4] : (size_t)(h[5] | h[6] << 8));
-            if (start >= end || end > n) return -1;
-        }
-        for (size_t i = start; i < end; i++) which |= (uint64_t)1 << i;
-        at += size;
-    }
-    return (int64_t)which;
-}
-
-/* Mostly one to three right headers; sometimes more than there may be, a counter that is not there, another object, or a byte too many. */
-static size_t some_freeze(uint8_t *to, size_t n) {
-    const size_t headers = any() % 8 == 0 ? any() % 19 : 1 + any() % 3;
-    size_t length = 0;
-    for (size_t i = 0; i < headers; i++) {
-        const uint8_t stop = (uint8_t)(any() % (n + (any() % 32 == 0) + (n == 0))), start = (uint8_t)(any() % (stop + 1 + (any() % 32 == 0)));
-        const uint8_t right[3][7] = {{20, 0, 6}, {20, 0, 0, start, stop}, {20, 0, 1, start, 0, stop, (uint8_t)(any() % 64 == 0)}};
-        const size_t which = any() % 3, sizes[] = {3, 5, 7};
-        memcpy(to + length, right[which], sizes[which]);
-        length += sizes[which];
-    }
-    if (any() % 24 == 0) to[length++] = (uint8_t)any();
-    if (any() % 24 == 0) {
-        memcpy(to + length, (const uint8_t[]){(uint8_t)(20 + any() % 3), (uint8_t)(any() % 2), 6}, 3);
-        length += 3;
-    }
-    return length;
-}
-
-/* Any counters and any count of them: readings and freezes as the definition says. */
-static void any_counters(void) {
-    static uint8_t out[POMARISCO_FRAGMENT], request[2 + 19 * 7 + 4];
-    static struct pomarisco_outstation s;
-    int good = 1, raised = 0, quiet = 0, frozen = 0, faulty = 0, repeated = 0;
-    s = full;
-    for (int round = 0; round < 60000; round++) {
-        struct pomarisco_counter before[POMARISCO_COUNTERS], after;
-        struct pomarisco_operated operated;
-        s.head = full.head;
-        s.head.event_count = any() % 2 == 0 ? 0 : any() % 300;
-        s.head.counter_count = any() % 4 == 0 ? (size_t)any() >> any() % 64 : any() % 34;
-        const size_t installed = s.head.counter_count < POMARISCO_COUNTERS ? s.head.counter_count : POMARISCO_COUNTERS, held = pomarisco_held(&s);
-        for (size_t i = 0; i < POMARISCO_COUNTERS; i++) {
-            uint32_t *w = s.counters + 6 * i;
-            const uint32_t near[] = {0, 1, 5, UINT32_MAX, 0x80000000, (uint32_t)any()};
-            for (size_t k = 0; k < 6; k++) w[k] = (uint32_t)any();
-            if (any() % 8 != 0) w[0] = (w[0] & 0xFF000000) | (uint32_t)(any() % 4 | any() % 3 << 8 | any() % 3 << 16);
-            w[2] = near[any() % 6];
-            if (any() % 2 == 0) w[1] = w[3] + near[any() % 6];
-            before[i] = pomarisco_counter_at(&s, i);
-        }
-        const uint16_t point = (uint16_t)(any() % 34);
-        const uint8_t flags = (uint8_t)(any() % 16 == 0 ? any() : any() % 3);
-        const uint32_t some[] = {0, 1, before[point % 32].limit, before[point % 32].limit + 1, UINT32_MAX, (uint32_t)any()}, counts = some[any() % 6];
-        const uint8_t refusal = pomarisco_reading(&s, pomarisco_counter_reading(1000, point, counts, flags));
-        good &= refusal == (point >= installed ? 2 : flags > 31 ? 4 : 0);
-        if (refusal == 0) {
-            const int event = counted(&before[point], counts, flags);
-            good &= pomarisco_held(&s) == (event && held < POMARISCO_EVENTS ? held + 1 : held) && (s.head.overflow != 0 || !event || held < POMARISCO_EVENTS);
-            if (event && held < POMARISCO_EVENTS) {
-                const struct pomarisco_event e = pomarisco_event_at(&s, held);
-                good &= e.kind == 4 && e.bits == before[point].count && e.point == point && e.flags == flags && e.class_ == before[point].class_ && e.time == 1000 && e.carried == 0;
-            }
-            raised += event;
-            quiet += !event;
-        }
-        const uint8_t function = (uint8_t)(7 + any() % 4);
-        request[0] = 0xC7;
-        request[1] = function;
-        const size_t n = 2 + some_freeze(request + 2, installed);
-        const int64_t which = named(request + 2, n - 2, installed);
-        for (int time = 0; time < 2; time++) {
-            const struct pomarisco_fragment_answer a = pomarisco_fragment(&s, 1000, request, n, out, sizeof out, &operated);
-            good &= a.kind == (function % 2 == 0) && handed_over(&operated) == 0 && a.length == (function % 2 == 0 ? 0 : 4) && (function % 2 == 0 || (out[0] == 0xC7 && ((out[3] & 7) != 0) == (which < 0)));
-            for (size_t i = 0; i < installed; i++) {
-                if (time == 0 && which >= 0 && (which >> i & 1) != 0) {
-                    before[i].frozen = before[i].count;
-                    before[i].frozen_flags = before[i].flags;
-                    if (function > 8) before[i].count = before[i].reported = 0;
-                }
-                after = pomarisco_counter_at(&s, i);
-                good &= same_counter(&before[i], &after);
-            }
-            /* Counts in between: a repeat would freeze them. */
-            for (uint16_t i = 0; time == 0 && i < installed; i++)
-                if (pomarisco_reading(&s, pomarisco_counter_reading(1000, i, 3, 1)) == 0) counted(&before[i], 3, 1);
-        }
-        frozen += which > 0;
-        faulty += which < 0;
-        repeated += which > 0 && function % 2 == 0;
-    }
-    expect(good, "any counters: readings and freezes by their definition");
-    expect(raised > 1000 && quiet > 1000 && frozen > 1000 && faulty > 1000 && repeated > 1000, "any counters: each outcome reached");
 }
 
 /* ---- set points */
@@ -977,7 +744,6 @@ static void *many_calls(void *where) {
         pomarisco_table(s, table, TABLE, &taken);
         pomarisco_fragment(s, 2000, i % 2 == 0 ? events : operate, i % 2 == 0 ? sizeof events : sizeof operate, out, sizeof out, &operated);
         pomarisco_fragment(s, 2000, set, sizeof set, out, sizeof out, &operated);
-        pomarisco_fragment(s, 2000, freeze, sizeof freeze, out, sizeof out, &operated);
     }
     return NULL;
 }
@@ -1002,7 +768,7 @@ static void deep(void) {
     struct pomarisco_operated operated;
     size_t taken;
     s = full;
-    deep_good = pomarisco_piece_receive_at(&receiver, longest_frame, sizeof longest_frame, out, sizeof out).frame.length == POMARISCO_USER && pomarisco_table(&s, table, TABLE, &taken) == 0 && pomarisco_reading(&s, table[3]) == 0 && pomarisco_fragment(&s, 4000, events, sizeof events, out, sizeof out, &operated).kind == 0 && pomarisco_fragment(&s, 4000, operate, sizeof operate, out, sizeof out, &operated).kind == 0 && pomarisco_fragment(&s, 4000, set, sizeof set, out, sizeof out, &operated).kind == 0 && pomarisco_fragment(&s, 4000, freeze, sizeof freeze, out, sizeof out, &operated).kind == 0 && pomarisco_restart(&s, setup, classes, 64, analogs, 64) == 0;
+    deep_good = pomarisco_piece_receive_at(&receiver, longest_frame, sizeof longest_frame, out, sizeof out).frame.length == POMARISCO_USER && pomarisco_table(&s, table, TABLE, &taken) == 0 && pomarisco_reading(&s, table[3]) == 0 && pomarisco_fragment(&s, 4000, events, sizeof events, out, sizeof out, &operated).kind == 0 && pomarisco_fragment(&s, 4000, operate, sizeof operate, out, sizeof out, &operated).kind == 0 && pomarisco_fragment(&s, 4000, set, sizeof set, out, sizeof out, &operated).kind == 0 && pomarisco_restart(&s, setup, classes, 64, analogs, 64) == 0;
 }
 
 /* Just so much, with a page below that may not be touched: a deeper call would end the program by a signal. */
@@ -1024,13 +790,9 @@ int main(void) {
     addresses();
     in_place();
     refused_setups();
-    counter_setups();
-    counter_limits();
-    counter_told();
     output_counts();
     output_ends();
     any_content();
-    any_counters();
     any_outputs();
     any_receiver();
     repeats();

@@ -17,11 +17,11 @@
 
 #include "pomarisco.h"
 
-enum { LINE = 65536, LENT = 65536, FILL = 0xA5, MOST = 64, COUNTERS = POMARISCO_COUNTERS, OUTPUTS = POMARISCO_ANALOG_OUTPUTS, WORDS = 8 + MOST + MOST + 2 + COUNTERS + 2 + OUTPUTS, TABLE = 128 };
+enum { LINE = 65536, LENT = 65536, FILL = 0xA5, MOST = 64, OUTPUTS = POMARISCO_ANALOG_OUTPUTS, WORDS = 8 + MOST + MOST + 2 + OUTPUTS, TABLE = 128 };
 
 /* ---- places */
 
-enum place { GIVEN, OUTPUT, CLASSES, SETUPS, READINGS, EVENTS, BINARIES, ANALOGS, COUNTER_WORDS, ANALOG_OUTPUTS, REQUEST, ANSWER, OBJECTS, KEPT, PLACES };
+enum place { GIVEN, OUTPUT, CLASSES, SETUPS, READINGS, EVENTS, BINARIES, ANALOGS, ANALOG_OUTPUTS, REQUEST, ANSWER, OBJECTS, KEPT, PLACES };
 
 /* Memory for so many bytes, until the next for the same use. Aligned for what is kept there: sizes are whole structs. */
 static void *place(enum place which, size_t n) {
@@ -75,7 +75,7 @@ static uint8_t given[LINE];
 #ifdef APART
 
 static uint64_t *events;
-static uint32_t *binaries, *analogs, *counters, *analog_outputs;
+static uint32_t *binaries, *analogs, *analog_outputs;
 static uint8_t *request, *answer, *latch_objects;
 
 /* Whatever an outstation was, a restart makes it a fresh one. */
@@ -84,7 +84,6 @@ static void forget(void) {
     events = copied(EVENTS, outstation.events, sizeof outstation.events);
     binaries = copied(BINARIES, outstation.binaries, sizeof outstation.binaries);
     analogs = copied(ANALOGS, outstation.analogs, sizeof outstation.analogs);
-    counters = copied(COUNTER_WORDS, outstation.counters, sizeof outstation.counters);
     analog_outputs = copied(ANALOG_OUTPUTS, outstation.analog_outputs, sizeof outstation.analog_outputs);
     request = copied(REQUEST, outstation.request, sizeof outstation.request);
     answer = copied(ANSWER, outstation.answer, sizeof outstation.answer);
@@ -94,26 +93,26 @@ static void forget(void) {
 static uint8_t restart(void) {
     const uint8_t *c = copied(CLASSES, classes, class_count);
     const struct pomarisco_analog_setup *a = copied(SETUPS, setups, setup_count * sizeof *setups);
-    const struct pomarisco_restarted r = pomarisco_lent_restart(setup, c, class_count, a, setup_count, binaries, analogs, counters, analog_outputs);
+    const struct pomarisco_restarted r = pomarisco_lent_restart(setup, c, class_count, a, setup_count, binaries, analogs, analog_outputs);
     outstation.head = r.head;
     return r.refusal;
 }
 
 static uint8_t take_reading(struct pomarisco_reading r) {
-    const struct pomarisco_took t = pomarisco_lent_reading(outstation.head, binaries, analogs, counters, events, r);
+    const struct pomarisco_took t = pomarisco_lent_reading(outstation.head, binaries, analogs, events, r);
     outstation.head = t.head;
     return t.refusal;
 }
 
 static uint8_t take_table(const struct pomarisco_reading *readings, size_t n, size_t *taken) {
-    const struct pomarisco_table_took t = pomarisco_lent_table(outstation.head, binaries, analogs, counters, events, copied(READINGS, readings, n * sizeof *readings), n);
+    const struct pomarisco_table_took t = pomarisco_lent_table(outstation.head, binaries, analogs, events, copied(READINGS, readings, n * sizeof *readings), n);
     outstation.head = t.head;
     *taken = t.taken;
     return t.refusal;
 }
 
 static struct pomarisco_fragment_answer take_fragment(uint64_t time, const uint8_t *bytes, size_t size, uint8_t *out, size_t length, struct pomarisco_operated *operated) {
-    const struct pomarisco_answer a = pomarisco_lent_fragment(outstation.head, binaries, analogs, counters, events, request, answer, latch_objects, analog_outputs, time, bytes, size, out, length);
+    const struct pomarisco_answer a = pomarisco_lent_fragment(outstation.head, binaries, analogs, events, request, answer, latch_objects, analog_outputs, time, bytes, size, out, length);
     outstation.head = a.head;
     *operated = a.operated;
     return a.answer;
@@ -326,40 +325,16 @@ static bool set_point(struct word w, struct pomarisco_analog_output *s, bool *fi
     return whole_end(p[1], &s->low, fits) && whole_end(p[2], &s->high, fits);
 }
 
-static bool counter(struct word w, struct pomarisco_counter_setup *c, bool *fits) {
-    struct word p[2];
-    uint64_t class_;
-    if (split(w, ',', p, 2) != 2 || !number(p[0], 255, &class_)) return false;
-    c->class_ = (uint8_t)class_;
-    return whole_limit(p[1], &c->limit, fits);
-}
-
-/* Nothing, or the letter, how many, and a word for each: above the most only so many are said. `used`: how many words these are. */
-static bool further(const char *letter, const struct word *w, size_t n, size_t most, uint16_t *count, size_t *used) {
-    uint64_t said;
-    *count = 0;
-    *used = 0;
-    if (n == 0 || !is(w[0], letter)) return true;
-    if (n < 2 || !number(w[1], 255, &said)) return false;
-    *count = (uint16_t)said;
-    *used = 2 + (said < most ? said : most);
-    return *used <= n;
-}
-
-/* What may follow the analogs: counters, then set points. */
-static bool further_points(const struct word *w, size_t n, struct pomarisco_setup *s, bool *fits) {
-    size_t used;
+/* Nothing, or `s`, how many, and a word for each: above 16 only 16 are said. */
+static bool set_points(const struct word *w, size_t n, struct pomarisco_setup *s, bool *fits) {
+    uint64_t ns;
     /* Those that are not said would be refused if they counted. */
-    for (size_t i = 0; i < COUNTERS; i++) s->counters[i] = pomarisco_counter_of(4, 0);
     for (size_t i = 0; i < OUTPUTS; i++) s->analog_outputs[i] = pomarisco_output_32(1, 0);
-    if (!further("c", w, n, COUNTERS, &s->counter_count, &used)) return false;
-    for (size_t i = 2; i < used; i++)
-        if (!counter(w[i], &s->counters[i - 2], fits)) return false;
-    w += used;
-    n -= used;
-    if (!further("s", w, n, OUTPUTS, &s->analog_output_count, &used) || used != n) return false;
-    for (size_t i = 2; i < used; i++)
+    if (n == 0) return true;
+    if (n < 2 || !is(w[0], "s") || !number(w[1], 255, &ns) || n != 2 + (ns < OUTPUTS ? ns : OUTPUTS)) return false;
+    for (size_t i = 2; i < n; i++)
         if (!set_point(w[i], &s->analog_outputs[i - 2], fits)) return false;
+    s->analog_output_count = (uint16_t)ns;
     return true;
 }
 
@@ -378,7 +353,7 @@ static bool call_setup(const struct word *w, size_t n) {
     }
     for (size_t i = 0; i < a; i++)
         if (!analog(w[8 + b + i], &as[i], &fits)) return false;
-    if (!further_points(w + 8 + b + a, n - 8 - b - a, &s, &fits)) return false;
+    if (!set_points(w + 8 + b + a, n - 8 - b - a, &s, &fits)) return false;
     s.arm_time = (uint32_t)arm;
     s.confirm_time = (uint32_t)confirm;
     s.own = (uint16_t)own;
@@ -415,9 +390,6 @@ static bool reading(char kind, const struct word *w, struct pomarisco_reading *r
     } else if (kind == 'a') {
         if (!signed_number(w[2], (uint64_t)1 << 31, INT32_MAX, &minus, &value)) return false;
         *r = pomarisco_whole_reading(time, (uint16_t)point, (int32_t)(minus ? -(int64_t)value : (int64_t)value), (uint8_t)flags);
-    } else if (kind == 'c') {
-        if (!number(w[2], UINT32_MAX, &value)) return false;
-        *r = pomarisco_counter_reading(time, (uint16_t)point, (uint32_t)value, (uint8_t)flags);
     } else {
         if (!real(w[2], &bits)) return false;
         *r = pomarisco_float_reading(time, (uint16_t)point, pomarisco_bits_float(bits), (uint8_t)flags);
@@ -438,7 +410,7 @@ static bool call_table(const struct word *w, size_t n) {
     size_t taken;
     if (n > 1 + TABLE) return false;
     for (size_t i = 1; i < n; i++)
-        if (split(w[i], ',', p, 5) != 5 || (!is(p[0], "b") && !is(p[0], "a") && !is(p[0], "f") && !is(p[0], "c")) || !reading(p[0].at[0], p + 1, &readings[i - 1])) return false;
+        if (split(w[i], ',', p, 5) != 5 || (!is(p[0], "b") && !is(p[0], "a") && !is(p[0], "f")) || !reading(p[0].at[0], p + 1, &readings[i - 1])) return false;
     if (none()) return true;
     const uint8_t refusal = take_table(readings, n - 1, &taken);
     printf("took %zu ", taken);
@@ -454,7 +426,6 @@ static bool call_held(size_t n) {
     for (size_t i = 0; i < pomarisco_held(o); i++) {
         const struct pomarisco_event e = pomarisco_event_at(o, i);
         if (e.kind == 3) printf(" b,%u,%u", e.point, e.bits);
-        else if (e.kind == 4) printf(" c,%u,%u", e.point, e.bits);
         else if (e.kind == 2) printf(" 5,%u,%08X", e.point, e.bits);
         else printf(" %u,%u,%d", e.kind + 1, e.point, pomarisco_bits_whole(e.bits));
         printf(",%u,%llu", e.flags, (unsigned long long)e.time);
@@ -690,7 +661,6 @@ static bool call(struct word line) {
     if (is(w[0], "bin")) return call_reading('b', w, n);
     if (is(w[0], "ana")) return call_reading('a', w, n);
     if (is(w[0], "flt")) return call_reading('f', w, n);
-    if (is(w[0], "cnt")) return call_reading('c', w, n);
     if (is(w[0], "table")) return call_table(w, n);
     if (is(w[0], "frag")) return call_frag(w, n);
     if (is(w[0], "held")) return call_held(n);

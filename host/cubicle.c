@@ -5,7 +5,6 @@
  * with the next readings. Codes 01, 03 and 41 close it, 04 and 81 open it. Analog inputs 0 and 1 are the voltages of feeders 0 and 1 (float, in
  * kV by the scale), 2 that of feeder 2 (32-bit), 3 that of feeder 3 (16-bit): what its regulator is set to and up to 400 V more, drifting, 0 while open.
  * Analog output i sets the regulator of feeder i, of the kind that its analog input has, from 20,000 to 30,000 V; 24,800 V at the start.
- * Counter i is the energy meter of feeder i, for feeders 0 and 1: at each reading a count more for every whole kV. The outstation keeps the count.
  * The clock is simulated too: every frame with good checks moves it on by STEP ms, and all inputs are then read at that time.
  *
  * The receiver finds the frames in what comes (piece_receive); the rest of a piece is given again. Each frame then goes the whole way: link_receive,
@@ -20,7 +19,7 @@
 
 #include "pomarisco.h"
 
-enum { OWN = 1, MASTER = 2, FEEDERS = 4, METERS = 2, STEP = 100, ONLINE = 1, PIECE = 1024, LOWEST = 20000, HIGHEST = 30000, START = 24800 };
+enum { OWN = 1, MASTER = 2, FEEDERS = 4, STEP = 100, ONLINE = 1, PIECE = 1024, LOWEST = 20000, HIGHEST = 30000, START = 24800 };
 
 static const struct pomarisco_station station = {.own = OWN, .master = MASTER};
 static const uint8_t classes[FEEDERS] = {1, 1, 1, 2};
@@ -44,23 +43,21 @@ static int32_t volts(int feeder) {
 }
 
 static bool read_inputs(void) {
-    struct pomarisco_reading table[2 * FEEDERS + METERS];
+    struct pomarisco_reading table[2 * FEEDERS];
     size_t taken;
     for (int i = 0; i < FEEDERS; i++) {
         const uint16_t point = (uint16_t)i;
         table[i] = pomarisco_binary_reading(clock_ms, point, closed[i], ONLINE);
         table[FEEDERS + i] = i < 2 ? pomarisco_float_reading(clock_ms, point, (float)volts(i), ONLINE) : pomarisco_whole_reading(clock_ms, point, volts(i), ONLINE);
     }
-    for (int i = 0; i < METERS; i++) table[2 * FEEDERS + i] = pomarisco_counter_reading(clock_ms, (uint16_t)i, (uint32_t)volts(i) / 1000, ONLINE);
-    return pomarisco_table(&outstation, table, 2 * FEEDERS + METERS, &taken) == 0;
+    return pomarisco_table(&outstation, table, 2 * FEEDERS, &taken) == 0;
 }
 
-/* Two float points in kV, a 32-bit and a 16-bit point in V; all analog outputs in V. A meter's event: over 100 counts on, or over 1,000. */
+/* Two float points in kV, a 32-bit and a 16-bit point in V; all analog outputs in V. */
 static bool restart(void) {
     const struct pomarisco_setup setup = {
         .arm_time = 300, .confirm_time = 400, .own = OWN, .master = MASTER, .outputs = FEEDERS, .analog_output_count = FEEDERS,
         .analog_outputs = {pomarisco_output_float(LOWEST, HIGHEST), pomarisco_output_float(LOWEST, HIGHEST), pomarisco_output_32(LOWEST, HIGHEST), pomarisco_output_16(LOWEST, HIGHEST)},
-        .counter_count = METERS, .counters = {pomarisco_counter_of(3, 100), pomarisco_counter_of(2, 1000)},
     };
     const struct pomarisco_analog_setup analogs[FEEDERS] = {
         pomarisco_point_float(2, 0.001f, 0.0f, POMARISCO_BEYOND, 0.125f),

@@ -9,9 +9,9 @@
 
 #include "pomarisco.h"
 
-enum { STACK = 1 << 17, PAINT = 0x5C, COUNTERS = 31, OUTPUTS = 14 };
+enum { STACK = 1 << 17, PAINT = 0x5C, OUTPUTS = 14 };
 
-static struct pomarisco_setup setup = {.arm_time = 5001, .confirm_time = 6002, .own = 1, .master = 2, .outputs = 15, .analog_output_count = OUTPUTS, .counter_count = COUNTERS};
+static struct pomarisco_setup setup = {.arm_time = 5001, .confirm_time = 6002, .own = 1, .master = 2, .outputs = 15, .analog_output_count = OUTPUTS};
 static const struct pomarisco_station station = {.own = 1, .master = 2};
 static uint8_t classes[64];
 static struct pomarisco_analog_setup analogs[63];
@@ -25,7 +25,6 @@ static struct pomarisco_sender sender;
 static struct pomarisco_fragment_answer answer;
 static uint8_t frame[POMARISCO_FRAME], user[POMARISCO_USER], out[POMARISCO_FRAGMENT], refusal;
 static const uint8_t events[] = {0xC3, 0x01, 60, 2, 6, 60, 3, 6, 60, 4, 6}, class_0[] = {0xC3, 0x01, 60, 1, 6};
-static const uint8_t freeze_all[] = {0xC6, 7, 20, 0, 6}, clear_some[] = {0xC7, 10, 20, 0, 0, 1, COUNTERS - 1}, clear_all[] = {0xC8, 9, 20, 0, 6};
 static const uint8_t operate[] = {0xC4, 5, 12, 1, 0x17, 1, 5, 3, 1, 0, 0, 0, 0, 0, 0, 0, 0, 0};
 static uint8_t selects[sizeof operate], longest[POMARISCO_FRAGMENT], controls[2 + 109];
 enum { SELECT, OPERATE, DIRECT }; /* eight set points, by each */
@@ -40,9 +39,8 @@ static void expect(int good, const char *what) {
     }
 }
 
-/* 64 binaries, 63 analogs of the three kinds, 31 counters, 14 analog outputs: eight for floats, three for each other kind. */
+/* 64 binaries, 63 analogs of the three kinds, 14 analog outputs: eight for floats, three for each other kind. */
 static void prepare(void) {
-    for (uint32_t i = 0; i < COUNTERS; i++) setup.counters[i] = pomarisco_counter_of((uint8_t)(1 + i % 3), 90000 + i);
     for (int i = 0; i < OUTPUTS; i++) setup.analog_outputs[i] = i < 8 ? pomarisco_output_float(-1.5f, 2.5f) : i < 11 ? pomarisco_output_32(-70000, 80000 + i) : pomarisco_output_16(-300, (int16_t)(256 + i));
     for (int i = 0; i < 64; i++) classes[i] = (uint8_t)(1 + i % 3);
     for (int i = 0; i < 63; i++) {
@@ -69,7 +67,7 @@ static void prepare(void) {
 static void layout(void) {
     const struct pomarisco_head *h = &outstation.head;
     expect(h->arm_time == 5001 && h->confirm_time == 6002 && h->clock == 0 && h->outputs == 15 && h->analog_outputs == OUTPUTS, "times, outputs");
-    expect(h->binary_count == 64 && h->analog_count == 63 && h->counter_count == COUNTERS && h->event_count == 0 && h->overflow == 0, "counts");
+    expect(h->binary_count == 64 && h->analog_count == 63 && h->event_count == 0 && h->overflow == 0, "counts");
     expect(h->restarted == 1 && h->latch_armed == 0 && h->request_kept == 0 && h->waiting == 0, "restarted");
     for (size_t i = 0; i < 64; i++) {
         const struct pomarisco_binary p = pomarisco_binary_at(&outstation, i);
@@ -81,10 +79,6 @@ static void layout(void) {
         expect(a.gate == i % 4, "a gate");
         if (a.gate >= 2) expect(a.kind == 2 ? a.limit == pomarisco_float_bits(1.5f) : a.limit == 70000u + i, "a limit");
         if (a.kind == 2) expect(a.gain == pomarisco_float_bits(2.5f) && a.offset == pomarisco_float_bits(0.25f), "a scale");
-    }
-    for (size_t i = 0; i < COUNTERS; i++) {
-        const struct pomarisco_counter k = pomarisco_counter_at(&outstation, i);
-        expect(k.class_ == 1 + i % 3 && k.limit == 90000 + i && k.count == 0 && k.flags == 2 && k.seen == 0 && k.frozen == 0 && k.frozen_flags == 2, "a counter");
     }
     for (size_t i = 0; i < OUTPUTS; i++) {
         const struct pomarisco_analog_output a = pomarisco_analog_output_at(&outstation, i), s = setup.analog_outputs[i];
@@ -139,32 +133,6 @@ static void layout(void) {
     expect(operated.analog_commands.count == 1 && c->index == 10 && c->kind == 0 && pomarisco_bits_whole(c->bits) == -70000, "a 32-bit set point");
 }
 
-/* Counts up to the limit and one more, which is an event; then freezes, of all, and of all but the first with clear. */
-static void layout_of_counters(void) {
-    const size_t held = pomarisco_held(&outstation);
-    for (uint32_t i = 0; i < COUNTERS; i++) {
-        const uint32_t counts[] = {0xFFFFFFF0 + i, 90000 + i, 1};
-        for (int k = 0; k < 3; k++) expect(pomarisco_reading(&outstation, pomarisco_counter_reading(10003, (uint16_t)i, counts[k], 5)) == 0, "a counter reading");
-    }
-    expect(pomarisco_held(&outstation) == held + COUNTERS, "counters' events");
-    for (size_t i = 0; i < COUNTERS; i++) {
-        const struct pomarisco_event e = pomarisco_event_at(&outstation, held + i);
-        const struct pomarisco_counter k = pomarisco_counter_at(&outstation, i);
-        const uint32_t count = (uint32_t)(2 * i + 89985); /* past 2^32 */
-        expect(e.kind == 4 && e.bits == count && e.time == 10003 && e.point == i && e.flags == 5 && e.class_ == 1 + i % 3 && e.carried == 0, "a counter's event");
-        expect(k.count == count && k.reported == count && k.flags == 5 && k.reported_flags == 5 && k.seen == 1 && k.frozen == 0 && k.frozen_flags == 2, "a read counter");
-    }
-    answer = pomarisco_fragment(&outstation, 10003, freeze_all, sizeof freeze_all, out, sizeof out, &operated);
-    expect(answer.kind == 0 && answer.length == 4, "a freeze");
-    answer = pomarisco_fragment(&outstation, 10003, clear_some, sizeof clear_some, out, sizeof out, &operated);
-    expect(answer.kind == 1 && answer.length == 0 && pomarisco_held(&outstation) == held + COUNTERS, "a freeze with clear, not answered");
-    for (size_t i = 0; i < COUNTERS; i++) {
-        const struct pomarisco_counter k = pomarisco_counter_at(&outstation, i);
-        const uint32_t count = (uint32_t)(2 * i + 89985), left = i == 0 ? count : 0;
-        expect(k.frozen == count && k.frozen_flags == 5 && k.count == left && k.reported == left && k.flags == 5 && k.reported_flags == 5 && k.seen == 1, "a frozen counter");
-    }
-}
-
 static void fill(void) {
     for (uint64_t i = 0; i < 400; i++) pomarisco_reading(&outstation, pomarisco_binary_reading(20000 + i, (uint16_t)(i % 64), (uint8_t)(i / 64 % 2), 1));
     expect(outstation.head.event_count == 256 && outstation.head.overflow == 1, "full");
@@ -191,13 +159,10 @@ static void nothing(void) {}
 static void restart(void) { refusal = pomarisco_restart(&outstation, setup, classes, 64, analogs, 63); }
 static void reading(void) { refusal = pomarisco_reading(&outstation, pomarisco_binary_reading(20600, 3, 0, 1)); }
 static void whole_reading(void) { refusal = pomarisco_reading(&outstation, pomarisco_whole_reading(20600, 3, 900000, 1)); }
-static void counter_reading(void) { refusal = pomarisco_reading(&outstation, pomarisco_counter_reading(20600, 3, 900000, 5)); }
 static void float_reading(void) { refusal = pomarisco_reading(&outstation, pomarisco_float_reading(20600, 2, 900000.0f, 1)); }
 static void tables(void) { refusal = pomarisco_table(&outstation, table, 128, &taken); }
 static void read_events(void) { fragment_call(events, sizeof events); }
 static void read_class_0(void) { fragment_call(class_0, sizeof class_0); }
-static void freeze(void) { fragment_call(freeze_all, sizeof freeze_all); }
-static void freeze_clear(void) { fragment_call(clear_all, sizeof clear_all); }
 static void control(void) { fragment_call(operate, sizeof operate); }
 static void select_one(void) { fragment_call(selects, sizeof selects); }
 static void select_eight(void) { fragment_call(controls, sizeof controls); }
@@ -292,9 +257,7 @@ static double time_of(void (*before)(void), void (*call)(void)) {
 int main(void) {
     static const struct { const char *name; void (*before)(void), (*call)(void); } calls[] = {
         {"restart", as_full, restart}, {"reading, binary", as_full, reading}, {"reading, whole", as_full, whole_reading}, {"reading, float", as_full, float_reading},
-        {"reading, counter", as_full, counter_reading},
         {"table of 128", as_full, tables}, {"fragment: READ events", as_full, read_events}, {"fragment: READ class 0", as_full, read_class_0},
-        {"fragment: freeze of all", as_full, freeze}, {"fragment: freeze of all with clear", as_full, freeze_clear},
         {"fragment: CONFIRM", as_full, confirm}, {"fragment: SELECT of 1", as_full, select_one}, {"fragment: SELECT of 8", as_full, select_eight},
         {"fragment: SELECT repeated", after_select, select_one}, {"fragment: OPERATE", after_select, operate_selected},
         {"fragment: DIRECT OPERATE", as_full, control}, {"fragment: SELECT of 8 set points", as_full, select_set_points},
@@ -305,7 +268,6 @@ int main(void) {
         {"segment_receive", as_full, segment_receive}, {"segment_receive, a repeat", two_segments, segment_again}, {"segment_send", as_full, segment_send}};
     prepare();
     layout();
-    layout_of_counters();
     fill();
     printf("layout %s, outstation %zu bytes\n", wrong ? "wrong" : "ok", sizeof outstation);
     const size_t base = stack_of(nothing);

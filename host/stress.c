@@ -12,7 +12,7 @@
 #include "pomarisco.h"
 
 enum { WHOLE = 1000, LINE = 100000, MOST_POINTS = 264, MOST_READINGS = 300, MOST_BYTES = 4096, FILL = 0xA5 };
-enum { CONFIRM = 38, OPERATE = 67, FREEZE = 100, KINDS = 110 }; /* where a fragment's kinds begin, and how many parts they share */
+enum { CONFIRM = 38, OPERATE = 67 }; /* where a fragment's kinds begin, of 100 */
 #define TIME_END ((uint64_t)1 << 48)
 #define LENGTH(a) (sizeof(a) / sizeof((a)[0]))
 
@@ -97,7 +97,6 @@ static size_t least(size_t a, size_t b) { return a < b ? a : b; }
 static struct pomarisco_head plain_head(struct pomarisco_head h) {
     h.binary_count = least(h.binary_count, POMARISCO_BINARIES);
     h.analog_count = least(h.analog_count, POMARISCO_ANALOGS);
-    h.counter_count = least(h.counter_count, POMARISCO_COUNTERS);
     h.event_count = least(h.event_count, POMARISCO_EVENTS);
     h.analog_outputs = (uint16_t)least(h.analog_outputs, POMARISCO_ANALOG_OUTPUTS);
     h.overflow = truth(h.overflow);
@@ -133,7 +132,6 @@ static void fold_head(const struct pomarisco_head *h) {
     fold(h->latch_time);
     fold(h->binary_count);
     fold(h->analog_count);
-    fold(h->counter_count);
     fold(h->event_count);
     fold(h->request_len);
     fold(h->answer_len);
@@ -184,14 +182,6 @@ static void fold_analog(const uint32_t *w) {
     }
 }
 
-static void fold_counter(const uint32_t *w) {
-    fold(unseen_reported(w[0] & 0x01FFFFFF));
-    for (int i = 1; i < 5; i++) {
-        fold(w[i]);
-    }
-    fold(w[5] & 0xFF);
-}
-
 static void fold_output(const uint32_t *w) {
     const uint32_t kind = w[0] < 2 ? w[0] : 2;
     fold(kind);
@@ -201,8 +191,8 @@ static void fold_output(const uint32_t *w) {
 }
 
 static void fold_event(const uint64_t *w) {
-    const uint32_t bits = (uint32_t)w[1], kind = (uint32_t)(w[1] >> 48 & 0xFF), shown = kind < 5 ? kind : 2;
-    const uint64_t number = shown == 3 ? bits != 0 : shown == 4 ? bits : plain_value(shown, bits);
+    const uint32_t bits = (uint32_t)w[1], kind = (uint32_t)(w[1] >> 48 & 0xFF), shown = kind < 4 ? kind : 2;
+    const uint64_t number = shown == 3 ? bits != 0 : plain_value(shown, bits);
     fold(w[0]);
     fold(number | (w[1] & (uint64_t)0xFFFF << 32) | (uint64_t)shown << 48 | (uint64_t)(w[1] >> 56 != 0) << 56);
 }
@@ -211,7 +201,7 @@ static void fold_event(const uint64_t *w) {
 
 static struct pomarisco_head head;
 static uint64_t *events;
-static uint32_t *binaries, *analogs, *counters, *analog_outputs;
+static uint32_t *binaries, *analogs, *analog_outputs;
 static uint8_t *request, *answer, *latch_objects;
 static uint8_t *out[LENGTH(lengths)];
 
@@ -221,9 +211,6 @@ static void fold_arrays(const struct pomarisco_head *h) {
     }
     for (size_t i = 0; i < h->analog_count; i++) {
         fold_analog(analogs + 8 * i);
-    }
-    for (size_t i = 0; i < h->counter_count; i++) {
-        fold_counter(counters + 6 * i);
     }
     for (size_t i = 0; i < h->analog_outputs; i++) {
         fold_output(analog_outputs + 3 * i);
@@ -337,7 +324,7 @@ static void make_call(void) {
     if (call.kind == RESTART) {
         uint8_t *classes = copy(call.classes, call.class_count);
         struct pomarisco_analog_setup *setups = copy(call.setups, call.setup_count * sizeof *setups);
-        const struct pomarisco_restarted r = pomarisco_lent_restart(call.setup, classes, call.class_count, setups, call.setup_count, binaries, analogs, counters, analog_outputs);
+        const struct pomarisco_restarted r = pomarisco_lent_restart(call.setup, classes, call.class_count, setups, call.setup_count, binaries, analogs, analog_outputs);
         head = r.head;
         result.refusal = r.refusal;
         station = (struct pomarisco_station){call.setup.own, call.setup.master};
@@ -347,13 +334,13 @@ static void make_call(void) {
         free(classes);
         free(setups);
     } else if (call.kind == READING) {
-        const struct pomarisco_took r = pomarisco_lent_reading(head, binaries, analogs, counters, events, call.readings[0]);
+        const struct pomarisco_took r = pomarisco_lent_reading(head, binaries, analogs, events, call.readings[0]);
         head = r.head;
         result.refusal = r.refusal;
         result.taken = r.refusal == 0;
     } else if (call.kind == TABLE) {
         struct pomarisco_reading *readings = copy(call.readings, call.reading_count * sizeof *readings);
-        const struct pomarisco_table_took r = pomarisco_lent_table(head, binaries, analogs, counters, events, readings, call.reading_count);
+        const struct pomarisco_table_took r = pomarisco_lent_table(head, binaries, analogs, events, readings, call.reading_count);
         head = r.head;
         result.refusal = r.refusal;
         result.taken = r.taken;
@@ -362,7 +349,7 @@ static void make_call(void) {
         line_call();
     } else {
         uint8_t *bytes = copy(call.bytes, call.length);
-        const struct pomarisco_answer r = pomarisco_lent_fragment(head, binaries, analogs, counters, events, request, answer, latch_objects, analog_outputs, call.time, bytes, call.length, out[call.out], lengths[call.out]);
+        const struct pomarisco_answer r = pomarisco_lent_fragment(head, binaries, analogs, events, request, answer, latch_objects, analog_outputs, call.time, bytes, call.length, out[call.out], lengths[call.out]);
         head = r.head;
         result.refusal = r.answer.refusal;
         result.kind = r.answer.kind;
@@ -411,7 +398,6 @@ enum count {
     RESTART_TAKEN,
     RESTART_REFUSED,
     READING_TAKEN,
-    COUNTER_TAKEN,
     READING_TIME,
     READING_POINT,
     READING_FINITE,
@@ -425,7 +411,6 @@ enum count {
     FRAGMENT_LENT,
     CONFIRM_ACCEPTED,
     REPEAT,
-    REPEAT_FREEZE,
     READ_CON,
     READ_PLAIN,
     READ_FAULT,
@@ -443,11 +428,6 @@ enum count {
     DIRECT_SETS,
     DIRECT_OTHER,
     NO_RESPONSE,
-    FREEZE_ANSWERED,
-    CLEAR_ANSWERED,
-    FREEZE_FAULT,
-    FREEZE_NO_RESPONSE,
-    CLEAR_NO_RESPONSE,
     OTHER_FUNCTION,
     RELAYS,
     SETS_32,
@@ -482,7 +462,6 @@ static const char *const names[COUNTS] = {
     "restart taken",
     "restart refused 5",
     "reading taken",
-    "counter reading taken",
     "reading refused 1",
     "reading refused 2",
     "reading refused 3",
@@ -496,7 +475,6 @@ static const char *const names[COUNTS] = {
     "fragment refused 33",
     "CONFIRM accepted",
     "repeat",
-    "repeat of a freeze",
     "READ that awaits a CONFIRM",
     "READ without CON",
     "READ with a fault",
@@ -514,11 +492,6 @@ static const char *const names[COUNTS] = {
     "DIRECT OPERATE of analog outputs carried out",
     "DIRECT OPERATE not carried out",
     "DIRECT OPERATE NO RESPONSE",
-    "freeze answered",
-    "freeze with clear answered",
-    "freeze with a fault",
-    "freeze NO RESPONSE",
-    "freeze with clear NO RESPONSE",
     "another function",
     "relays' objects handed to the host",
     "32-bit set points handed to the host",
@@ -558,11 +531,10 @@ static struct {
     struct pomarisco_setup setup;
     uint8_t classes[POMARISCO_BINARIES];
     struct pomarisco_analog_setup setups[POMARISCO_ANALOGS];
-    uint32_t binaries, analogs, counters, outputs, analog_outputs;
+    uint32_t binaries, analogs, outputs, analog_outputs;
     uint64_t arm_time, confirm_time;
     uint8_t states[64], kinds[64];
     uint32_t limits[64], given[64];
-    uint32_t counted[32]; /* counts given of each counter since it may have reported */
     uint8_t sequence;
     int waiting;
     uint8_t wait_sequence;
@@ -590,7 +562,6 @@ static struct {
 #define WHOLES 0, 100, 32767, 32768, 0xFFFF8000, 0xFFFF7FFF, 0x7FFFFFFF, 0x80000000, 0xFFFFFFFF
 #define WHOLE_LIMITS 0, 1, 5, 100, 0x7FFFFFFF, 0xFFFFFFFF
 #define FLOAT_LIMITS 0, 0x80000000, 0x3F000000, 0x3F800000, 0x41200000, 0x00000001, 0x7F7FFFFF
-#define COUNTER_LIMITS 0, 0, 1, 5, 20, 100, 0x7FFFFFFF, 0x80000000, 0xFFFFFFFE, 0xFFFFFFFF
 #define GAINS 0x3F800000, 0x3F800000, 0x40000000, 0x3DCCCCCD, 0xBF800000, 0x7F7FFFFF, 0x3F800001, 0
 #define OFFSETS 0, 0, 0x80000000, 0x3F800000, 0xBF800002, 0x3DCCCCCD
 #define CODES 0x01, 0x03, 0x04, 0x41, 0x81
@@ -641,19 +612,6 @@ static struct pomarisco_analog_setup some_analog(void) {
     return a;
 }
 
-/* Those past the count are anything. */
-static void some_counters(struct pomarisco_setup *s) {
-    for (uint32_t i = 0; i < POMARISCO_COUNTERS; i++) {
-        if (i < s->counter_count) {
-            const uint8_t class_ = some_class();
-            s->counters[i] = pomarisco_counter_of(class_, PICK(COUNTER_LIMITS));
-        } else {
-            const uint8_t class_ = (uint8_t)below(256);
-            s->counters[i] = pomarisco_counter_of(class_, any());
-        }
-    }
-}
-
 static struct pomarisco_analog_output some_output(uint32_t kind) {
     const uint32_t *pair = ends[kind][below(ENDS)];
     /* Any other number is a float's. */
@@ -702,10 +660,9 @@ static void some_restart(int broken) {
     s->master = (uint16_t)((own + 1 + below(100)) % 65520);
     s->outputs = (uint16_t)PICK(0, 1, 8, 16, 16);
     s->analog_output_count = (uint16_t)PICK(0, 1, 8, 16, 16);
-    s->counter_count = (uint16_t)PICK(0, 1, 8, 32, 32);
     call.class_count = some_points();
     call.setup_count = some_points();
-    const uint32_t fault = broken ? 1 + below(19) : 0;
+    const uint32_t fault = broken ? 1 + below(17) : 0;
     switch (fault) {
     case 1: call.class_count = 65 + below(MOST_POINTS - 64); break;
     case 2: call.setup_count = 65 + below(MOST_POINTS - 64); break;
@@ -717,7 +674,6 @@ static void some_restart(int broken) {
     case 8: s->confirm_time = 0; break;
     case 9: s->confirm_time = 60001 + below(1000); break;
     case 14: s->analog_output_count = (uint16_t)(17 + below(65519)); break;
-    case 18: s->counter_count = (uint16_t)(33 + (chance(50) ? 0 : below(65503))); break;
     default: break;
     }
     for (size_t i = 0; i < call.class_count; i++) {
@@ -727,7 +683,6 @@ static void some_restart(int broken) {
         call.setups[i] = some_analog();
     }
     some_outputs(s);
-    some_counters(s);
     if (fault == 10 && call.class_count > 0) {
         const uint32_t place = below((uint32_t)call.class_count);
         call.classes[place] = (uint8_t)(4 + below(252));
@@ -740,13 +695,9 @@ static void some_restart(int broken) {
         default: a->limit = 0x80000001 + below(0x7FFFFFFF); break;
         }
     }
-    if (fault > 14 && fault < 18 && s->analog_output_count > 0) {
+    if (fault > 14 && s->analog_output_count > 0) {
         const uint32_t place = below(s->analog_output_count);
         s->analog_outputs[place] = wrong_output(fault);
-    }
-    if (fault == 19 && s->counter_count > 0) {
-        const uint32_t place = below(s->counter_count);
-        s->counters[place].class_ = (uint8_t)(4 + below(252));
     }
 }
 
@@ -772,7 +723,6 @@ static void restarted(void) {
     memcpy(host.setups, call.setups, sizeof host.setups);
     host.binaries = (uint32_t)call.class_count;
     host.analogs = (uint32_t)call.setup_count;
-    host.counters = call.setup.counter_count;
     host.outputs = call.setup.outputs;
     host.analog_outputs = call.setup.analog_output_count;
     host.arm_time = call.setup.arm_time;
@@ -783,7 +733,6 @@ static void restarted(void) {
     }
     memset(host.states, 0, sizeof host.states);
     memset(host.given, 0, sizeof host.given);
-    memset(host.counted, 0, sizeof host.counted);
     host.waiting = 0;
     host.selected = 0;
     host.request_length = 0;
@@ -838,31 +787,13 @@ static uint32_t some_float(size_t i) {
     }
 }
 
-/* Often what is left to the limit, or next to that; else round 2^32. */
-static uint32_t some_counts(size_t i) {
-    const uint32_t limit = host.setup.counters[i].limit, left = limit - host.counted[i];
-    switch (below(12)) {
-    case 0:
-    case 1: return left;
-    case 2:
-    case 3: return left + 1;
-    case 4: return left - 1;
-    case 5: return limit / 2;
-    case 6: return 0;
-    case 7: return PICK(0xFFFFFFFF, 0x7FFFFFFF, 0x80000000, 0x80000001);
-    case 8: return 0 - host.counted[i];
-    case 9: return any();
-    default: return below(30);
-    }
-}
-
 static struct pomarisco_reading some_reading(uint64_t time) {
     uint32_t point, kind, bits;
-    const uint32_t inputs = host.binaries + host.analogs, points = inputs + host.counters;
+    const uint32_t points = host.binaries + host.analogs;
     if (points == 0 || chance(1)) {
         const uint32_t low = below(70);
-        point = PICK(low, low, 32, 64, 255, 256, 65535);
-        kind = below(5);
+        point = PICK(low, low, 64, 255, 256, 65535);
+        kind = below(4);
         bits = any();
     } else {
         const uint32_t place = below(points);
@@ -872,28 +803,20 @@ static struct pomarisco_reading some_reading(uint64_t time) {
             kind = 0;
             const uint32_t on = PICK(1, 1, 2, 0x80000000);
             bits = host.states[place] ? on : 0;
-        } else if (place >= inputs) {
-            point = place - inputs;
-            kind = 3;
-            bits = some_counts(point);
-            host.counted[point] += bits;
-            if (host.counted[point] > host.setup.counters[point].limit) {
-                host.counted[point] = 0;
-            }
         } else {
             point = place - host.binaries;
             if (host.kinds[point] < 2) {
                 kind = 1;
                 bits = some_whole(point);
             } else {
-                kind = chance(10) ? 4 + below(252) : 2;
+                kind = chance(10) ? 2 + below(254) : 2;
                 bits = some_float(point);
             }
             host.given[point] = bits;
         }
     }
     if (chance(1)) {
-        kind = below(5);
+        kind = below(4);
     }
     const uint32_t which = below(100);
     const uint32_t flags = which < 90 ? 1 : which < 99 ? below(32) : below(256);
@@ -923,8 +846,7 @@ static void some_table(int many) {
 
 static void took(void) {
     if (call.kind == READING) {
-        const enum count taken = call.readings[0].kind == 3 ? COUNTER_TAKEN : READING_TAKEN;
-        counts[result.refusal == 0 ? taken : result.refusal == 1 ? READING_TIME : result.refusal == 2 ? READING_POINT : result.refusal == 3 ? READING_FINITE : READING_FLAGS]++;
+        counts[result.refusal == 0 ? READING_TAKEN : result.refusal == 1 ? READING_TIME : result.refusal == 2 ? READING_POINT : result.refusal == 3 ? READING_FINITE : READING_FLAGS]++;
     } else {
         counts[result.refusal == 0 ? TABLE_TAKEN : TABLE_STOPPED]++;
         counts[TABLE_READINGS] += result.taken;
@@ -961,8 +883,31 @@ static void put3(uint32_t group, uint32_t variation, uint32_t qualifier) {
     put(qualifier);
 }
 
-/* A range of so many points, mostly of those that there are. */
-static void some_range(uint32_t points) {
+static void some_header(void) {
+    const uint32_t which = below(12);
+    if (which < 7) {
+        put3(60, which < 2 ? 1 : which < 4 ? 2 : which < 6 ? 3 : 4, 6);
+        return;
+    }
+    if (which == 11) {
+        if (chance(80)) {
+            put3(60, 2, 6);
+            return;
+        }
+        const uint32_t group = PICK(1, 2, 30, 32, 60, 80, 0);
+        const uint32_t variation = below(6);
+        put3(group, variation, PICK(0, 1, 6, 7, 8, 0x17, 0x28));
+        return;
+    }
+    const int analog = which == 8 || which == 10;
+    const uint32_t points = analog ? host.analogs : host.binaries;
+    const uint32_t two = chance(50) ? 2 : 0;
+    put(analog ? 30 : 1);
+    put(analog ? 0 : two);
+    if (which < 9) {
+        put(6);
+        return;
+    }
     uint32_t start = 0, stop = 0;
     if (points > 0) {
         start = below(points);
@@ -980,69 +925,6 @@ static void some_range(uint32_t points) {
         put3(1, start, 0);
         put(stop);
         put(0);
-    }
-}
-
-/* Counters, all or some: running or frozen ones. */
-static void some_counter_header(uint32_t group) {
-    put(group);
-    put(0);
-    if (chance(40)) {
-        put(6);
-    } else {
-        some_range(host.counters);
-    }
-}
-
-static void some_header(void) {
-    const uint32_t which = below(14);
-    if (which >= 12) {
-        some_counter_header(which == 12 ? 20 : 21);
-        return;
-    }
-    if (which < 7) {
-        put3(60, which < 2 ? 1 : which < 4 ? 2 : which < 6 ? 3 : 4, 6);
-        return;
-    }
-    if (which == 11) {
-        if (chance(80)) {
-            put3(60, 2, 6);
-            return;
-        }
-        const uint32_t group = PICK(1, 2, 20, 21, 22, 30, 32, 60, 80, 0);
-        const uint32_t variation = below(6);
-        put3(group, variation, PICK(0, 1, 6, 7, 8, 0x17, 0x28));
-        return;
-    }
-    const int analog = which == 8 || which == 10;
-    const uint32_t points = analog ? host.analogs : host.binaries;
-    const uint32_t two = chance(50) ? 2 : 0;
-    put(analog ? 30 : 1);
-    put(analog ? 0 : two);
-    if (which < 9) {
-        put(6);
-        return;
-    }
-    some_range(points);
-}
-
-/* The headers of a freeze: mostly one or a few right ones, or about as many as there may be; then and again another object, or a byte too many. */
-static void some_freeze(void) {
-    const uint32_t which = below(10);
-    const uint32_t headers = which == 0 ? below(18) : which == 1 ? 15 + below(3) : 1 + below(3);
-    for (uint32_t i = 0; i < headers; i++) {
-        if (which == 1) {
-            put3(20, 0, 6);
-        } else if (chance(95)) {
-            some_counter_header(20);
-        } else {
-            const uint32_t group = PICK(20, 21, 22, 30, 60);
-            const uint32_t variation = below(3);
-            put3(group, variation, PICK(0, 1, 6, 7));
-        }
-    }
-    if (chance(4)) {
-        put(below(256));
     }
 }
 
@@ -1269,7 +1151,7 @@ static void some_fragment(void) {
     call.kind = FRAGMENT;
     call.time = some_time();
     host.other = COUNTS;
-    uint32_t which = below(KINDS);
+    uint32_t which = below(100);
     /* What is awaited comes soon, as a master would send it. */
     if (host.waiting && chance(30)) {
         which = CONFIRM;
@@ -1324,14 +1206,14 @@ static void some_fragment(void) {
     } else if (which <= 90) {
         put_bytes(host.request, host.request_length);
     } else if (which <= 93) {
-        begin(11 + below(117));
+        begin(7 + below(121));
         const uint32_t n = below(20);
         for (uint32_t i = 0; i < n; i++) {
             put(below(256));
         }
     } else if (which <= 95) {
         const size_t length = PICK(0, 1, 2, 2047, 2048, 2049, 3000);
-        begin(below(11));
+        begin(below(8));
         while (call.length < length) {
             put(below(256));
         }
@@ -1343,9 +1225,6 @@ static void some_fragment(void) {
         for (uint32_t i = 0; i < n; i++) {
             put(below(256));
         }
-    } else if (which >= FREEZE) {
-        begin(7 + below(4));
-        some_freeze();
     } else {
         /* The last request with one byte changed, or cut. */
         put_bytes(host.request, host.request_length);
@@ -1381,9 +1260,6 @@ static void answered(void) {
     const uint8_t sequence = call.bytes[0] % 16, function = call.bytes[1];
     if (function != 1 && call.length == host.request_length && memcmp(call.bytes, host.request, call.length) == 0) {
         counts[REPEAT]++;
-        if (function >= 7 && function <= 10) {
-            counts[REPEAT_FREEZE]++;
-        }
         return;
     }
     memcpy(host.request, call.bytes, call.length);
@@ -1427,10 +1303,6 @@ static void answered(void) {
         break;
     case 5: counts[!done ? DIRECT_OTHER : relays > 0 ? DIRECT_RELAYS : DIRECT_SETS]++; break;
     case 6: counts[NO_RESPONSE]++; break;
-    case 7: counts[(bytes[3] & 7) != 0 ? FREEZE_FAULT : FREEZE_ANSWERED]++; break;
-    case 8: counts[FREEZE_NO_RESPONSE]++; break;
-    case 9: counts[(bytes[3] & 7) != 0 ? FREEZE_FAULT : CLEAR_ANSWERED]++; break;
-    case 10: counts[CLEAR_NO_RESPONSE]++; break;
     default: counts[OTHER_FUNCTION]++; break;
     }
 }
@@ -1690,7 +1562,6 @@ int main(int argc, char **argv) {
     events = memset(block(512 * sizeof *events), FILL, 512 * sizeof *events);
     binaries = memset(block(64 * sizeof *binaries), FILL, 64 * sizeof *binaries);
     analogs = memset(block(512 * sizeof *analogs), FILL, 512 * sizeof *analogs);
-    counters = memset(block(192 * sizeof *counters), FILL, 192 * sizeof *counters);
     analog_outputs = memset(block(48 * sizeof *analog_outputs), FILL, 48 * sizeof *analog_outputs);
     request = memset(block(2048), FILL, 2048);
     answer = memset(block(113), FILL, 113);
@@ -1719,7 +1590,6 @@ int main(int argc, char **argv) {
     free(events);
     free(binaries);
     free(analogs);
-    free(counters);
     free(analog_outputs);
     free(request);
     free(answer);

@@ -13,7 +13,7 @@
  *  - Of a reading and of an analog's setup only the fields named with its kind count; of a wait, a last request or a latch
  *    that is not there, none. Array elements past the count do not count.
  *  - A count of the head above its array's length means all of the array. (Over 64 classes or analog setups lent to restart are refused, 5, and so
- *    are over 16 analog outputs or over 32 counters of a setup.)
+ *    are over 16 analog outputs of a setup.)
  * From restart on, changed by calls alone, no count passes its array. What does not count may change in any call, also in a refused
  * one: compare meanings, not bytes.
  *
@@ -70,7 +70,6 @@
 
 #define POMARISCO_BINARIES 64      /* most binary inputs */
 #define POMARISCO_ANALOGS 64       /* most analog inputs */
-#define POMARISCO_COUNTERS 32      /* most counters */
 #define POMARISCO_ANALOG_OUTPUTS 16 /* most analog outputs */
 #define POMARISCO_EVENTS 256       /* most events held */
 #define POMARISCO_CONTROLS 8       /* most objects handed over by one fragment */
@@ -90,7 +89,6 @@ struct pomarisco_head {            /* all of the state that is no array. Times i
     uint64_t latch_time;           /* of the SELECT */
     size_t binary_count;           /* installed binary inputs */
     size_t analog_count;           /* installed analog inputs */
-    size_t counter_count;          /* installed counters */
     size_t event_count;            /* held events */
     size_t request_len;            /* length of the last accepted request */
     size_t answer_len;             /* length of its answer; 0: there is none, as for a READ */
@@ -108,14 +106,14 @@ struct pomarisco_head {            /* all of the state that is no array. Times i
     uint16_t analog_outputs;       /* installed analog outputs */
 };
 
-/* A host allocates one, once. Words of the arrays are numbers (bit 0 is the lowest); pomarisco_binary_at, _analog_at, _counter_at, _analog_output_at and
- * _event_at read them. */
+/* A host allocates one, once. Words of the arrays are numbers (bit 0 is the lowest); pomarisco_binary_at, _analog_at, _analog_output_at and _event_at
+ * read them. */
 struct pomarisco_outstation {
     struct pomarisco_head head;
 
     /* Two words an event, oldest first. The first: time, bits 0 to 47; point, 48 to 63. The second: what it shows, bits 0 to 31; flags
      * without the state bit, 32 to 39; class, 40 to 47; kind of what it shows, 48 to 55 (0: a 32-bit value, 1: a 16-bit value, 3: a binary's
-     * state, 4: a counter's count, any other: a float's bits); 56 to 63 a truth: it is in the response that awaits confirmation. */
+     * state, any other: a float's bits); 56 to 63 a truth: it is in the response that awaits confirmation. */
     uint64_t events[2 * POMARISCO_EVENTS];
 
     /* One word a point: class, bits 0 to 7; flags, 8 to 15; flags last reported, 16 to 23; seen (there was a reading), bit 24; state, bit 25. */
@@ -126,10 +124,6 @@ struct pomarisco_outstation {
      * shows it, limit, value last reported, previous value, sum of the distances since that report, gain, offset. Of a float point these are
      * floats' bits; of others the reported and the previous value are readings before clamping, and gain and offset do not count. */
     uint32_t analogs[8 * POMARISCO_ANALOGS];
-
-    /* Six words a counter. The first: class, bits 0 to 7; flags, 8 to 15; flags last reported, 16 to 23; seen, bit 24. Then count, limit, count last
-     * reported, frozen count, and frozen flags, bits 0 to 7. */
-    uint32_t counters[6 * POMARISCO_COUNTERS];
 
     /* Three words an output: kind (0: 32-bit, 1: 16-bit, any other: float), first end, second end, as the setup gave them. */
     uint32_t analog_outputs[3 * POMARISCO_ANALOG_OUTPUTS];
@@ -150,17 +144,10 @@ struct pomarisco_analog_output {
     uint8_t kind;
 };
 
-/* A counter. Its readings bring counts, which are added modulo 2^32; a count further than the limit from the one last reported, counted forward modulo
- * 2^32, is an event. Limit 0: any change; 2^32 - 1: none. */
-struct pomarisco_counter_setup {
-    uint32_t limit;
-    uint8_t class_;
-};
-
 /* Limits (else 5): addresses 0 to 65,519 and different; arm time at most 64,000 ms; confirm time 1 to 60,000 ms; at most 16
- * outputs (relays), 16 analog outputs, 64 binaries, 64 analogs, 32 counters; classes 0 to 3; gain, offset and a float limit finite, the limit not below
- * 0; an analog output's ends finite, of a 16-bit one -32,768 to 32,767, the first not above the second. All 0 from analog_output_count on: no analog
- * outputs and no counters. Relays and analog outputs are numbered apart, both from 0, and so are binaries, analogs and counters. */
+ * outputs (relays), 16 analog outputs, 64 binaries, 64 analogs; classes 0 to 3; gain, offset and a float limit finite, the limit not below 0; an
+ * analog output's ends finite, of a 16-bit one -32,768 to 32,767, the first not above the second. All 0 from analog_output_count on: no analog outputs.
+ * Relays and analog outputs are numbered apart, both from 0. */
 struct pomarisco_setup {
     uint32_t arm_time;
     uint32_t confirm_time;
@@ -169,8 +156,6 @@ struct pomarisco_setup {
     uint16_t outputs;
     uint16_t analog_output_count;  /* the first so many of these */
     struct pomarisco_analog_output analog_outputs[POMARISCO_ANALOG_OUTPUTS];
-    uint16_t counter_count;        /* the first so many of these */
-    struct pomarisco_counter_setup counters[POMARISCO_COUNTERS];
 };
 
 /* kind 0: a 32-bit point; 1: a 16-bit point; any other: a float point, for which limit, gain and offset are floats' bits. gate: what change of the value
@@ -189,8 +174,7 @@ struct pomarisco_analog_setup {
     uint8_t gate;
 };
 
-/* kind 0: a binary's state, bits a truth; 1: a whole reading, bits an int32_t; 3: a counter's, bits the counts to add; any other: a float's bits. */
-struct pomarisco_reading {
+struct pomarisco_reading {         /* kind 0: a binary's state, bits a truth; 1: a whole reading, bits an int32_t; any other: a float's bits */
     uint64_t time;                 /* milliseconds below 2^48, not before the last accepted call's */
     uint32_t bits;
     uint16_t point;
@@ -358,24 +342,23 @@ struct pomarisco_sending {
 #endif
 #define POMARISCO_SIZE(s, n) POMARISCO_IS(sizeof(struct pomarisco_##s), n)
 #define POMARISCO_AT(s, field, n) POMARISCO_IS(offsetof(struct pomarisco_##s, field), n)
-POMARISCO_SIZE(head, 112); POMARISCO_AT(head, arm_time, 0); POMARISCO_AT(head, confirm_time, 8); POMARISCO_AT(head, clock, 16); POMARISCO_AT(head, wait_time, 24); POMARISCO_AT(head, latch_time, 32); POMARISCO_AT(head, binary_count, 40); POMARISCO_AT(head, analog_count, 48); POMARISCO_AT(head, counter_count, 56); POMARISCO_AT(head, event_count, 64); POMARISCO_AT(head, request_len, 72); POMARISCO_AT(head, answer_len, 80); POMARISCO_AT(head, latch_len, 88); POMARISCO_AT(head, outputs, 96); POMARISCO_AT(head, overflow, 98); POMARISCO_AT(head, restarted, 99); POMARISCO_AT(head, waiting, 100); POMARISCO_AT(head, wait_sequence, 101); POMARISCO_AT(head, showed_overflow, 102); POMARISCO_AT(head, dropped_since, 103); POMARISCO_AT(head, request_kept, 104); POMARISCO_AT(head, latch_armed, 105); POMARISCO_AT(head, latch_sequence, 106); POMARISCO_AT(head, analog_outputs, 108);
-POMARISCO_SIZE(outstation, 9744); POMARISCO_AT(outstation, head, 0); POMARISCO_AT(outstation, events, 112); POMARISCO_AT(outstation, binaries, 4208); POMARISCO_AT(outstation, analogs, 4464); POMARISCO_AT(outstation, counters, 6512); POMARISCO_AT(outstation, analog_outputs, 7280); POMARISCO_AT(outstation, request, 7472); POMARISCO_AT(outstation, answer, 9520); POMARISCO_AT(outstation, latch_objects, 9633);
+POMARISCO_SIZE(head, 104); POMARISCO_AT(head, arm_time, 0); POMARISCO_AT(head, confirm_time, 8); POMARISCO_AT(head, clock, 16); POMARISCO_AT(head, wait_time, 24); POMARISCO_AT(head, latch_time, 32); POMARISCO_AT(head, binary_count, 40); POMARISCO_AT(head, analog_count, 48); POMARISCO_AT(head, event_count, 56); POMARISCO_AT(head, request_len, 64); POMARISCO_AT(head, answer_len, 72); POMARISCO_AT(head, latch_len, 80); POMARISCO_AT(head, outputs, 88); POMARISCO_AT(head, overflow, 90); POMARISCO_AT(head, restarted, 91); POMARISCO_AT(head, waiting, 92); POMARISCO_AT(head, wait_sequence, 93); POMARISCO_AT(head, showed_overflow, 94); POMARISCO_AT(head, dropped_since, 95); POMARISCO_AT(head, request_kept, 96); POMARISCO_AT(head, latch_armed, 97); POMARISCO_AT(head, latch_sequence, 98); POMARISCO_AT(head, analog_outputs, 100);
+POMARISCO_SIZE(outstation, 8968); POMARISCO_AT(outstation, head, 0); POMARISCO_AT(outstation, events, 104); POMARISCO_AT(outstation, binaries, 4200); POMARISCO_AT(outstation, analogs, 4456); POMARISCO_AT(outstation, analog_outputs, 6504); POMARISCO_AT(outstation, request, 6696); POMARISCO_AT(outstation, answer, 8744); POMARISCO_AT(outstation, latch_objects, 8857);
 POMARISCO_SIZE(analog_output, 12); POMARISCO_AT(analog_output, low, 0); POMARISCO_AT(analog_output, high, 4); POMARISCO_AT(analog_output, kind, 8);
-POMARISCO_SIZE(counter_setup, 8); POMARISCO_AT(counter_setup, limit, 0); POMARISCO_AT(counter_setup, class_, 4);
-POMARISCO_SIZE(setup, 468); POMARISCO_AT(setup, arm_time, 0); POMARISCO_AT(setup, confirm_time, 4); POMARISCO_AT(setup, own, 8); POMARISCO_AT(setup, master, 10); POMARISCO_AT(setup, outputs, 12); POMARISCO_AT(setup, analog_output_count, 14); POMARISCO_AT(setup, analog_outputs, 16); POMARISCO_AT(setup, counter_count, 208); POMARISCO_AT(setup, counters, 212);
+POMARISCO_SIZE(setup, 208); POMARISCO_AT(setup, arm_time, 0); POMARISCO_AT(setup, confirm_time, 4); POMARISCO_AT(setup, own, 8); POMARISCO_AT(setup, master, 10); POMARISCO_AT(setup, outputs, 12); POMARISCO_AT(setup, analog_output_count, 14); POMARISCO_AT(setup, analog_outputs, 16);
 POMARISCO_SIZE(analog_setup, 16); POMARISCO_AT(analog_setup, limit, 0); POMARISCO_AT(analog_setup, gain, 4); POMARISCO_AT(analog_setup, offset, 8); POMARISCO_AT(analog_setup, class_, 12); POMARISCO_AT(analog_setup, kind, 13); POMARISCO_AT(analog_setup, gate, 14);
 POMARISCO_SIZE(reading, 16); POMARISCO_AT(reading, time, 0); POMARISCO_AT(reading, bits, 8); POMARISCO_AT(reading, point, 12); POMARISCO_AT(reading, kind, 14); POMARISCO_AT(reading, flags, 15);
 POMARISCO_SIZE(station, 4); POMARISCO_AT(station, own, 0); POMARISCO_AT(station, master, 2);
-POMARISCO_SIZE(restarted, 120); POMARISCO_AT(restarted, head, 0); POMARISCO_AT(restarted, refusal, 112);
-POMARISCO_SIZE(took, 120); POMARISCO_AT(took, head, 0); POMARISCO_AT(took, refusal, 112);
-POMARISCO_SIZE(table_took, 128); POMARISCO_AT(table_took, taken, 0); POMARISCO_AT(table_took, head, 8); POMARISCO_AT(table_took, refusal, 120);
+POMARISCO_SIZE(restarted, 112); POMARISCO_AT(restarted, head, 0); POMARISCO_AT(restarted, refusal, 104);
+POMARISCO_SIZE(took, 112); POMARISCO_AT(took, head, 0); POMARISCO_AT(took, refusal, 104);
+POMARISCO_SIZE(table_took, 120); POMARISCO_AT(table_took, taken, 0); POMARISCO_AT(table_took, head, 8); POMARISCO_AT(table_took, refusal, 112);
 POMARISCO_SIZE(crob, 16); POMARISCO_AT(crob, on_time, 0); POMARISCO_AT(crob, off_time, 4); POMARISCO_AT(crob, index, 8); POMARISCO_AT(crob, code, 10); POMARISCO_AT(crob, count, 11); POMARISCO_AT(crob, status, 12);
 POMARISCO_SIZE(crobs, 136); POMARISCO_AT(crobs, items, 0); POMARISCO_AT(crobs, count, 128);
 POMARISCO_SIZE(analog_command, 8); POMARISCO_AT(analog_command, bits, 0); POMARISCO_AT(analog_command, index, 4); POMARISCO_AT(analog_command, kind, 6); POMARISCO_AT(analog_command, status, 7);
 POMARISCO_SIZE(analog_commands, 72); POMARISCO_AT(analog_commands, items, 0); POMARISCO_AT(analog_commands, count, 64);
 POMARISCO_SIZE(operated, 208); POMARISCO_AT(operated, crobs, 0); POMARISCO_AT(operated, analog_commands, 136);
 POMARISCO_SIZE(fragment_answer, 16); POMARISCO_AT(fragment_answer, length, 0); POMARISCO_AT(fragment_answer, kind, 8); POMARISCO_AT(fragment_answer, refusal, 9);
-POMARISCO_SIZE(answer, 336); POMARISCO_AT(answer, head, 0); POMARISCO_AT(answer, operated, 112); POMARISCO_AT(answer, answer, 320);
+POMARISCO_SIZE(answer, 328); POMARISCO_AT(answer, head, 0); POMARISCO_AT(answer, operated, 104); POMARISCO_AT(answer, answer, 312);
 POMARISCO_SIZE(wrote, 16); POMARISCO_AT(wrote, size, 0); POMARISCO_AT(wrote, refusal, 8);
 POMARISCO_SIZE(frame, 16); POMARISCO_AT(frame, length, 0); POMARISCO_AT(frame, destination, 8); POMARISCO_AT(frame, source, 10); POMARISCO_AT(frame, control, 12); POMARISCO_AT(frame, refusal, 13); POMARISCO_AT(frame, block, 14);
 POMARISCO_SIZE(receiver, 304); POMARISCO_AT(receiver, kept, 0); POMARISCO_AT(receiver, bytes, 8);
@@ -399,23 +382,22 @@ extern "C" {
 #endif
 
 /* A fresh outstation: a restart keeps only the setup, so the host keeps that. Binary i has the class classes[i], analog i is set up by
- * setups[i]. Writes the words of points, counters and analog outputs, and leaves the other arrays: the head says that they are empty. Refusal 5: the head
- * then has no points, no counters and no outputs of either kind, and some words may be stored. The host also sets its receiver, its assembly and its sender to all 0; the
+ * setups[i]. Writes the words of points and analog outputs, and leaves the other arrays: the head says that they are empty. Refusal 5: the head then
+ * has no points and no outputs of either kind, and some words may be stored. The host also sets its receiver, its assembly and its sender to all 0; the
  * line record stays. */
-struct pomarisco_restarted pomarisco_lent_restart(struct pomarisco_setup setup, const uint8_t *classes, size_t class_count, const struct pomarisco_analog_setup *setups, size_t setup_count, uint32_t *binaries, uint32_t *analogs, uint32_t *counters, uint32_t *analog_outputs);
+struct pomarisco_restarted pomarisco_lent_restart(struct pomarisco_setup setup, const uint8_t *classes, size_t class_count, const struct pomarisco_analog_setup *setups, size_t setup_count, uint32_t *binaries, uint32_t *analogs, uint32_t *analog_outputs);
 
-/* One reading. Changes the point or counter, the held events with overflow, dropped_since, the clock. Refusals 1 to 4. */
-struct pomarisco_took pomarisco_lent_reading(struct pomarisco_head head, uint32_t *binaries, uint32_t *analogs, uint32_t *counters, uint64_t *events, struct pomarisco_reading reading);
+/* One reading. Changes the point, the held events with overflow, dropped_since, the clock. Refusals 1 to 4. */
+struct pomarisco_took pomarisco_lent_reading(struct pomarisco_head head, uint32_t *binaries, uint32_t *analogs, uint64_t *events, struct pomarisco_reading reading);
 
 /* A table of readings, each as if it came singly, up to the first refused one; that one and those after it change nothing. Refusals 1 to 4,
  * of the reading at `taken`. An empty table changes nothing. */
-struct pomarisco_table_took pomarisco_lent_table(struct pomarisco_head head, uint32_t *binaries, uint32_t *analogs, uint32_t *counters, uint64_t *events, const struct pomarisco_reading *readings, size_t count);
+struct pomarisco_table_took pomarisco_lent_table(struct pomarisco_head head, uint32_t *binaries, uint32_t *analogs, uint64_t *events, const struct pomarisco_reading *readings, size_t count);
 
-/* A fragment from the master at a time. Changes the held events with overflow, wait, last request and latch, restarted, the clock, and, by a freeze, the
- * counters that it names; not the points and not the analog outputs. Writes the answer, at most 2,048 bytes; functions 6, 8 and 10 have none. Hands over
- * the objects that the host is to carry out: a freeze is done when the call returns and hands over nothing. Refusals 1, 31 to 33. out_length at least
- * 2,048, else 33, whatever the fragment is. */
-struct pomarisco_answer pomarisco_lent_fragment(struct pomarisco_head head, const uint32_t *binaries, const uint32_t *analogs, uint32_t *counters, uint64_t *events, uint8_t *request, uint8_t *answer, uint8_t *latch_objects, const uint32_t *analog_outputs, uint64_t time, const uint8_t *fragment, size_t fragment_length, uint8_t *out, size_t out_length);
+/* A fragment from the master at a time. Changes the held events with overflow, wait, last request and latch, restarted, the clock; not the
+ * points and not the analog outputs. Writes the answer, at most 2,048 bytes. Hands over the objects that the host is to carry out. Refusals 1, 31 to 33.
+ * out_length at least 2,048, else 33, whatever the fragment is. */
+struct pomarisco_answer pomarisco_lent_fragment(struct pomarisco_head head, const uint32_t *binaries, const uint32_t *analogs, uint64_t *events, uint8_t *request, uint8_t *answer, uint8_t *latch_objects, const uint32_t *analog_outputs, uint64_t time, const uint8_t *fragment, size_t fragment_length, uint8_t *out, size_t out_length);
 
 /* Writes a frame with this control byte, any addresses. Changes the lent bytes only. out_length at least 292, else 33; user_length at most
  * 250, else 16. */
@@ -478,7 +460,7 @@ static inline int32_t pomarisco_bits_whole(uint32_t bits) {
     return z;
 }
 
-/* ---- readings, setups of analogs and counters, analog outputs */
+/* ---- readings, analog setups and analog outputs */
 
 static inline struct pomarisco_reading pomarisco_reading_of(uint64_t time, uint16_t point, uint8_t kind, uint32_t bits, uint8_t flags) {
     struct pomarisco_reading r;
@@ -500,11 +482,6 @@ static inline struct pomarisco_reading pomarisco_whole_reading(uint64_t time, ui
 
 static inline struct pomarisco_reading pomarisco_float_reading(uint64_t time, uint16_t point, float value, uint8_t flags) {
     return pomarisco_reading_of(time, point, 2, pomarisco_float_bits(value), flags);
-}
-
-/* So many counts since the last reading that was taken: a refused one adds nothing. */
-static inline struct pomarisco_reading pomarisco_counter_reading(uint64_t time, uint16_t point, uint32_t counts, uint8_t flags) {
-    return pomarisco_reading_of(time, point, 3, counts, flags);
 }
 
 static inline struct pomarisco_analog_setup pomarisco_point_of(uint8_t class_, uint8_t kind, uint32_t gain, uint32_t offset, uint8_t gate, uint32_t limit) {
@@ -533,13 +510,6 @@ static inline struct pomarisco_analog_setup pomarisco_point_float(uint8_t class_
     return pomarisco_point_of(class_, 2, pomarisco_float_bits(gain), pomarisco_float_bits(offset), gate, pomarisco_float_bits(limit));
 }
 
-static inline struct pomarisco_counter_setup pomarisco_counter_of(uint8_t class_, uint32_t limit) {
-    struct pomarisco_counter_setup c;
-    c.limit = limit;
-    c.class_ = class_;
-    return c;
-}
-
 static inline struct pomarisco_analog_output pomarisco_output_of(uint8_t kind, uint32_t low, uint32_t high) {
     struct pomarisco_analog_output a;
     a.low = low;
@@ -565,9 +535,9 @@ static inline struct pomarisco_analog_output pomarisco_output_float(float low, f
 
 /* ---- a look at the state. The structs here are this file's alone: the library has none of them */
 
-struct pomarisco_event {           /* kind 0: a 32-bit value; 1: a 16-bit value; 2: a float's bits; 3: a binary's state, 0 or 1; 4: a counter's count */
+struct pomarisco_event {           /* kind 0: a 32-bit value; 1: a 16-bit value; 2: a float's bits; 3: a binary's state, 0 or 1 */
     uint64_t time;
-    uint32_t bits;                 /* for kinds 0 and 1 see pomarisco_bits_whole, for kind 2 pomarisco_bits_float; of kind 4 the count itself */
+    uint32_t bits;                 /* for kinds 0 and 1 see pomarisco_bits_whole, for kind 2 pomarisco_bits_float */
     uint16_t point;
     uint8_t kind;
     uint8_t flags;                 /* without the state bit */
@@ -600,18 +570,6 @@ struct pomarisco_analog {          /* value and flags as READ shows them, also b
     uint8_t gate;                  /* 0: never; 1: any change; 2: beyond the limit; 3: the sum beyond it */
 };
 
-struct pomarisco_counter {         /* count and flags, running and frozen, as READ shows them, also before the first reading and the first freeze */
-    uint32_t count;
-    uint32_t limit;
-    uint32_t reported;             /* count last reported */
-    uint32_t frozen;               /* count of the last freeze */
-    uint8_t class_;
-    uint8_t flags;
-    uint8_t reported_flags;
-    uint8_t frozen_flags;
-    uint8_t seen;                  /* 1: there was a reading */
-};
-
 /* A value's bits as they are shown: 16-bit values are clamped. */
 static inline uint32_t pomarisco_value_bits(uint8_t kind, uint32_t bits) {
     const int32_t z = pomarisco_bits_whole(bits);
@@ -630,7 +588,7 @@ static inline struct pomarisco_event pomarisco_event_at(const struct pomarisco_o
     struct pomarisco_event e;
     e.time = a & (((uint64_t)1 << 48) - 1);
     e.point = (uint16_t)(a >> 48);
-    e.kind = kind <= 4 ? kind : 2;
+    e.kind = kind <= 3 ? kind : 2;
     e.bits = kind == 3 ? (uint32_t)((uint32_t)b != 0) : pomarisco_value_bits(kind, (uint32_t)b);
     e.flags = (uint8_t)(b >> 32);
     e.class_ = (uint8_t)(b >> 40);
@@ -671,22 +629,6 @@ static inline struct pomarisco_analog pomarisco_analog_at(const struct pomarisco
     return p;
 }
 
-/* Counter i, below POMARISCO_COUNTERS. */
-static inline struct pomarisco_counter pomarisco_counter_at(const struct pomarisco_outstation *o, size_t i) {
-    const uint32_t *w = o->counters + 6 * i;
-    struct pomarisco_counter c;
-    c.class_ = (uint8_t)w[0];
-    c.flags = (uint8_t)(w[0] >> 8);
-    c.reported_flags = (uint8_t)(w[0] >> 16);
-    c.seen = w[0] >> 24 & 1;
-    c.count = w[1];
-    c.limit = w[2];
-    c.reported = w[3];
-    c.frozen = w[4];
-    c.frozen_flags = (uint8_t)w[5];
-    return c;
-}
-
 /* Analog output i, below POMARISCO_ANALOG_OUTPUTS, as a setup gives it; kind 2: float. */
 static inline struct pomarisco_analog_output pomarisco_analog_output_at(const struct pomarisco_outstation *o, size_t i) {
     const uint32_t *w = o->analog_outputs + 3 * i;
@@ -699,28 +641,28 @@ static inline struct pomarisco_analog_output pomarisco_analog_output_at(const st
 static inline const void *pomarisco_from(const void *p, size_t n, const void *some) { return n != 0 ? p : some; }
 static inline uint8_t *pomarisco_to(uint8_t *p, size_t n, void *some) { return n != 0 ? p : (uint8_t *)some; }
 
-/* Gives the refusal, 0 for none, as do the next two. After 5 *o has no points, no counters and no outputs of either kind. */
+/* Gives the refusal, 0 for none, as do the next two. After 5 *o has no points and no outputs of either kind. */
 static inline uint8_t pomarisco_restart(struct pomarisco_outstation *o, struct pomarisco_setup setup, const uint8_t *classes, size_t class_count, const struct pomarisco_analog_setup *analogs, size_t analog_count) {
-    const struct pomarisco_restarted r = pomarisco_lent_restart(setup, (const uint8_t *)pomarisco_from(classes, class_count, o), class_count, (const struct pomarisco_analog_setup *)pomarisco_from(analogs, analog_count, o), analog_count, o->binaries, o->analogs, o->counters, o->analog_outputs);
+    const struct pomarisco_restarted r = pomarisco_lent_restart(setup, (const uint8_t *)pomarisco_from(classes, class_count, o), class_count, (const struct pomarisco_analog_setup *)pomarisco_from(analogs, analog_count, o), analog_count, o->binaries, o->analogs, o->analog_outputs);
     o->head = r.head;
     return r.refusal;
 }
 
 static inline uint8_t pomarisco_reading(struct pomarisco_outstation *o, struct pomarisco_reading reading) {
-    const struct pomarisco_took r = pomarisco_lent_reading(o->head, o->binaries, o->analogs, o->counters, o->events, reading);
+    const struct pomarisco_took r = pomarisco_lent_reading(o->head, o->binaries, o->analogs, o->events, reading);
     o->head = r.head;
     return r.refusal;
 }
 
 static inline uint8_t pomarisco_table(struct pomarisco_outstation *o, const struct pomarisco_reading *readings, size_t count, size_t *taken) {
-    const struct pomarisco_table_took r = pomarisco_lent_table(o->head, o->binaries, o->analogs, o->counters, o->events, (const struct pomarisco_reading *)pomarisco_from(readings, count, o), count);
+    const struct pomarisco_table_took r = pomarisco_lent_table(o->head, o->binaries, o->analogs, o->events, (const struct pomarisco_reading *)pomarisco_from(readings, count, o), count);
     o->head = r.head;
     *taken = r.taken;
     return r.refusal;
 }
 
 static inline struct pomarisco_fragment_answer pomarisco_fragment(struct pomarisco_outstation *o, uint64_t time, const uint8_t *fragment, size_t fragment_length, uint8_t *out, size_t out_length, struct pomarisco_operated *operated) {
-    const struct pomarisco_answer r = pomarisco_lent_fragment(o->head, o->binaries, o->analogs, o->counters, o->events, o->request, o->answer, o->latch_objects, o->analog_outputs, time, (const uint8_t *)pomarisco_from(fragment, fragment_length, o), fragment_length, pomarisco_to(out, out_length, o), out_length);
+    const struct pomarisco_answer r = pomarisco_lent_fragment(o->head, o->binaries, o->analogs, o->events, o->request, o->answer, o->latch_objects, o->analog_outputs, time, (const uint8_t *)pomarisco_from(fragment, fragment_length, o), fragment_length, pomarisco_to(out, out_length, o), out_length);
     o->head = r.head;
     *operated = r.operated;
     return r.answer;

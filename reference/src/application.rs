@@ -1,23 +1,18 @@
 //! Fragments: refusals, requests and their answers, READ, WRITE, CONFIRM, repeats.
 
 use crate::control::{self, Control, Group, Latch};
-use crate::counters::Counter;
 use crate::events::Event;
 use crate::faults::{on, Fault};
-use crate::freeze::{
-    freeze_takes, freezes, FREEZE_AND_CLEAR_NO_RESPONSE, IMMEDIATE_FREEZE,
-    IMMEDIATE_FREEZE_NO_RESPONSE,
-};
 use crate::outstation::Outstation;
 use crate::points::Value;
 use crate::Refusal;
 
-pub const FRAGMENT: usize = 2048;
+const FRAGMENT: usize = 2048;
 
 /// The application control byte; the sequence is its low four bits.
 const FIR: u8 = 0x80;
 const FIN: u8 = 0x40;
-pub const CON: u8 = 0x20;
+const CON: u8 = 0x20;
 const UNS: u8 = 0x10;
 const SEQUENCE: u8 = 0x0F;
 
@@ -33,11 +28,10 @@ const RESPONSE: u8 = 129;
 const RESTARTED: u8 = 0x80;
 const FUNCTION_UNKNOWN: u8 = 0x01;
 const OBJECT_UNKNOWN: u8 = 0x02;
-pub const BAD_PARAMETER: u8 = 0x04;
+const BAD_PARAMETER: u8 = 0x04;
 const EVENTS_DROPPED: u8 = 0x08;
 
-/// The last accepted request and its answer (none for functions 6, 8 and 10; a READ's is never used
-/// again).
+/// The last accepted request and its answer (none for function 6; a READ's is never used again).
 #[derive(Clone, Debug)]
 pub struct Request {
     pub bytes: Vec<u8>,
@@ -60,18 +54,9 @@ pub struct Wait {
 pub enum Outcome {
     /// The answer's size in the lent output, and what is carried out.
     Answer(usize, Vec<Control>),
-    /// Functions 6, 8 and 10 are never answered.
+    /// Function 6 "is never answered".
     Mute(Vec<Control>),
     Confirmed,
-}
-
-/// An object header of a READ or a freeze: first point and the one after the last; of no meaning
-/// for group 60.
-pub struct Header {
-    pub group: u8,
-    pub variation: u8,
-    pub start: usize,
-    pub end: usize,
 }
 
 /// What a faultless READ asks for.
@@ -117,29 +102,32 @@ impl Outstation {
             WRITE => self.write(sequence, objects),
             SELECT => self.select(sequence, objects, latch),
             OPERATE => self.operate(sequence, objects, latch, &mut operated),
-            DIRECT_OPERATE | DIRECT_OPERATE_NO_RESPONSE => {
-                self.direct_operate(sequence, objects, &mut operated)
-            }
-            IMMEDIATE_FREEZE..=FREEZE_AND_CLEAR_NO_RESPONSE if !on(Fault::FreezeUnknown) => {
-                self.freeze(function, sequence, objects, wait, latch)
+            DIRECT_OPERATE => self.direct_operate(sequence, objects, &mut operated),
+            DIRECT_OPERATE_NO_RESPONSE => {
+                let answer = self.direct_operate(sequence, objects, &mut operated);
+                if on(Fault::SetAnswered) && objects.first() == Some(&41) {
+                    lent[..answer.len()].copy_from_slice(&answer);
+                    return Ok(Outcome::Answer(answer.len(), operated));
+                }
+                self.last_request = Some(Request {
+                    bytes: bytes.to_vec(),
+                    answer: None,
+                    operated: operated.clone(),
+                });
+                return Ok(Outcome::Mute(operated));
             }
             _ => self.answer(sequence, FUNCTION_UNKNOWN, &[]),
         };
-        let answer = Some(answer).filter(|answer| answered(function, objects, answer));
-        if !(on(Fault::RepeatPastRead) && function == READ
-            || on(Fault::FreezeNotLast) && freezes(function) && answer.is_none())
-        {
+        lent[..answer.len()].copy_from_slice(&answer);
+        let length = answer.len();
+        if !(on(Fault::RepeatPastRead) && function == READ) {
             self.last_request = Some(Request {
                 bytes: bytes.to_vec(),
-                answer: answer.clone(),
+                answer: Some(answer),
                 operated: operated.clone(),
             });
         }
-        let Some(answer) = answer else {
-            return Ok(Outcome::Mute(operated));
-        };
-        lent[..answer.len()].copy_from_slice(&answer);
-        Ok(Outcome::Answer(answer.len(), operated))
+        Ok(Outcome::Answer(length, operated))
     }
 
     /// "A request equal in every byte to the last accepted request, not a READ, is a repeat: the
@@ -148,15 +136,6 @@ impl Outstation {
         let last = self.last_request.as_ref()?;
         if last.bytes != bytes || (bytes[1] == READ && !on(Fault::ReadRepeats)) {
             return None;
-        }
-        let function = bytes[1];
-        if freezes(function) && on(Fault::FreezeRepeated) {
-            return None;
-        }
-        if function == IMMEDIATE_FREEZE_NO_RESPONSE && on(Fault::Freeze8RepeatAnswered) {
-            let answer = self.answer(bytes[0] & SEQUENCE, 0, &[]);
-            lent[..answer.len()].copy_from_slice(&answer);
-            return Some(Outcome::Answer(answer.len(), Vec::new()));
         }
         // What a fault carries out again.
         let again = |control: &&Control| {
@@ -225,7 +204,7 @@ impl Outstation {
     }
 
     /// An answer without CON that carries no events.
-    pub fn answer(&self, sequence: u8, fault: u8, objects: &[u8]) -> Vec<u8> {
+    fn answer(&self, sequence: u8, fault: u8, objects: &[u8]) -> Vec<u8> {
         let iin = self.indications(fault, &[]);
         let mut answer = vec![FIR | FIN | sequence, RESPONSE, iin[0], iin[1]];
         answer.extend_from_slice(objects);
@@ -264,147 +243,65 @@ impl Outstation {
         answer
     }
 
-    /// What a READ's headers ask for, or its fault.
+    /// A READ's headers: "Left to right, the first fault decides".
     fn walk(&self, objects: &[u8]) -> Result<Asked, u8> {
-        let (headers, fault) = self.headers(READ, objects);
-        if fault != 0 {
-            return Err(fault);
-        }
         let mut asked = Asked { classes: 0, static_part: Vec::new() };
-        let out = &mut asked.static_part;
-        for Header { group, variation, start, end } in headers {
-            match (group, variation) {
-                (60, 1) => self.static_all(out),
-                (60, _) => asked.classes |= 1 << (variation - 1),
-                (1, _) => self.static_binaries(start, end, out),
-                (20, _) => self.static_counters(start, end, out),
-                (21, _) => self.static_frozen(start, end, out),
-                (22, _) => {}
-                _ => self.static_analogs(start, end, out),
+        let mut rest = objects;
+        let mut headers = 0;
+        while !rest.is_empty() {
+            let most = if on(Fault::Headers17) { 17 } else { 16 };
+            if headers == most {
+                return Err(BAD_PARAMETER);
             }
+            if rest.len() < 3 {
+                return Err(BAD_PARAMETER);
+            }
+            let (group, variation, qualifier) = (rest[0], rest[1], rest[2]);
+            rest = &rest[3..];
+            // "object" is group and variation (R3.2).
+            match (group, variation) {
+                (60, 1..=4) | (1, 0) | (1, 2) | (30, 0) => {}
+                _ if on(Fault::UnknownObject22) => return Err(BAD_PARAMETER),
+                _ => return Err(OBJECT_UNKNOWN),
+            }
+            let width = match (group, qualifier) {
+                (_, 0x06) => 0,
+                (1 | 30, 0x00) => 1,
+                (1 | 30, 0x01) => 2,
+                _ => return Err(BAD_PARAMETER),
+            };
+            if rest.len() < 2 * width {
+                return Err(BAD_PARAMETER);
+            }
+            let points = if group == 1 { self.binaries.len() } else { self.analogs.len() };
+            // First point and the one after the last.
+            let (start, end) = if width == 0 {
+                (0, points)
+            } else {
+                let (start, stop) = (number(&rest[..width]), number(&rest[width..2 * width]));
+                if start > stop || stop >= points {
+                    return Err(BAD_PARAMETER);
+                }
+                (start, stop + 1)
+            };
+            rest = &rest[2 * width..];
+            match (group, variation) {
+                (60, 1) => {
+                    // "class 0 gives binaries, then analogs"
+                    self.static_binaries(0, self.binaries.len(), &mut asked.static_part);
+                    self.static_analogs(0, self.analogs.len(), &mut asked.static_part);
+                }
+                (60, _) => asked.classes |= 1 << (variation - 1),
+                (1, _) => self.static_binaries(start, end, &mut asked.static_part),
+                _ => self.static_analogs(start, end, &mut asked.static_part),
+            }
+            headers += 1;
         }
         // "then static part plus 4 above 2,048, 2.2"
         if asked.static_part.len() + 4 > fit() {
             return Err(BAD_PARAMETER);
         }
         Ok(asked)
-    }
-
-    /// The headers of a READ or a freeze: "Left to right, the first fault decides". Those before
-    /// the fault, and the fault, 0 for none.
-    pub fn headers(&self, function: u8, objects: &[u8]) -> (Vec<Header>, u8) {
-        let most = match function {
-            READ if on(Fault::Headers17) => 17,
-            READ => 16,
-            _ if on(Fault::FreezeHeaders17) => 17,
-            _ if on(Fault::FreezeHeaders15) => 15,
-            _ => 16,
-        };
-        let mut headers = Vec::new();
-        let mut rest = objects;
-        while !rest.is_empty() {
-            if headers.len() == most {
-                return (headers, BAD_PARAMETER);
-            }
-            match self.header(function, &mut rest) {
-                Ok(header) => headers.push(header),
-                Err(fault) => return (headers, fault),
-            }
-        }
-        (headers, 0)
-    }
-
-    /// The next header, taken off the front.
-    fn header(&self, function: u8, rest: &mut &[u8]) -> Result<Header, u8> {
-        let [group, variation, qualifier, range @ ..] = *rest else {
-            return Err(BAD_PARAMETER);
-        };
-        let (group, variation) = (*group, *variation);
-        let known = if function == READ {
-            read_takes(group, variation)
-        } else {
-            freeze_takes(group, variation)
-        };
-        if !known {
-            let late = freezes(function) && on(Fault::FreezeFaultOrder);
-            if on(Fault::UnknownObject22) && function == READ
-                || late && !matches!(qualifier, 0x00 | 0x01 | 0x06)
-            {
-                return Err(BAD_PARAMETER);
-            }
-            return Err(OBJECT_UNKNOWN);
-        }
-        let width = match (group, qualifier) {
-            (_, 0x06) => 0,
-            (60, _) => return Err(BAD_PARAMETER),
-            (_, 0x00) => 1,
-            (_, 0x01) => 2,
-            _ => return Err(BAD_PARAMETER),
-        };
-        let (range, behind) = range.split_at_checked(2 * width).ok_or(BAD_PARAMETER)?;
-        *rest = behind;
-        let points = self.points(function, group);
-        if width == 0 {
-            return self.all(function, Header { group, variation, start: 0, end: points });
-        }
-        let (start, stop) = (number(&range[..width]), number(&range[width..]));
-        if start > stop || stop >= points {
-            return Err(BAD_PARAMETER);
-        }
-        Ok(Header { group, variation, start, end: stop + 1 })
-    }
-
-    /// The number of points that a header of that group may name.
-    fn points(&self, function: u8, group: u8) -> usize {
-        match group {
-            1 => self.binaries.len(),
-            20..=22 if freezes(function) && on(Fault::FreezeByAnalogs) => self.analogs.len(),
-            20..=22 => self.counters.len(),
-            _ => self.analogs.len(),
-        }
-    }
-
-    /// A header with qualifier 06. "with no counters 06 is faultless" (104.5).
-    fn all(&self, function: u8, header: Header) -> Result<Header, u8> {
-        let none = matches!(header.group, 20 | 21) && self.counters.is_empty();
-        if none
-            && on(if function == READ { Fault::CountersNoneFault } else { Fault::FreezeNoneFault })
-        {
-            return Err(BAD_PARAMETER);
-        }
-        Ok(header)
-    }
-
-    /// "class 0 gives binaries, then analogs"; "counters after analogs, running before frozen" (02,
-    /// 104).
-    fn static_all(&self, out: &mut Vec<u8>) {
-        let counters = self.counters.len();
-        self.static_binaries(0, self.binaries.len(), out);
-        if !on(Fault::Class0CountersFirst) {
-            self.static_analogs(0, self.analogs.len(), out);
-        }
-        if on(Fault::Class0FrozenFirst) {
-            self.static_frozen(0, counters, out);
-        }
-        self.static_counters(0, counters, out);
-        if !on(Fault::Class0FrozenFirst) && !on(Fault::Class0NoFrozen) {
-            self.static_frozen(0, counters, out);
-        }
-        if on(Fault::Class0CountersFirst) {
-            self.static_analogs(0, self.analogs.len(), out);
-        }
-    }
-
-    /// Running counters from `start` to before `end`, 20 var 1, under one header.
-    fn static_counters(&self, start: usize, end: usize, out: &mut Vec<u8>) {
-        let shown = self.counters[start..end].iter().map(Counter::shown);
-        static_counts(20, start, shown, out);
-    }
-
-    /// Frozen counters likewise, 21 var 1.
-    fn static_frozen(&self, start: usize, end: usize, out: &mut Vec<u8>) {
-        let shown = self.counters[start..end].iter().map(Counter::shown_frozen);
-        static_counts(21, start, shown, out);
     }
 
     /// Binaries from `start` to before `end`, 1 var 2, under one header; none if there are none.
@@ -449,14 +346,8 @@ impl Outstation {
         let mut carried = Vec::new();
         for event in self.events.held.iter().filter(|event| classes & 1 << event.class != 0) {
             let object = event_object(event.value);
-            let counts = matches!(event.value, Value::Count(_));
-            let joins = runs.last().is_some_and(|(kind, _)| {
-                *kind == object || counts && *kind == (32, 3) && on(Fault::CounterUnderAnalog)
-            });
-            let mut size = 2 + value_size(event.value) + 6 + if joins { 0 } else { 5 };
-            if counts && on(Fault::CounterSize14) {
-                size += 1;
-            }
+            let joins = runs.last().is_some_and(|(kind, _)| *kind == object);
+            let size = 2 + value_size(event.value) + 6 + if joins { 0 } else { 5 };
             if size > room {
                 if on(Fault::EventPastFit) {
                     continue;
@@ -623,33 +514,6 @@ fn test_shape(bytes: &[u8]) -> Result<(), Refusal> {
     Ok(())
 }
 
-/// "Function 6 is never answered", "8 and 10 unanswered", faults included.
-fn answered(function: u8, objects: &[u8], answer: &[u8]) -> bool {
-    let faulty = answer[3] & (OBJECT_UNKNOWN | BAD_PARAMETER) != 0;
-    match function {
-        DIRECT_OPERATE_NO_RESPONSE => on(Fault::SetAnswered) && objects.first() == Some(&41),
-        _ if freezes(function) && on(Fault::FreezeUnknown) => true,
-        IMMEDIATE_FREEZE_NO_RESPONSE => {
-            on(Fault::Freeze8Answered) || faulty && on(Fault::FreezeFaultAnswered)
-        }
-        FREEZE_AND_CLEAR_NO_RESPONSE => {
-            on(Fault::Freeze10Answered) || faulty && on(Fault::FreezeFaultAnswered)
-        }
-        _ => true,
-    }
-}
-
-/// Whether a READ takes this object; "object" is group and variation (R3.2).
-fn read_takes(group: u8, variation: u8) -> bool {
-    match (group, variation) {
-        (60, 1..=4) | (1, 0) | (1, 2) | (30, 0) | (20, 0) | (21, 0) => true,
-        (20, 1) => on(Fault::Read20Var1),
-        (21, 1) => on(Fault::Read21Var1),
-        (22, 5) => on(Fault::Read22),
-        _ => false,
-    }
-}
-
 /// "Fragments are at most 2,048 bytes".
 fn fit() -> usize {
     if on(Fault::Fit2047) {
@@ -670,41 +534,23 @@ fn static_header(group: u8, variation: u8, start: usize, end: usize, out: &mut V
     out.extend_from_slice(&(end as u16 - 1).to_le_bytes());
 }
 
-/// Counts and their flags under one header, group 20 or 21 var 1; none if there are none.
-fn static_counts(
-    group: u8,
-    start: usize,
-    shown: impl ExactSizeIterator<Item = (u32, u8)>,
-    out: &mut Vec<u8>,
-) {
-    if shown.len() == 0 {
-        return;
-    }
-    static_header(group, 1, start, start + shown.len(), out);
-    for (count, flags) in shown {
-        put_value(Value::Count(count), flags, out);
-    }
-}
-
 /// "30 var 1, 2, 5".
 fn static_variation(value: Value) -> u8 {
     match value {
-        Value::State(_) | Value::Count(_) => unreachable!("no analog"),
+        Value::State(_) => unreachable!("no analog"),
         Value::Whole32(_) => 1,
         Value::Whole16(_) => 2,
         Value::Float(_) => 5,
     }
 }
 
-/// "Events are 2 var 2, 32 var 3 (32-bit), 4 (16-bit), 7 (float)", and 22 var 5 (02, 104).
+/// "Events are 2 var 2, 32 var 3 (32-bit), 4 (16-bit), 7 (float)".
 fn event_object(value: Value) -> (u8, u8) {
     match value {
         Value::State(_) => (2, 2),
         Value::Whole32(_) => (32, 3),
         Value::Whole16(_) => (32, 4),
         Value::Float(_) => (32, 7),
-        Value::Count(_) if on(Fault::CounterEventVar1) => (22, 1),
-        Value::Count(_) => (22, 5),
     }
 }
 
@@ -712,7 +558,7 @@ fn event_object(value: Value) -> (u8, u8) {
 fn value_size(value: Value) -> usize {
     match value {
         Value::State(_) => 1,
-        Value::Whole32(_) | Value::Float(_) | Value::Count(_) => 5,
+        Value::Whole32(_) | Value::Float(_) => 5,
         Value::Whole16(_) => 3,
     }
 }
@@ -732,10 +578,6 @@ fn put_value(value: Value, flags: u8, out: &mut Vec<u8>) {
         Value::Float(value) => {
             out.push(flags);
             out.extend_from_slice(&value.to_bits().to_le_bytes());
-        }
-        Value::Count(count) => {
-            out.push(flags);
-            out.extend_from_slice(&count.to_le_bytes());
         }
     }
 }

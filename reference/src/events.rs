@@ -29,17 +29,14 @@ impl Events {
     /// "An event raised while 256 are held is dropped; otherwise it is held." Tells whether it was
     /// dropped.
     pub fn raise(&mut self, class: u8, index: u8, value: Value, flags: u8, time: u64) -> bool {
-        if self.full() {
+        let places = if on(Fault::DropAt255) { PLACES - 1 } else { PLACES };
+        if self.held.len() >= places {
             self.warning = true;
             return true;
         }
         self.held.push(Event { number: self.raised, class, index, value, flags, time });
         self.raised += 1;
         false
-    }
-
-    pub fn full(&self) -> bool {
-        self.held.len() >= if on(Fault::DropAt255) { PLACES - 1 } else { PLACES }
     }
 
     /// "releases exactly the events carried", given by their numbers, rising.

@@ -2,21 +2,18 @@
 //!
 //! One module for each layer of 01: `crc`, `frame` and `link` are "Bytes on the line", with
 //! `receiver` for bytes off the wire (02, 101) and `transport` for segments; `points` and `events`
-//! are "Readings", with `counters` for energy counters (02, 104); `application` and `control` are
-//! "What the control room is told", with `freeze` for those counters and `set_points` for analog
-//! outputs (02, 109); `outstation` is the setup and the state; `script` is the text interface;
-//! `generate` writes random scripts. `faults` makes the program wrong on purpose, in one named way
-//! at a time. Where 01 leaves room, the reading taken is cited as R and its number (R3.9); where a
-//! request of 02 does, by the request's number (109.2).
+//! are "Readings"; `application` and `control` are "What the control room is told", with
+//! `set_points` for analog outputs (02, 109); `outstation` is the setup and the state; `script` is
+//! the text interface; `generate` writes random scripts. `faults` makes the program wrong on
+//! purpose, in one named way at a time. Where 01 leaves room, the reading taken is cited as R and
+//! its number (R3.9); where a request of 02 does, by the request's number (109.2).
 
 pub mod application;
 pub mod control;
-pub mod counters;
 pub mod crc;
 pub mod events;
 pub mod faults;
 pub mod frame;
-pub mod freeze;
 pub mod generate;
 pub mod link;
 pub mod outstation;

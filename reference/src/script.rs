@@ -11,15 +11,13 @@
 //! - NUMBER: `0`, or a digit 1 to 9 and more digits. No sign, no leading zeros.
 //! - SIGNED: NUMBER, or `-` and a NUMBER that is not `0`. So `-0` and `+1` are faults.
 //! - CC: two, F32: eight digits 0-9 A-F. HEX: `-`, or an even number of them, at least two.
-//! - The parts of RECORD, ANALOG, COUNTER, SETPOINT and the line record are separated by exactly one
-//!   comma.
+//! - The parts of RECORD, ANALOG, SETPOINT and the line record are separated by exactly one comma.
 //! - A value outside its word's range is a fault.
 //! - Order: a line that is no call is `fault`, outstation or not, and changes nothing; then a call
 //!   marked * with no outstation is `none`; then the call is made.
 
 use crate::application::Outcome;
 use crate::control::{Control, Object};
-use crate::counters::CounterSetup;
 use crate::crc::check_bytes;
 use crate::events::Event;
 use crate::faults::{on, Fault};
@@ -39,8 +37,6 @@ pub const LENT: usize = 65_536;
 pub const RECORDS: usize = 128;
 /// Words given at most for the binaries, and for the analogs, of a setup.
 pub const POINTS: usize = 64;
-/// Words given at most for the counters of a setup.
-pub const COUNTERS: usize = 32;
 /// Words given at most for the set points of a setup.
 pub const SET_POINTS: usize = 16;
 
@@ -373,7 +369,6 @@ fn put_event(event: &Event, out: &mut Vec<u8>) {
         Value::Whole32(value) => ("1", value.to_string()),
         Value::Whole16(value) => ("2", value.to_string()),
         Value::Float(value) => ("5", format!("{:08X}", value.to_bits())),
-        Value::Count(count) => ("c", count.to_string()),
     };
     let text = format!(" {kind},{},{value},{},{}", event.index, event.flags, event.time);
     out.extend_from_slice(text.as_bytes());
@@ -395,9 +390,6 @@ pub fn parse(line: &[u8]) -> Option<Call> {
         }
         (b"flt", [time, index, value, flags]) => {
             Some(Call::Reading(reading(b"f", [time, index, value, flags])?))
-        }
-        (b"cnt", [time, index, value, flags]) => {
-            Some(Call::Reading(reading(b"c", [time, index, value, flags])?))
         }
         (b"table", _) if rest.len() <= RECORDS => {
             let readings: Option<Vec<Reading>> =
@@ -431,8 +423,7 @@ pub fn parse(line: &[u8]) -> Option<Call> {
 }
 
 /// `OWN MASTER ARM CONFIRM NB NA NO`, then a word for each binary and each analog, 64 at most of
-/// each; then, or not, `c NC` and a word for each counter, 32 at most; then, or not, `s NS` and a
-/// word for each set point, 16 at most.
+/// each; then, or not, `s NS` and a word for each set point, 16 at most.
 fn setup(words: &[&[u8]]) -> Option<Setup> {
     let [own, master, arm, confirm, nb, na, no, points @ ..] = words else {
         return None;
@@ -446,13 +437,14 @@ fn setup(words: &[&[u8]]) -> Option<Setup> {
     let binaries: Option<Vec<u8>> =
         binaries.iter().map(|word| Some(number(word, 255)? as u8)).collect();
     let analogs: Option<Vec<(u8, Form)>> = analogs.iter().map(|word| analog_word(word)).collect();
-    let (counter_count, counters, rest) = further(b"c", COUNTERS, rest)?;
-    let (set_point_count, set_points, rest) = further(b"s", SET_POINTS, rest)?;
-    if !rest.is_empty() {
+    let (set_point_count, set_points) = match rest {
+        [] => (0, rest),
+        [b"s", count, set_points @ ..] => (number(count, 255)? as u8, set_points),
+        _ => return None,
+    };
+    if set_points.len() != usize::from(set_point_count).min(SET_POINTS) {
         return None;
     }
-    let counters: Option<Vec<CounterSetup>> =
-        counters.iter().map(|word| counter_word(word)).collect();
     let set_points: Option<Vec<SetPoint>> =
         set_points.iter().map(|word| set_point_word(word)).collect();
     Some(Setup {
@@ -463,28 +455,11 @@ fn setup(words: &[&[u8]]) -> Option<Setup> {
         binary_count,
         analog_count,
         outputs: number(no, 255)? as u8,
-        counter_count,
         set_point_count,
         binaries: binaries?,
         analogs: analogs?,
-        counters: counters?,
         set_points: set_points?,
     })
-}
-
-type Words<'a> = &'a [&'a [u8]];
-
-/// The letter, a count and so many words, `most` at most: the count, the words, and those behind
-/// them. Without the letter there are none.
-fn further<'a>(letter: &[u8], most: usize, words: Words<'a>) -> Option<(u8, Words<'a>, Words<'a>)> {
-    match words {
-        [first, count, rest @ ..] if *first == letter => {
-            let count = number(count, 255)? as u8;
-            let (words, rest) = rest.split_at_checked(usize::from(count).min(most))?;
-            Some((count, words, rest))
-        }
-        _ => Some((0, &[], words)),
-    }
 }
 
 /// `CLASS,KIND,GAIN,OFFSET,GATE,LIMIT`.
@@ -525,15 +500,6 @@ fn gate_words<L>(gate: &[u8], limit: &[u8], read: impl Fn(&[u8]) -> Option<L>) -
     }
 }
 
-/// `CLASS,LIMIT` (02, 104).
-fn counter_word(word: &[u8]) -> Option<CounterSetup> {
-    let [class, limit] = commas(word)[..] else {
-        return None;
-    };
-    let class = number(class, 255)? as u8;
-    Some(CounterSetup { class, limit: signed(limit, i64::MIN, i64::MAX)? })
-}
-
 /// `KIND,LOW,HIGH` (02, 109).
 fn set_point_word(word: &[u8]) -> Option<SetPoint> {
     let [kind, low, high] = commas(word)[..] else {
@@ -555,7 +521,7 @@ fn line_record(counts: &[u16]) -> Option<LineRecord> {
     Some(LineRecord { counts: counts.try_into().ok()?, blocks })
 }
 
-/// `b,T,I,V,F`, `a,T,I,V,F`, `f,T,I,F32,F` or `c,T,I,V,F`.
+/// `b,T,I,V,F`, `a,T,I,V,F` or `f,T,I,F32,F`.
 fn record_word(word: &[u8]) -> Option<Reading> {
     let [letter, time, index, value, flags] = commas(word)[..] else {
         return None;
@@ -568,7 +534,6 @@ fn reading(letter: &[u8], [time, index, value, flags]: [&[u8]; 4]) -> Option<Rea
         b"b" => Taken::Binary(number(value, 1)? == 1),
         b"a" => Taken::Whole(signed(value, i64::from(i32::MIN), i64::from(i32::MAX))? as i32),
         b"f" => Taken::Float(float(value)?),
-        b"c" => Taken::Counts(number(value, 0xFFFF_FFFF)? as u32),
         _ => return None,
     };
     Some(Reading {
@@ -692,25 +657,10 @@ mod tests {
         assert_eq!(words(" s 2 1,-5,7 3,00000000,80000000"), "ok\n");
         assert_eq!(words(" s 1 2,-32769,0"), "no 5\n");
         assert_eq!(words(&format!(" s 17{}", " 1,0,0".repeat(16))), "no 5\n");
-        for wrong in [" s", " s 1", " s 0 1,0,0", " s 1 4,0,0", " s 1 3,0,0", " r 0", " S 0"] {
+        for wrong in [" s", " s 1", " s 0 1,0,0", " s 1 4,0,0", " s 1 3,0,0", " c 0", " S 0"] {
             assert_eq!(words(wrong), "fault\n", "{wrong}");
         }
         assert_eq!(words(&format!(" s 17{}", " 1,0,0".repeat(17))), "fault\n");
-    }
-
-    #[test]
-    fn counters_of_a_setup() {
-        let words = |words: &str| answers(&format!("setup 1 2 5000 5000 0 0 0{words}"));
-        assert_eq!(words(" c 0"), "ok\n");
-        assert_eq!(words(" c 2 3,0 0,4294967295 s 1 1,0,0"), "ok\n");
-        for refused in [" c 1 4,0", " c 1 1,-1", " c 1 1,4294967296"] {
-            assert_eq!(words(refused), "no 5\n", "{refused}");
-        }
-        assert_eq!(words(&format!(" c 33{}", " 1,0".repeat(32))), "no 5\n");
-        for wrong in [" c", " c 1", " c 0 1,0", " c 1 1", " c 1 1,0,0", " s 0 c 0", " c 0 c 0"] {
-            assert_eq!(words(wrong), "fault\n", "{wrong}");
-        }
-        assert_eq!(words(&format!(" c 33{}", " 1,0".repeat(33))), "fault\n");
     }
 
     #[test]

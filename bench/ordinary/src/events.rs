@@ -7,7 +7,6 @@ pub const CAPACITY: usize = 256;
 pub enum Shown {
     State(bool),
     Analog(Value),
-    Counter(u32),
 }
 
 #[derive(Clone, Copy)]
@@ -33,14 +32,13 @@ pub struct Buffer {
 }
 
 impl Event {
-    /// 1 binary, 2 a 32-bit, 3 a 16-bit, 4 a float analog, 5 a counter.
+    /// 1 binary, 2 a 32-bit, 3 a 16-bit, 4 a float analog.
     pub fn kind(&self) -> u8 {
         match self.shown {
             Shown::State(_) => 1,
             Shown::Analog(Value::Long(_)) => 2,
             Shown::Analog(Value::Short(_)) => 3,
             Shown::Analog(Value::Real(_)) => 4,
-            Shown::Counter(_) => 5,
         }
     }
 }

@@ -13,8 +13,8 @@ use events::{Buffer, Event, Shown};
 use frame::FrameError;
 use outstation::{Answer, FragmentError, Measured, Outstation, Reading};
 use points::{
-    AnalogPoint, BinaryPoint, CounterPoint, FloatTrack, Gate, Measure, Points, ReadingError, Scale,
-    Value, WholeTrack, COUNTERS_MAX,
+    AnalogPoint, BinaryPoint, FloatTrack, Gate, Measure, Points, ReadingError, Scale, Value,
+    WholeTrack,
 };
 use receiver::{Received, Receiver};
 
@@ -174,8 +174,6 @@ fn read_points(n: usize) -> Points {
         binary_count: n,
         analogs: std::array::from_fn(analog_of),
         analog_count: n,
-        counters: [CounterPoint::new(3, 0); COUNTERS_MAX],
-        counter_count: 0,
     }
 }
 
@@ -201,8 +199,6 @@ fn fresh_outstation(n: usize) -> Outstation {
         binary_count: n,
         analogs: [a; 64],
         analog_count: n,
-        counters: [CounterPoint::new(3, 0); COUNTERS_MAX],
-        counter_count: 0,
     })
 }
 
@@ -240,40 +236,6 @@ fn outstation_reading(count: u64, n: usize) -> u64 {
         state ^= point == 0;
     }
     digest(sum, &o.buffer)
-}
-
-/// The same state again and again: no event.
-fn binary_quiet(count: u64, n: usize) -> u64 {
-    let mut o = fresh_outstation(n);
-    let mut point = 0;
-    let mut sum = 1u64;
-    for left in (1..=count).rev() {
-        let r = o.binary_reading(count - left, point, true, 1);
-        sum = fold(sum, accepted(r) + o.clock);
-        point = following(point, n);
-    }
-    digest(fold(sum, o.buffer.count as u64), &o.buffer)
-}
-
-/// n counters, a count more at each reading. With limit 0 each but the first of a counter raises an event.
-fn counter_readings(count: u64, n: usize, limit: u32) -> u64 {
-    let mut o = fresh_outstation(0);
-    o.points.counters = [CounterPoint::new(1, limit); COUNTERS_MAX];
-    o.points.counter_count = n;
-    let mut point = 0;
-    let mut sum = 1u64;
-    for left in (1..=count).rev() {
-        if left % 256 == 0 {
-            o.buffer.count = 0;
-        }
-        let r = o.counter_reading(count - left, point, 1, 1);
-        sum = fold(sum, accepted(r) + o.clock);
-        point = following(point, n);
-    }
-    for c in &o.points.counters[..n] {
-        sum = fold(sum, c.count as u64);
-    }
-    digest(fold(sum, o.buffer.count as u64), &o.buffer)
 }
 
 /// The kinds and the classes take turns.
@@ -346,61 +308,6 @@ fn class_0_fragment(count: u64, n: usize) -> u64 {
         ask[0] = 192 + (left % 16) as u8;
         let r = o.fragment(count - left, &ask, &mut out, &mut operated);
         sum = fold_answer(sum, r, &out);
-    }
-    digest(fold_all(sum, &out), &o.buffer)
-}
-
-/// As many counters as there can be, up to n, all read, frozen, and read again.
-fn read_counters(o: &mut Outstation, n: usize, out: &mut [u8], operated: &mut Operated) {
-    let n = n.min(COUNTERS_MAX) as u16;
-    o.points.counter_count = n as usize;
-    let read = |o: &mut Outstation, counts: u32| {
-        for point in 0..n {
-            let _ = o.counter_reading(0, point, counts + point as u32, 1);
-        }
-    };
-    read(o, 100_000);
-    let _ = o.fragment(0, &[192, 7, 20, 0, 6], out, operated);
-    read(o, 7);
-    o.buffer.count = 0;
-}
-
-/// A READ of class 0 with binaries, analogs, and counters running and frozen.
-fn class_0_all(count: u64, n: usize) -> u64 {
-    let (mut ask, mut out) = ([192u8, 1, 60, 1, 6], [0u8; 2048]);
-    let mut operated = Operated::default();
-    let mut o = Outstation::new(read_points(n));
-    read_counters(&mut o, n, &mut out, &mut operated);
-    let mut sum = 1u64;
-    for left in (1..=count).rev() {
-        o.points.binaries[(left % 64) as usize] = binary_of(left % 3 == 0, 1);
-        o.points.counters[(left % 32) as usize].count = left as u32;
-        ask[0] = 192 + (left % 16) as u8;
-        let r = o.fragment(count - left, &ask, &mut out, &mut operated);
-        sum = fold_answer(sum, r, &out);
-    }
-    digest(fold_all(sum, &out), &o.buffer)
-}
-
-/// The first n of 32 counters, by one header; each freeze has another sequence than the one before it, so it is no repeat. Every second one clears.
-fn freeze(count: u64, n: usize) -> u64 {
-    let (mut ask, mut out) = ([192u8, 7, 20, 0, 0, 0, 0], [0u8; 2048]);
-    let mut operated = Operated::default();
-    let mut o = fresh_outstation(0);
-    read_counters(&mut o, COUNTERS_MAX, &mut out, &mut operated);
-    ask[6] = (n as u8).wrapping_sub(1);
-    let mut sum = 1u64;
-    for left in (1..=count).rev() {
-        let place = (left % 32) as usize;
-        o.points.counters[place].count = left as u32;
-        ask[0] = 192 + (left % 16) as u8;
-        ask[1] = 7 + (left % 2 * 2) as u8;
-        let r = o.fragment(count - left, &ask, &mut out, &mut operated);
-        sum = fold_answer(sum, r, &out);
-        sum = fold(sum, o.points.counters[place].frozen as u64);
-    }
-    for c in &o.points.counters {
-        sum = fold(fold(sum, c.count as u64), c.frozen as u64);
     }
     digest(fold_all(sum, &out), &o.buffer)
 }
@@ -620,9 +527,7 @@ fn most(name: &str) -> Option<usize> {
     Some(match name {
         "nothing" | "frame-write" | "frame-read" | "frame-write-table" | "frame-read-table" => 0,
         "reading" | "reading-by-value" => 0,
-        "class-0" | "class-0-fragment" | "class-0-all" => 64,
-        "outstation-reading" | "binary-quiet" => 64,
-        "counter-event" | "counter-quiet" | "freeze" => 32,
+        "class-0" | "class-0-fragment" | "outstation-reading" => 64,
         "held-reading" => 255,
         "event-read" => 256,
         "confirm" => 226,
@@ -644,12 +549,7 @@ fn run(name: &str, count: u64, size: usize) -> Option<u64> {
         "reading-by-value" => reading_by_value(count),
         "class-0" => class_0(count, size),
         "class-0-fragment" => class_0_fragment(count, size),
-        "class-0-all" => class_0_all(count, size),
         "outstation-reading" => outstation_reading(count, size),
-        "binary-quiet" => binary_quiet(count, size),
-        "counter-event" => counter_readings(count, size, 0),
-        "counter-quiet" => counter_readings(count, size, u32::MAX),
-        "freeze" => freeze(count, size),
         "held-reading" => held_reading(count, size),
         "event-read" => event_read(count, size),
         "confirm" => confirm(count, size),

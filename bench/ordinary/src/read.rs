@@ -1,38 +1,18 @@
-//! The objects of a READ's response, and the counters that a freeze names.
+//! The objects of a READ's response.
 use crate::events::{Buffer, Event, Shown};
-use crate::points::{CounterPoint, Points, Value};
+use crate::points::{Points, Value};
 
 #[derive(Clone, Copy)]
 enum Asked {
     Class(u8),
     Binaries(usize, usize),
     Analogs(usize, usize),
-    Counters(usize, usize),
-    Frozen(usize, usize),
     All,
 }
 
 pub enum ReadError {
     ObjectUnknown,
     BadParameter,
-}
-
-/// The points that a header with this qualifier names, of so many, and the bytes of its range.
-fn range(qualifier: u8, s: &[u8], count: usize) -> Result<(usize, usize, usize), ReadError> {
-    let (start, stop, size) = match (qualifier, s) {
-        (6, _) => return Ok((0, count, 0)),
-        (0, [start, stop, ..]) => (*start as usize, *stop as usize + 1, 2),
-        (1, [a, b, c, d, ..]) => (
-            u16::from_le_bytes([*a, *b]) as usize,
-            u16::from_le_bytes([*c, *d]) as usize + 1,
-            4,
-        ),
-        _ => return Err(ReadError::BadParameter),
-    };
-    if stop <= start || count < stop {
-        return Err(ReadError::BadParameter);
-    }
-    Ok((start, stop, size))
 }
 
 /// The headers of a request.
@@ -56,19 +36,36 @@ fn headers(s: &[u8], p: &Points, plan: &mut [Asked; 16]) -> Result<usize, ReadEr
                     Asked::Class(variation - 1)
                 }
             }
-            (1, 0 | 2) | (30, 0) | (20 | 21, 0) => {
-                let count = match group {
-                    1 => p.binary_count,
-                    30 => p.analog_count,
-                    _ => p.counter_count,
+            (1, 0 | 2) | (30, 0) => {
+                let count = if group == 1 {
+                    p.binary_count
+                } else {
+                    p.analog_count
                 };
-                let (start, stop, size) = range(qualifier, &s[at..], count)?;
-                at += size;
-                match group {
-                    1 => Asked::Binaries(start, stop),
-                    30 => Asked::Analogs(start, stop),
-                    20 => Asked::Counters(start, stop),
-                    _ => Asked::Frozen(start, stop),
+                let (start, stop) = match qualifier {
+                    6 => (0, count),
+                    0 => {
+                        let b = s.get(at..at + 2).ok_or(ReadError::BadParameter)?;
+                        at += 2;
+                        (b[0] as usize, b[1] as usize + 1)
+                    }
+                    1 => {
+                        let b = s.get(at..at + 4).ok_or(ReadError::BadParameter)?;
+                        at += 4;
+                        (
+                            u16::from_le_bytes([b[0], b[1]]) as usize,
+                            u16::from_le_bytes([b[2], b[3]]) as usize + 1,
+                        )
+                    }
+                    _ => return Err(ReadError::BadParameter),
+                };
+                if stop < start || count < stop {
+                    return Err(ReadError::BadParameter);
+                }
+                if group == 1 {
+                    Asked::Binaries(start, stop)
+                } else {
+                    Asked::Analogs(start, stop)
                 }
             }
             _ => return Err(ReadError::ObjectUnknown),
@@ -77,30 +74,6 @@ fn headers(s: &[u8], p: &Points, plan: &mut [Asked; 16]) -> Result<usize, ReadEr
         n += 1;
     }
     Ok(n)
-}
-
-/// The counters that a freeze names, of so many: bit i for counter i.
-pub fn named(s: &[u8], count: usize) -> Result<u32, ReadError> {
-    let mut named = 0;
-    let mut n = 0;
-    let mut at = 0;
-    while at < s.len() {
-        let [group, variation, qualifier] = *s.get(at..at + 3).ok_or(ReadError::BadParameter)?
-        else {
-            return Err(ReadError::BadParameter);
-        };
-        if n == 16 {
-            return Err(ReadError::BadParameter);
-        }
-        if (group, variation) != (20, 0) {
-            return Err(ReadError::ObjectUnknown);
-        }
-        let (start, stop, size) = range(qualifier, &s[at + 3..], count)?;
-        named |= ((1u64 << stop) - (1u64 << start)) as u32;
-        at += 3 + size;
-        n += 1;
-    }
-    Ok(named)
 }
 
 /// Bytes put one after another.
@@ -131,10 +104,6 @@ impl Writer<'_> {
                 self.put(&[e.flags]);
                 self.value(v);
             }
-            Shown::Counter(count) => {
-                self.put(&[e.flags]);
-                self.put(&count.to_le_bytes());
-            }
         }
         self.put(&e.time.to_le_bytes()[..6]);
     }
@@ -150,8 +119,7 @@ impl Writer<'_> {
                     1 => [2, 2, 40],
                     2 => [32, 3, 40],
                     3 => [32, 4, 40],
-                    4 => [32, 7, 40],
-                    _ => [22, 5, 40],
+                    _ => [32, 7, 40],
                 };
                 self.put(&object);
                 count_at = self.at;
@@ -203,36 +171,6 @@ impl Writer<'_> {
             self.value(a.value);
         }
     }
-
-    /// Running or frozen ones: the group, and what it shows of a counter.
-    fn counters(
-        &mut self,
-        group: u8,
-        counters: &[CounterPoint],
-        start: usize,
-        shown: impl Fn(&CounterPoint) -> (u8, u32),
-    ) {
-        if counters.is_empty() {
-            return;
-        }
-        let stop_at = self.heading(group, 1, start);
-        for c in counters {
-            let (flags, count) = shown(c);
-            self.put(&[flags]);
-            self.put(&count.to_le_bytes());
-        }
-        self.stop(stop_at, start + counters.len() - 1);
-    }
-
-    fn running(&mut self, p: &Points, start: usize, stop: usize) {
-        self.counters(20, &p.counters[start..stop], start, |c| (c.flags, c.count));
-    }
-
-    fn frozen(&mut self, p: &Points, start: usize, stop: usize) {
-        self.counters(21, &p.counters[start..stop], start, |c| {
-            (c.frozen_flags, c.frozen)
-        });
-    }
 }
 
 fn variation(v: Value) -> u8 {
@@ -265,14 +203,6 @@ fn analogs_size(p: &Points, start: usize, stop: usize) -> usize {
     size
 }
 
-fn counters_size(start: usize, stop: usize) -> usize {
-    if start == stop {
-        0
-    } else {
-        7 + 5 * (stop - start)
-    }
-}
-
 /// The objects, behind the first four bytes; the answer is the size of the response.
 pub fn respond(out: &mut [u8], s: &[u8], p: &Points, b: &mut Buffer) -> Result<usize, ReadError> {
     let mut plan = [Asked::All; 16];
@@ -285,13 +215,8 @@ pub fn respond(out: &mut [u8], s: &[u8], p: &Points, b: &mut Buffer) -> Result<u
             Asked::Class(c) => classes[c as usize - 1] = true,
             Asked::Binaries(start, stop) => size += binaries_size(start, stop),
             Asked::Analogs(start, stop) => size += analogs_size(p, start, stop),
-            Asked::Counters(start, stop) | Asked::Frozen(start, stop) => {
-                size += counters_size(start, stop)
-            }
             Asked::All => {
-                size += binaries_size(0, p.binary_count)
-                    + analogs_size(p, 0, p.analog_count)
-                    + 2 * counters_size(0, p.counter_count)
+                size += binaries_size(0, p.binary_count) + analogs_size(p, 0, p.analog_count)
             }
         }
     }
@@ -306,13 +231,9 @@ pub fn respond(out: &mut [u8], s: &[u8], p: &Points, b: &mut Buffer) -> Result<u
             Asked::Class(_) => {}
             Asked::Binaries(start, stop) => w.binaries(p, start, stop),
             Asked::Analogs(start, stop) => w.analogs(p, start, stop),
-            Asked::Counters(start, stop) => w.running(p, start, stop),
-            Asked::Frozen(start, stop) => w.frozen(p, start, stop),
             Asked::All => {
                 w.binaries(p, 0, p.binary_count);
                 w.analogs(p, 0, p.analog_count);
-                w.running(p, 0, p.counter_count);
-                w.frozen(p, 0, p.counter_count);
             }
         }
     }

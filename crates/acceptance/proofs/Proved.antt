@@ -16,7 +16,6 @@ use Rattle.read_headers.specs.Parse as A
 use Rattle.objects.specs.Runs.{encoded, runs, all_bytes, object_bytes}
 use Rattle.event_objects.specs.Events.{event_bytes, carried_events, carried_objects, carried_bytes}
 use Rattle.static_objects.specs.Static.{static_bytes, range_bytes, point_objects, point_bytes}
-use Rattle.freeze.specs.Freeze as Z
 use Rattle.control.specs.Objects as C
 use Rattle.control.specs.Status as T
 use Rattle.select_latch.specs.Select as L
@@ -29,10 +28,10 @@ use Rattle.outstation.specs.Step as S
 use Rattle.acceptance.specs.Acceptance.{Acceptance}
 
 pub acceptance : Acceptance
-unfolding restarted U.setup_ok U.binary_classes U.analog_setups U.counter_setups U.analog_outputs fresh_analog
+unfolding restarted U.setup_ok U.binary_classes U.analog_setups U.analog_outputs fresh_analog
     S.step S.reading_step S.taken_with S.raise S.fragment_step S.read_step S.request_step S.confirm_step S.confirmed_step
     R.apply_reading R.bad_time P.read_binary P.read_float P.is_reported P.is_raised limited_of X.of_bits X.to_bits X.mul X.add
-    Q.ask Q.is_confirmed Q.inputs_after Z.counters_after F.classified F.malformed F.is_unanswered A.headers_of H.front_header H.object_of H.class_header A.asks_for
+    Q.ask Q.is_confirmed F.classified F.malformed A.headers_of H.front_header H.object_of H.class_header A.asks_for
     K.pushed K.carry E.fits E.space_after E.cost_of filter
     static_bytes range_bytes point_objects point_bytes encoded runs all_bytes object_bytes O.le O.value
     event_bytes carried_events carried_objects carried_bytes

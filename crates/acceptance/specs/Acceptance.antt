@@ -43,8 +43,6 @@ table_setup binaries analogs classes kinds =
       analog_count = analogs;
       classes = classes;
       analogs = kinds;
-      counter_count = 0;
-      counters = [];
       analog_output_count = 0;
       analog_outputs = [];
     }

@@ -4,7 +4,7 @@ use Rattle.std.specs.Prelude.{ℕ, ◌+◌, ◌/◌, ◌%◌, Bool, not, List, [
 use Rattle.laws.specs.First.{first, ◌⇒◌}
 use Rattle.laws.specs.Limits.{fragment_max}
 use Rattle.laws.specs.Outcome.{Outcome, accepted, refused}
-use Rattle.laws.specs.Lists.{any, all, member}
+use Rattle.laws.specs.Lists.{any, all}
 use Rattle.application.specs.declared.Fragment.{Fragment}
 use Rattle.application.specs.declared.Fragment.TheVariants.{Malformed, Confirm, Request}
 
@@ -68,10 +68,6 @@ classified s =
     ∷ is_confirm s ⇒ accepted (confirm (sequence_of (control_of s)) (eqb (uns_of (control_of s)) 1))
     ∷ [])
     (accepted (request (sequence_of (control_of s)) (function_of s)))
-
--- "Function 6 is never answered." Nor are the freezes 8 and 10 (document 02, 104)
-unfoldable pub is_unanswered : ℕ → Bool
-is_unanswered function = member function (6 ∷ 8 ∷ 10 ∷ [])
 
 -- the number and the values of each case of the code's answer
 abbrev pub fragment_of : Fragment → Outcome Kind

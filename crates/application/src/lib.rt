@@ -1,7 +1,7 @@
 // Application fragments: what a fragment is, the response header, and the WRITE that clears the restart indication.
 ghost use Rattle.std.specs.Prelude.{◌≡◌, ◌+◌, ◌-◌, ◌≤◌, ◌<◌, length};
 ghost use Rattle.octets.specs.Bytes.{splice};
-ghost use Rattle.application.specs.Fragment.{classified, fragment_of, is_unanswered, next_of};
+ghost use Rattle.application.specs.Fragment.{classified, fragment_of, next_of};
 ghost use Rattle.application.specs.Response.{weight, is_faultless, fault_bits, iin1_of, iin2_of, response_control, response_of, write_fault};
 
 // A fragment has at most so many bytes.
@@ -102,19 +102,6 @@ fn bit(on: bool, w: u8) -> u8
     ensures { (result ≡ weight on w) × (result ≤ w) }
 {
     if on { w } else { 0 }
-}
-
-// A request of function 6, 8 or 10 is never answered.
-pub fn is_unanswered(function: u8) -> bool
-    ensures { result ≡ is_unanswered function }
-{
-    if function == 6 {
-        return true;
-    }
-    if function == 8 {
-        return true;
-    }
-    function == 10
 }
 
 pub fn is_faultless(f: Fault) -> bool

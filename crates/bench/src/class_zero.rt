@@ -3,7 +3,7 @@ use crate::stations::POINTS;
 use crate::sums::{byte_at, digest, fold, fold_all, plus};
 use application::FRAGMENT_MAX;
 use event_store::{BufferStatus, EVENT_WORDS};
-use point_store::{ANALOG_WORDS, BINARY_WORDS, COUNTER_WORDS, Installed};
+use point_store::{ANALOG_WORDS, BINARY_WORDS, Installed};
 use points::{
     AnalogKind, AnalogPoint, AnalogSetup, AnalogTaken, BinaryPoint, BinaryTaken, FloatGate,
     POINTS_MAX, Scale, WholeGate,
@@ -41,7 +41,7 @@ fn analog_of(i: usize) -> AnalogPoint {
     }
 }
 
-pub fn binary_of(state: bool, flags: u8) -> BinaryPoint {
+fn binary_of(state: bool, flags: u8) -> BinaryPoint {
     let b = points::fresh_binary(1);
     let t = points::read_binary(b, state, flags);
     match t {
@@ -51,7 +51,7 @@ pub fn binary_of(state: bool, flags: u8) -> BinaryPoint {
 }
 
 // Stores points of each kind that were read.
-pub fn install(binaries: &mut [u32; BINARY_WORDS], analogs: &mut [u32; ANALOG_WORDS]) {
+fn install(binaries: &mut [u32; BINARY_WORDS], analogs: &mut [u32; ANALOG_WORDS]) {
     let mut i: usize = 0;
     while i < POINTS_MAX {
         point_store::store_binary(binaries, i, binary_of(true, 1));
@@ -66,7 +66,6 @@ fn respond(
     n: Installed,
     binaries: &mut [u32; BINARY_WORDS],
     analogs: &[u32; ANALOG_WORDS],
-    counters: &[u32; COUNTER_WORDS],
     held: &mut [u64; EVENT_WORDS],
     out: &mut [u8],
     s: &[u8],
@@ -83,7 +82,7 @@ fn respond(
     while 0 < left {
         let k = (left % POINTS) as usize;
         point_store::store_binary(binaries, k, binary_of(left % 3 == 0, 1));
-        let r = read::respond(out, s, binaries, analogs, counters, n, held, none);
+        let r = read::respond(out, s, binaries, analogs, n, held, none);
         let i = (sum % 1024) as usize;
         sum = fold(sum, plus(r.size as u64, byte_at(out, i)));
         left -= 1;
@@ -91,11 +90,10 @@ fn respond(
     sum
 }
 
-// So many binaries and as many analogs.
+// So many points of each kind.
 pub fn class_zero(count: u64, n: usize) -> u64 {
     let mut binaries = [0u32; BINARY_WORDS];
     let mut analogs = [0u32; ANALOG_WORDS];
-    let counters = [0u32; COUNTER_WORDS];
     let mut held = [0u64; EVENT_WORDS];
     let mut out = [0u8; FRAGMENT_MAX];
     let s = [60u8, 1, 6];
@@ -103,14 +101,12 @@ pub fn class_zero(count: u64, n: usize) -> u64 {
     let installed = Installed {
         binaries: n,
         analogs: n,
-        counters: 0,
     };
     let sum = respond(
         count,
         installed,
         &mut binaries,
         &analogs,
-        &counters,
         &mut held,
         &mut out,
         &s,

@@ -7,10 +7,10 @@ use control::{ANSWER_MAX, ECHO_MAX};
 use event_store::EVENT_WORDS;
 use fragments::{FragmentAnswer, FragmentRefusal};
 use outstation::Head;
-use point_store::{ANALOG_WORDS, BINARY_WORDS, COUNTER_WORDS};
+use point_store::{ANALOG_WORDS, BINARY_WORDS};
 
 // The checksum with the size and one byte of a response, or with what else a fragment came to.
-pub fn fold_answer(sum: u64, a: FragmentAnswer, out: &[u8]) -> u64 {
+fn fold_answer(sum: u64, a: FragmentAnswer, out: &[u8]) -> u64 {
     match a {
         FragmentAnswer::Answer(n) => {
             let i = (sum % 2048) as usize;
@@ -33,7 +33,7 @@ fn fold_number(why: FragmentRefusal) -> u64 {
 }
 
 // First and only fragment, with a sequence number.
-pub fn control(n: u64) -> u8 {
+fn control(n: u64) -> u8 {
     (192 + n % 16) as u8
 }
 
@@ -43,7 +43,6 @@ fn exchange(
     full: Head,
     binaries: &[u32; BINARY_WORDS],
     analogs: &[u32; ANALOG_WORDS],
-    counters: &mut [u32; COUNTER_WORDS],
     held: &mut [u64; EVENT_WORDS],
     request: &mut [u8; FRAGMENT_MAX],
     answer: &mut [u8; ANSWER_MAX],
@@ -55,13 +54,13 @@ fn exchange(
     out: &mut [u8],
 ) -> u64 {
     let r = fragments::fragment(
-        full, binaries, analogs, counters, held, request, answer, objects, outputs, time, ask, out,
+        full, binaries, analogs, held, request, answer, objects, outputs, time, ask, out,
     );
     let a = r.answer;
     let asked = fold_answer(sum, a, out);
     let h = r.head;
     let d = fragments::fragment(
-        h, binaries, analogs, counters, held, request, answer, objects, outputs, time, confirm, out,
+        h, binaries, analogs, held, request, answer, objects, outputs, time, confirm, out,
     );
     let e = d.answer;
     fold(fold_answer(asked, e, out), stations::held_in(d.head))
@@ -86,7 +85,6 @@ fn exchanges(
     full: Head,
     binaries: &[u32; BINARY_WORDS],
     analogs: &[u32; ANALOG_WORDS],
-    counters: &mut [u32; COUNTER_WORDS],
     held: &mut [u64; EVENT_WORDS],
     request: &mut [u8; FRAGMENT_MAX],
     answer: &mut [u8; ANSWER_MAX],
@@ -107,7 +105,6 @@ fn exchanges(
             full,
             binaries,
             analogs,
-            counters,
             held,
             request,
             answer,
@@ -128,7 +125,6 @@ fn exchanges(
 pub fn event_read(count: u64, n: u64) -> u64 {
     let mut binaries = [0u32; BINARY_WORDS];
     let mut analogs = [0u32; ANALOG_WORDS];
-    let mut counters = [0u32; COUNTER_WORDS];
     let mut held = [0u64; EVENT_WORDS];
     let mut request = [0u8; FRAGMENT_MAX];
     let mut answer = [0u8; ANSWER_MAX];
@@ -137,14 +133,13 @@ pub fn event_read(count: u64, n: u64) -> u64 {
     let mut ask = [192u8, 1, 60, 2, 6, 60, 3, 6, 60, 4, 6];
     let mut confirm = [192u8, 0];
     let mut out = [0u8; FRAGMENT_MAX];
-    let full = stations::holding(n, &mut binaries, &mut analogs, &mut counters, &mut held);
+    let full = stations::holding(n, &mut binaries, &mut analogs, &mut held);
     let sum = exchanges(
         count,
         2 * events::filled(n as usize),
         full,
         &binaries,
         &analogs,
-        &mut counters,
         &mut held,
         &mut request,
         &mut answer,
@@ -159,7 +154,6 @@ pub fn event_read(count: u64, n: u64) -> u64 {
         full,
         &binaries,
         &analogs,
-        &mut counters,
         &mut held,
         &mut request,
         &mut answer,

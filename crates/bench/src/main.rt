@@ -1,6 +1,5 @@
 // Does a named piece of work so many times on fixed input: a line `NAME COUNT`, or `NAME COUNT SIZE` with so many points or held
 // events, is answered with a checksum of the results.
-mod all_kinds;
 mod class_zero;
 mod event_reads;
 mod frames;
@@ -20,7 +19,6 @@ enum Work {
     FrameRead,
     Reading,
     ClassZero,
-    ClassZeroAll,
     OutstationReading,
     HeldReading,
     EventRead,
@@ -60,9 +58,6 @@ fn work_of(w: &[u8]) -> Work {
     if octets::equal(w, b"class-0") {
         return Work::ClassZero;
     }
-    if octets::equal(w, b"class-0-all") {
-        return Work::ClassZeroAll;
-    }
     if octets::equal(w, b"outstation-reading") {
         return Work::OutstationReading;
     }
@@ -83,7 +78,6 @@ fn run(w: Work, count: u64, size: u64) -> u64 {
         Work::FrameRead => frames::frame_read(count),
         Work::Reading => parts::reading(count),
         Work::ClassZero => class_zero::class_zero(count, size as usize),
-        Work::ClassZeroAll => all_kinds::class_zero_all(count, (size % 256) as u16),
         Work::OutstationReading => stations::outstation_reading(count, (size % 256) as u16),
         Work::HeldReading => stations::held_reading(count, size),
         Work::EventRead => event_reads::event_read(count, size),
@@ -98,7 +92,6 @@ fn extent_of(w: Work) -> Extent {
         Work::FrameRead => Extent::UpTo(0),
         Work::Reading => Extent::UpTo(0),
         Work::ClassZero => Extent::UpTo(stations::POINTS),
-        Work::ClassZeroAll => Extent::UpTo(stations::POINTS),
         Work::OutstationReading => Extent::UpTo(stations::POINTS),
         Work::HeldReading => Extent::UpTo(stations::EVENTS - 1),
         Work::EventRead => Extent::UpTo(stations::EVENTS),

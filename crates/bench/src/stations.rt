@@ -7,16 +7,14 @@ use analog_outputs::{ANALOG_OUTPUT_WORDS, ANALOG_OUTPUTS_MAX, AnalogOutputWords}
 use event_store::{BufferStatus, EVENT_WORDS};
 use events::{CAPACITY, Event, Shown};
 use outstation::{Head, Measured, Reading, Took};
-use point_store::{ANALOG_WORDS, BINARY_WORDS, COUNTER_WORDS};
-use points::{COUNTERS_MAX, POINTS_MAX, Value};
-use restart::{AnalogSetupWords, CounterSetupWords, RestartProgress, SetupWords};
+use point_store::{ANALOG_WORDS, BINARY_WORDS};
+use points::{POINTS_MAX, Value};
+use restart::{AnalogSetupWords, RestartProgress, SetupWords};
 
 // The most points of a kind and the most events, in the types that they are counted in here.
 pub const POINTS: u64 = POINTS_MAX as u64;
 
 const POINTS_END: u16 = POINTS_MAX as u16;
-
-pub const COUNTERS: u64 = COUNTERS_MAX as u64;
 
 pub const EVENTS: u64 = CAPACITY as u64;
 
@@ -52,42 +50,27 @@ fn points_of(n: u16) -> usize
     octets::least(n as usize, POINTS_MAX)
 }
 
-// A setup with so many counters, each of which reports any change.
-fn setup_with(counters: u16) -> SetupWords {
+// So many points of each kind, none read yet.
+fn fresh(n: u16, binaries: &mut [u32; BINARY_WORDS], analogs: &mut [u32; ANALOG_WORDS]) -> Head {
     let none = AnalogOutputWords {
         low: 0,
         high: 0,
         kind: 0,
     };
-    let outputs = [none; ANALOG_OUTPUTS_MAX];
-    let each = CounterSetupWords { limit: 0, class: 1 };
-    let items = [each; COUNTERS_MAX];
-    SetupWords {
+    let items = [none; ANALOG_OUTPUTS_MAX];
+    let s = SetupWords {
         arm_time: 2000,
         confirm_time: 5000,
         own: 10,
         master: 1,
         outputs: 8,
         analog_output_count: 0,
-        analog_outputs: outputs,
-        counter_count: counters,
-        counters: items,
-    }
-}
-
-// So many binaries and as many analogs, and so many counters, none read yet.
-pub fn fresh(
-    n: u16,
-    counted: u16,
-    binaries: &mut [u32; BINARY_WORDS],
-    analogs: &mut [u32; ANALOG_WORDS],
-    counters: &mut [u32; COUNTER_WORDS],
-) -> Head {
-    let s = setup_with(counted);
+        analog_outputs: items,
+    };
     let classes = [1u8; POINTS_MAX];
     let k = points_of(n);
     let mut outputs = [0u32; ANALOG_OUTPUT_WORDS];
-    let g = restart::begin_restart(s, &classes[0..k], k, binaries, counters, &mut outputs);
+    let g = restart::begin_restart(s, &classes[0..k], k, binaries, &mut outputs);
     let r = restart::finish_restart(s, k, added(g, k, analogs));
     r.head
 }
@@ -108,7 +91,6 @@ fn state_reading(
     h: Head,
     binaries: &mut [u32; BINARY_WORDS],
     analogs: &mut [u32; ANALOG_WORDS],
-    counters: &mut [u32; COUNTER_WORDS],
     held: &mut [u64; EVENT_WORDS],
     time: u64,
     point: u16,
@@ -121,7 +103,7 @@ fn state_reading(
         measured: m,
         flags: 1,
     };
-    outstation::take_reading(h, binaries, analogs, counters, held, r)
+    outstation::take_reading(h, binaries, analogs, held, r)
 }
 
 // The next of n points, from the first again after the last.
@@ -142,7 +124,6 @@ fn read_all(
     first: Head,
     binaries: &mut [u32; BINARY_WORDS],
     analogs: &mut [u32; ANALOG_WORDS],
-    counters: &mut [u32; COUNTER_WORDS],
     held: &mut [u64; EVENT_WORDS],
 ) -> u64 {
     let mut h = first;
@@ -154,16 +135,7 @@ fn read_all(
         if left % EVENTS == 0 {
             h = with_events(h, 0);
         }
-        let t = state_reading(
-            h,
-            binaries,
-            analogs,
-            counters,
-            held,
-            count - left,
-            point,
-            state,
-        );
+        let t = state_reading(h, binaries, analogs, held, count - left, point, state);
         let next = t.head;
         h = next;
         sum = fold(sum, plus(accepted(t.refusal), h.clock));
@@ -179,18 +151,9 @@ fn read_all(
 pub fn outstation_reading(count: u64, n: u16) -> u64 {
     let mut binaries = [0u32; BINARY_WORDS];
     let mut analogs = [0u32; ANALOG_WORDS];
-    let mut counters = [0u32; COUNTER_WORDS];
     let mut held = [0u64; EVENT_WORDS];
-    let h = fresh(n, 0, &mut binaries, &mut analogs, &mut counters);
-    let sum = read_all(
-        count,
-        n,
-        h,
-        &mut binaries,
-        &mut analogs,
-        &mut counters,
-        &mut held,
-    );
+    let h = fresh(n, &mut binaries, &mut analogs);
+    let sum = read_all(count, n, h, &mut binaries, &mut analogs, &mut held);
     digest(sum, &held)
 }
 
@@ -241,18 +204,17 @@ fn hold(n: u64, held: &mut [u64; EVENT_WORDS]) -> usize {
     t.count
 }
 
-// All binaries and analogs, the binaries read once, so that a changed state raises an event; n events are held.
+// All points of each kind, the binaries read once, so that a changed state raises an event; n events are held.
 pub fn holding(
     n: u64,
     binaries: &mut [u32; BINARY_WORDS],
     analogs: &mut [u32; ANALOG_WORDS],
-    counters: &mut [u32; COUNTER_WORDS],
     held: &mut [u64; EVENT_WORDS],
 ) -> Head {
-    let mut h = fresh(POINTS_END, 0, binaries, analogs, counters);
+    let mut h = fresh(POINTS_END, binaries, analogs);
     let mut point: u16 = 0;
     while point < POINTS_END {
-        let t = state_reading(h, binaries, analogs, counters, held, 0, point, false);
+        let t = state_reading(h, binaries, analogs, held, 0, point, false);
         let next = t.head;
         h = next;
         point += 1;
@@ -274,19 +236,18 @@ fn read_held(
     word: u32,
     binaries: &mut [u32; BINARY_WORDS],
     analogs: &mut [u32; ANALOG_WORDS],
-    counters: &mut [u32; COUNTER_WORDS],
     held: &mut [u64; EVENT_WORDS],
 ) -> u64 {
     let mut sum: u64 = 1;
     let mut left = count;
     while 0 < left {
         let point = (left % POINTS) as u16;
-        let t = state_reading(full, binaries, analogs, counters, held, left, point, true);
+        let t = state_reading(full, binaries, analogs, held, left, point, true);
         sum = fold(sum, plus(accepted(t.refusal), clock_and_count(t.head)));
         set_back(binaries, point as usize, word);
         left -= 1;
     }
-    state_reading(full, binaries, analogs, counters, held, 1, 0, true);
+    state_reading(full, binaries, analogs, held, 1, 0, true);
     sum
 }
 
@@ -303,18 +264,9 @@ pub fn held_in(h: Head) -> u64 {
 pub fn held_reading(count: u64, n: u64) -> u64 {
     let mut binaries = [0u32; BINARY_WORDS];
     let mut analogs = [0u32; ANALOG_WORDS];
-    let mut counters = [0u32; COUNTER_WORDS];
     let mut held = [0u64; EVENT_WORDS];
-    let full = holding(n, &mut binaries, &mut analogs, &mut counters, &mut held);
+    let full = holding(n, &mut binaries, &mut analogs, &mut held);
     let word = binaries[0];
-    let sum = read_held(
-        count,
-        full,
-        word,
-        &mut binaries,
-        &mut analogs,
-        &mut counters,
-        &mut held,
-    );
+    let sum = read_held(count, full, word, &mut binaries, &mut analogs, &mut held);
     digest(sum, &held)
 }

@@ -6,7 +6,7 @@ use mathlib.Core.Path.{◌≡◌, refl}
 use mathlib.Core.Bool.{Bool, true, false}
 use mathlib.Core.List.{List, [], ◌∷◌}
 use lib.ListN.{replicate}
-use Rattle.laws.specs.Limits.{fragment_max, counters_max, points_max}
+use Rattle.laws.specs.Limits.{fragment_max, points_max}
 use Rattle.points.specs.Reading as P
 use Rattle.points.specs.declared.WholeGate.TheVariants as W
 use Rattle.points.specs.declared.AnalogKind.TheVariants as Ks
@@ -42,8 +42,6 @@ one_binary =
       analog_count = 0;
       classes = 1 ∷ replicate 63 0;
       analogs = replicate points_max (record { class = 0; kind = Ks.Int32 W.Never });
-      counter_count = 0;
-      counters = replicate counters_max (record { class = 0; limit = 0 });
       analog_output_count = 0;
       analog_outputs = replicate analog_outputs_max no_output;
     }

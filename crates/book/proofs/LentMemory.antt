@@ -10,12 +10,12 @@ use native.Mathlib.Omega.{arith}
 use lib.Dec.{eqb}
 use lib.ListN.{length, take, drop, replicate}
 use lib.Seq.{take-append_seam}
-use Rattle.laws.specs.Limits.{fragment_max, events_max, counters_max, points_max}
+use Rattle.laws.specs.Limits.{fragment_max, events_max, points_max}
 use Rattle.points.specs.declared.BinaryPoint.{BinaryPoint}
 use Rattle.points.specs.PointsView.{points_view}
 use Rattle.events.specs.declared.Held.{Held}
 use Rattle.events.specs.declared.Shown.{Shown}
-use Rattle.events.specs.declared.Shown.TheVariants.{State, Analog, Counter}
+use Rattle.events.specs.declared.Shown.TheVariants.{State, Analog}
 use Rattle.events.specs.BufferView.{buffer_view}
 use Rattle.analog_outputs.specs.Output.{analog_outputs_max}
 use Rattle.control.specs.Objects.{echo_max, answer_max}
@@ -45,7 +45,6 @@ bit false = 0
 abbrev second : (carried : Bool) → Shown → ℕ
 second carried (State on) = bit on + 2 ^ 32 * (1 + 256 * (1 + 256 * 3)) + 2 ^ 56 * bit carried
 second carried (Analog v) = 0
-second carried (Counter n) = 0
 
 abbrev event_words : List Held → List ℕ → List ℕ
 event_words [] rest = rest
@@ -101,7 +100,6 @@ head_for w =
       latch_time = 0;
       binary_count = length w.shared.inputs.binaries;
       analog_count = 0;
-      counter_count = 0;
       event_count = length w.master.buffer.held;
       request_len = length (request_in w.master.session.last);
       answer_len = length (answer_in w.master.session.last);
@@ -124,7 +122,6 @@ lent_for w b e =
     record {
       binaries = binary_words w.shared.inputs.binaries b;
       analogs = replicate (8 * points_max) 0;
-      counters = replicate (6 * counters_max) 0;
       held = event_words w.master.buffer.held e;
       request = padded fragment_max (request_in w.master.session.last);
       answer = padded answer_max (answer_in w.master.session.last);
@@ -212,7 +209,6 @@ wait-for w = go w.master.session.wait
 pub record Fits (w : OutstationView) : Type 0 where
   pub binaries : take (length w.shared.inputs.binaries) (binaries_in (outstation_for w).lent.binaries) ≡ w.shared.inputs.binaries
   pub analogs : w.shared.inputs.analogs ≡ []
-  pub counters : w.shared.inputs.counters ≡ []
   pub outputs : w.shared.outputs.analog ≡ []
   pub events : Coded w.master.buffer.held
   pub few : length w.master.buffer.held ≤ events_max
@@ -229,7 +225,7 @@ view-for w f =
             confirm_time = w.shared.confirm_time;
             outputs = record { relays = w.shared.outputs.relays; analog = sym f.outputs k };
             clock = w.shared.clock;
-            inputs = record { binaries = f.binaries k; analogs = sym f.analogs k; counters = sym f.counters k };
+            inputs = record { binaries = f.binaries k; analogs = sym f.analogs k };
           };
       master =
           record {

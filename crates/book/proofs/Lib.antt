@@ -7,7 +7,6 @@ pub mod Requests
 pub mod Step
 pub mod Theorem
 pub mod Example
-pub mod Counters
 pub mod LentMemory
 pub mod Run
 pub mod Witness

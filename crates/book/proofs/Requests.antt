@@ -1,8 +1,8 @@
 -- What both sides say of a request: when it is a repeat, what it does to the held events and the wait, and the bits of its response.
 -- Assumes nothing.
 use Prim.Native.Nat.{ℕ, ◌+◌, ◌/◌, ◌%◌, ◌<◌}
-use mathlib.Core.Path.{◌≡◌, refl, sym, ap, ◌∙◌}
-use mathlib.Core.Bool.{Bool, true, false, ◌||◌, and-true, true≢false}
+use mathlib.Core.Path.{◌≡◌, refl, ◌∙◌}
+use mathlib.Core.Bool.{Bool, true, false, ◌||◌, and-true}
 use mathlib.Core.List.{List, [], ◌∷◌, ◌++◌}
 use native.Mathlib.Nat.{le_of_eq}
 use native.Mathlib.Omega.{arith}
@@ -28,7 +28,6 @@ use Rattle.control.specs.Objects.{formed, objects, objects_by}
 use Rattle.control.specs.Status.{Outputs, statuses, echo_with}
 use Rattle.select_latch.specs.declared.ControlFunction.{ControlFunction}
 use Rattle.select_latch.specs.declared.ControlFunction.TheVariants.{Select, Operate, DirectOperate}
-use Rattle.freeze.specs.Freeze.{is_freeze}
 use Rattle.select_latch.specs.Select.{group_of, LatchView, is_unanswered, statuses_by, operate_status, by_form, control_effect}
 use Rattle.last_request.specs.Repeat.{LastRequestView, nothing, kept, is_repeat, kept_answer}
 use Rattle.last_request.proofs.ReplyLaws.{length-by}
@@ -132,8 +131,7 @@ effect-ends w q function time o =
     (λ _. split P (eqb function 4) (λ _. record { buffer = refl; wait = refl })
     (λ _. split P (eqb function 5) (λ _. record { buffer = refl; wait = refl })
     (λ _. split P (eqb function 6) (λ _. record { buffer = refl; wait = refl })
-    (λ _. split P (is_freeze function) (λ _. record { buffer = refl; wait = refl })
-    (λ _. record { buffer = refl; wait = refl }))))))
+    (λ _. record { buffer = refl; wait = refl })))))
 
 -- ---- its objects
 
@@ -167,10 +165,10 @@ Bears (B.echoes o) objects = Echo (formed o) o objects
 Bears B.unanswered objects = ⊥
 Bears B.repeats objects = ⊥
 
-pub effect-bears : (w : OutstationView) (q function time : ℕ) (o : List ℕ) → F.is_unanswered function ≡ false
+pub effect-bears : (w : OutstationView) (q function time : ℕ) (o : List ℕ) → eqb function 6 ≡ false
     → Bears (book_answer_of function o) (effect_by w q function time o).objects
-unfolding book_answer_of F.is_unanswered
-effect-bears w q function time o u =
+unfolding book_answer_of
+effect-bears w q function time o t₆ =
     let echoed : (g : ControlFunction) → is_unanswered g ≡ false → Echo (formed o) o (control_effect w.shared.outputs w.shared.arm_time w.master.session.latch g q time o).echo
     = λ g u. echo_of w.shared.outputs w.shared.arm_time w.master.session.latch g u q time o in
     by (eqb function 2)
@@ -181,11 +179,7 @@ effect-bears w q function time o u =
     (λ t. rw (eqb-true function 4 t) (echoed Operate refl))
     (λ t₄. by (eqb function 5)
     (λ t. rw (eqb-true function 5 t) (echoed DirectOperate refl))
-    (λ t₅. by (eqb function 6)
-    (λ t. absurd (true≢false (sym (ap (λ (x : Bool). x || (eqb function 8 || (eqb function 10 || false))) t) ∙ u)))
-    (λ t₆. by (is_freeze function)
-    (λ g. rw (u, t₂, t₃, t₄, t₅, t₆, g) refl)
-    (λ g. rw (u, t₂, t₃, t₄, t₅, t₆, g) refl))))))
+    (λ t₅. rw (t₂, t₃, t₄, t₅, t₆) refl))))
 
 -- ---- its response
 

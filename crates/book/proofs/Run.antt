@@ -22,8 +22,7 @@ use Rattle.application.specs.Fragment as F
 use Rattle.application.specs.Response as I
 use Rattle.application.specs.declared.Fault.TheVariants.{Faultless}
 use Rattle.read_headers.specs.Headers as H
-use Rattle.read_headers.specs.Headers.{no_points}
-use Rattle.freeze.specs.Freeze as Z
+use Rattle.read_headers.specs.Headers.{events_of}
 use Rattle.read_headers.specs.Parse as A
 use Rattle.objects.specs.Runs.{encoded, runs, all_bytes}
 use Rattle.event_objects.specs.Events.{events_bytes, carried_bytes}
@@ -122,7 +121,7 @@ state_at clock held overflow session =
             confirm_time = 5000;
             outputs = record { relays = 16; analog = [] };
             clock = clock;
-            inputs = record { binaries = record { class = 1; seen = true; state = true; flags = 1; reported_flags = 1 } ∷ []; analogs = []; counters = [] };
+            inputs = record { binaries = record { class = 1; seen = true; state = true; flags = 1; reported_flags = 1 } ∷ []; analogs = [] };
           };
       master = record { buffer = record { held = held; overflow = overflow }; session = session };
     }
@@ -161,9 +160,9 @@ pub counted-at : (clock : ℕ) (held : List Held) (overflow restarted : Bool) (w
     → length (bytes_of m) ≤ fragment_max → length (kept_answer m) ≤ answer_max
     → CountsWithin (outstation_for (state_at clock held overflow (session_with restarted wait m)))
 counted-at clock held overflow restarted wait nothing e f a =
-    record { binaries = omega arith; analogs = omega arith; counters = omega arith; events = e; request = omega arith; answer = omega arith; objects = omega arith; outputs = omega arith }
+    record { binaries = omega arith; analogs = omega arith; events = e; request = omega arith; answer = omega arith; objects = omega arith; outputs = omega arith }
 counted-at clock held overflow restarted wait (kept g b) e f a =
-    record { binaries = omega arith; analogs = omega arith; counters = omega arith; events = e; request = f; answer = a; objects = omega arith; outputs = omega arith }
+    record { binaries = omega arith; analogs = omega arith; events = e; request = f; answer = a; objects = omega arith; outputs = omega arith }
 
 -- each of these states has its head and memory
 coded-events : (carried : Bool) (n time : ℕ) (on : Bool) (l : List Held) → time + n ≤ 2 ^ 48 → Coded l → Coded (events carried n time on ++ l)
@@ -180,16 +179,16 @@ coded-256 carried = coded-events carried 226 1 true newest (omega arith) coded-n
 pub fits-at : (clock : ℕ) (held : List Held) (overflow restarted : Bool) (wait : D.Wait) (m : LastRequestView) → length held ≤ events_max → Coded held
     → Fits (state_at clock held overflow (session_with restarted wait m))
 unfolding binaries_in records tab chunk binary_of
-fits-at clock held overflow restarted wait m few coded = record { binaries = refl; analogs = refl; counters = refl; outputs = refl; events = coded; few = few; latch = refl }
+fits-at clock held overflow restarted wait m few coded = record { binaries = refl; analogs = refl; outputs = refl; events = coded; few = few; latch = refl }
 
 pub fits-restarted : Fits (restarted one_binary)
-unfolding restarted U.binary_classes U.analog_setups U.counter_setups U.analog_outputs binaries_in records tab chunk binary_of
-fits-restarted = record { binaries = refl; analogs = refl; counters = refl; outputs = refl; events = none-coded; few = omega arith; latch = refl }
+unfolding restarted U.binary_classes U.analog_setups U.analog_outputs binaries_in records tab chunk binary_of
+fits-restarted = record { binaries = refl; analogs = refl; outputs = refl; events = none-coded; few = omega arith; latch = refl }
 
 -- ---- each step
 
 pub by-table : step (table readings) (restarted one_binary) ≡ record { state = w₁; answer = took 258 4 }
-unfolding restarted U.binary_classes U.analog_setups U.counter_setups U.analog_outputs S.step S.table_from S.taken_with S.raise R.apply_reading R.bad_time P.read_binary P.is_reported P.is_raised K.pushed
+unfolding restarted U.binary_classes U.analog_setups U.analog_outputs S.step S.table_from S.taken_with S.raise R.apply_reading R.bad_time P.read_binary P.is_reported P.is_raised K.pushed
 by-table = refl
 
 abbrev pub class1 : Classes
@@ -265,7 +264,7 @@ read_answer control = answers (control ∷ 0x81 ∷ 0x82 ∷ 0x08 ∷ events_byt
 
 -- of any state behind the table, by the events that are marked
 module _ (clock time q : ℕ) (f : List ℕ) (held after : List Held) (x : SessionView) where
-  read_at : R.bad_time clock time ≡ false → Q.ask (state_at clock held true x).shared.inputs f ≡ Q.reads q (no_points 1 ∷ [])
+  read_at : R.bad_time clock time ≡ false → Q.ask (state_at clock held true x).shared.inputs f ≡ Q.reads q (events_of 1 ∷ [])
       → K.carry class1 (E.empty_space response_objects_max) (map (K.marked false) held) ≡ after
       → step (fragment time f fragment_max) (state_at clock held true x)
       ≡ record {
@@ -279,11 +278,11 @@ module _ (clock time q : ℕ) (f : List ℕ) (held after : List Held) (x : Sessi
 abbrev pub points : PointsView
 points = (state_at 0 [] false (session_with true Idle nothing)).shared.inputs
 
-pub asks₁ : Q.ask points (read 0xC1) ≡ Q.reads 1 (no_points 1 ∷ [])
+pub asks₁ : Q.ask points (read 0xC1) ≡ Q.reads 1 (events_of 1 ∷ [])
 unfolding Q.ask F.classified F.malformed A.headers_of H.front_header H.object_of H.class_header A.asks_for static_bytes range_bytes point_objects encoded runs all_bytes
 asks₁ = refl
 
-pub asks₂ : Q.ask points (read 0xC2) ≡ Q.reads 2 (no_points 1 ∷ [])
+pub asks₂ : Q.ask points (read 0xC2) ≡ Q.reads 2 (events_of 1 ∷ [])
 unfolding Q.ask F.classified F.malformed A.headers_of H.front_header H.object_of H.class_header A.asks_for static_bytes range_bytes point_objects encoded runs all_bytes
 asks₂ = refl
 
@@ -337,9 +336,9 @@ by-confirm =
 -- ---- WRITE, and its repeat
 
 pub by-write : step (fragment 9500 write fragment_max) w₅ ≡ record { state = w₆; answer = answers written [] }
-unfolding S.step S.fragment_step S.request_step R.bad_time Q.ask Q.inputs_after Z.counters_after F.classified F.malformed F.is_unanswered I.response_of I.write_fault is_repeat same
+unfolding S.step S.fragment_step S.request_step R.bad_time Q.ask F.classified F.malformed I.response_of I.write_fault is_repeat same
 by-write = refl
 
 pub by-repeat : step (fragment 9600 write fragment_max) w₆ ≡ record { state = w₇; answer = answers written [] }
-unfolding S.step S.fragment_step S.repeat_step R.bad_time Q.ask F.classified F.malformed F.is_unanswered is_repeat same
+unfolding S.step S.fragment_step S.repeat_step R.bad_time Q.ask F.classified F.malformed is_repeat same
 by-repeat = refl

@@ -13,7 +13,7 @@ use lib.Dec.{eqb, ltb}
 use Rattle.laws.specs.Limits.{fragment_max, events_max}
 use Rattle.laws.specs.Outcome.{Outcome, accepted, refused}
 use Rattle.laws.specs.Lists.{count, is_nil, member, same}
-use Rattle.application.specs.Fragment.{is_unanswered, function_of, objects_of}
+use Rattle.application.specs.Fragment.{function_of, objects_of}
 use Rattle.control.specs.declared.ControlObject.{ControlObject}
 use Rattle.control.specs.Objects.{formed}
 use Rattle.control.specs.Status.{Outputs, echo_with}
@@ -100,7 +100,7 @@ pub record Inv (w : B.BookWait) (rows : List Row) (warning shown : Bool) : Type 
 -- what a repeat of the kept request would be answered, is its own answer
 abbrev pub Stored : LastRequestView → Answer → Type 0
 Stored nothing last = Unit {0}
-Stored (kept f answer) last = eqb (function_of f) 1 ≡ false → again last ≡ cond (is_unanswered (function_of f)) (silent []) (answers answer [])
+Stored (kept f answer) last = eqb (function_of f) 1 ≡ false → again last ≡ cond (eqb (function_of f) 6) (silent []) (answers answer [])
 
 -- and the book's last request is the one that is kept, with its answer
 pub record Fits (b : Book) (x : Extra) (last : Answer) : Type 0 where
@@ -337,12 +337,12 @@ module _ (h : List HistoryEntry) (last : Answer) (q time : ℕ) (f : List ℕ) (
       record { sim = other-sim [] a (suc b.master.built) (read-stored f [] a t); agrees = building-of h q d [] [] o (rw e.buffer p) }
 
   -- function 6, and all others
-  silent-ok : is_unanswered (function_of f) ≡ true
+  silent-ok : eqb (function_of f) 6 ≡ true
       → Match h last (record { state = S.after_request (view b x) time f [] d; answer = silent d.operated }) (B.other_entry b false B.unanswered time f)
   unfolding B.other_entry
   silent-ok t = record { sim = other-sim [] (silent d.operated) b.master.built (λ r. rw t); agrees = record { operated = d.operated; is = refl } }
 
-  answered-ok : (answer : BookAnswer) → Bears answer d.objects → is_unanswered (function_of f) ≡ false
+  answered-ok : (answer : BookAnswer) → Bears answer d.objects → eqb (function_of f) 6 ≡ false
       → Match h last (record { state = S.after_request (view b x) time f (S.response_bytes q d) d; answer = answers (S.response_bytes q d) d.operated })
       (B.other_entry b true answer time f)
   unfolding B.other_entry
@@ -353,12 +353,12 @@ module _ (h : List HistoryEntry) (last : Answer) (q time : ℕ) (f : List ℕ) (
         agrees = agrees;
       }
 
-  request-ok : (function : ℕ) → function_of f ≡ function → (is_unanswered function ≡ false → Bears (B.book_answer_of function (objects_of f)) d.objects)
+  request-ok : (function : ℕ) → function_of f ≡ function → (eqb function 6 ≡ false → Bears (B.book_answer_of function (objects_of f)) d.objects)
       → Match h last (S.request_step (view b x) q function time f d)
-      (B.other_entry b (not (is_unanswered function)) (B.book_answer_of function (objects_of f)) time f)
+      (B.other_entry b (not (eqb function 6)) (B.book_answer_of function (objects_of f)) time f)
   unfolding S.request_step B.book_answer_of
   request-ok function is bears =
-      by (is_unanswered function)
+      by (eqb function 6)
       (λ t. rw t (silent-ok (rw is t)))
       (λ t. rw t (answered-ok (cond (member function (3 ∷ 4 ∷ 5 ∷ [])) (B.echoes (objects_of f)) B.plain) (rw t at (bears t)) (rw is t)))
 
@@ -424,13 +424,12 @@ module _ (h : List HistoryEntry) (last : Answer) (b : Book) (x : Extra) (i : Fit
   ask-ok (asks q function) time f e =
       let a = asks-inverse b.shared.inputs f q function e in
       let s : is_repeat x.last f ≡ same f b.master.last = rw (← i.request) (repeat-same x.last f (rw a.is a.other) a.long) in
-      let b₁ : Book = B.froze function (objects_of f) b in
-      let d = S.effect_by (view b₁ x) q function time (objects_of f) in
+      let d = S.effect_by (view b x) q function time (objects_of f) in
       rw s
       (both (Match h last) (same f b.master.last)
       (λ t. repeat-ok h last function time f b x i a.is a.other (repeated x.last f a.long (rw i.request t)))
-      (λ _. request-ok h last q time f b₁ x d (effect-ends (view b₁ x) q function time (objects_of f)) p function a.is
-      (effect-bears (view b₁ x) q function time (objects_of f))))
+      (λ _. request-ok h last q time f b x d (effect-ends (view b x) q function time (objects_of f)) p function a.is
+      (effect-bears (view b x) q function time (objects_of f))))
 
   fragment-ok : (time : ℕ) (f : List ℕ) (room : ℕ) → Match h last (S.fragment_step time f room (view b x)) (B.fragment_entry time f room b)
   unfolding S.fragment_step B.fragment_entry

@@ -9,7 +9,7 @@ use lib.Dec.{eqb, ltb}
 use Rattle.laws.specs.Limits.{fragment_max, events_max}
 use Rattle.laws.specs.Outcome.{Outcome, accepted, refused}
 use Rattle.laws.specs.Lists.{count, is_nil, same}
-use Rattle.application.specs.Fragment.{is_unanswered, objects_of}
+use Rattle.application.specs.Fragment.{objects_of}
 use Rattle.events.specs.declared.Event.{Event}
 use Rattle.events.specs.declared.Classes.{Classes}
 use Rattle.events.specs.declared.Space.{Space}
@@ -110,7 +110,7 @@ module _ (K : BookWait → List Row → Bool → ℕ → List HistoryEntry → T
   ask-on (reads q hs) t f b h k = read-on q t f hs b h k
   ask-on (misreads q n) t f b h k = other-on true B.plain t f b h k
   ask-on (asks q function) t f b h k =
-      split (OnEntry K h) (same f b.master.last) (λ _. k) (λ _. other-on (not (is_unanswered function)) (B.book_answer_of function (objects_of f)) t f _ h k)
+      split (OnEntry K h) (same f b.master.last) (λ _. k) (λ _. other-on (not (eqb function 6)) (B.book_answer_of function (objects_of f)) t f b h k)
 
   pub enter-on : (c : Call) (b : Book) (h : List HistoryEntry) → On K b h → OnEntry K h (B.enter c b)
   unfolding B.enter B.fragment_entry

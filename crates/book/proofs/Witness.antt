@@ -16,8 +16,7 @@ use Rattle.events.specs.declared.Event.{Event}
 use Rattle.events.specs.declared.Shown.TheVariants.{State}
 use Rattle.events.specs.Placing as E
 use Rattle.application.specs.Fragment as F
-use Rattle.read_headers.specs.Headers.{no_points}
-use Rattle.freeze.specs.Freeze as Z
+use Rattle.read_headers.specs.Headers.{events_of}
 use Rattle.read_headers.specs.Parse as A
 use Rattle.objects.specs.Runs.{encoded, runs, all_bytes}
 use Rattle.static_objects.specs.Static.{static_bytes, range_bytes, point_objects}
@@ -101,7 +100,7 @@ book_at clock rows wait warning last built =
     }
 
 book-table : (enter (table readings) (book_of one_binary)).book ≡ book_at 257 (all257 held) idle true [] 0
-unfolding B.book_of B.enter B.table_from B.enter_reading B.reading_entries B.enter_event B.full U.binary_classes U.analog_setups U.counter_setups
+unfolding B.book_of B.enter B.table_from B.enter_reading B.reading_entries B.enter_event B.full U.binary_classes U.analog_setups
     R.apply_reading R.bad_time P.read_binary P.is_reported P.is_raised
 book-table = refl
 
@@ -109,7 +108,7 @@ module _ (rows : List Row) where
   abbrev picked : List ℕ
   picked = picks class1 (E.empty_space response_objects_max) 0 rows
 
-  book-read : (clock time q : ℕ) (f last : List ℕ) (wait : BookWait) (built : ℕ) → R.bad_time clock time ≡ false → Q.ask points f ≡ Q.reads q (no_points 1 ∷ [])
+  book-read : (clock time q : ℕ) (f last : List ℕ) (wait : BookWait) (built : ℕ) → R.bad_time clock time ≡ false → Q.ask points f ≡ Q.reads q (events_of 1 ∷ [])
       → (enter (fragment time f fragment_max) (book_at clock rows wait true last built)).book
       ≡ book_at time rows (awaiting q time picked (length rows) built) true f (suc built)
   unfolding B.enter B.fragment_entry B.read_entry A.asks_for static_bytes range_bytes point_objects encoded runs all_bytes
@@ -128,7 +127,7 @@ module _ (rows : List Row) where
 
   book-write : (warning : Bool) (built : ℕ)
       → (enter (fragment 9500 write fragment_max) (book_at 9000 rows idle warning (read 0xC2) built)).book ≡ book_at 9500 rows idle warning write (suc built)
-  unfolding B.enter B.fragment_entry B.other_entry R.bad_time Q.ask Q.inputs_after Z.counters_after F.classified F.malformed F.is_unanswered same
+  unfolding B.enter B.fragment_entry B.other_entry R.bad_time Q.ask F.classified F.malformed same
   book-write warning built = refl
 
   book-repeat : (warning : Bool) (built : ℕ)
@@ -258,7 +257,7 @@ pub record Witness (u : Setup) (o : Outstation) (cs : List Call) (l : List Answe
   pub released : count row_released (book_after cs (book_of u)).master.rows ≡ 226
 
 pub witness : Witness one_binary (outstation_for (restarted one_binary)) calls ans (outstation_for w₇)
-unfolding setup_ok U.binary_classes U.analog_setups U.counter_setups U.analog_outputs
+unfolding setup_ok U.binary_classes U.analog_setups U.analog_outputs
 witness =
     record {
       accepted = refl;

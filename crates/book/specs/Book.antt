@@ -1,12 +1,12 @@
--- The event book (document 01, "The event book"): "fed setup and arguments, the length of the lent output among them, and no answers"; document
--- 02, 104: counter readings, "and the clears done".
+-- The event book (document 01, "The event book"): "fed setup and arguments, the length of the lent output among them, and no answers".
 -- Assumes nothing.
-use Rattle.std.specs.Prelude.{ℕ, suc, Bool, true, false, not, cond, ◌&&◌, ◌||◌, List, [], ◌∷◌, ◌++◌, length, drop, eqb, ltb}
+use Rattle.std.specs.Prelude.{ℕ, suc, Bool, true, false, not, cond, ◌&&◌, ◌||◌, List, [], ◌∷◌, ◌++◌, map, length, drop, eqb, ltb}
 use Rattle.laws.specs.First.{first, ◌⇒◌}
 use Rattle.laws.specs.Limits.{fragment_max, events_max}
 use Rattle.laws.specs.Lists.{some, count, is_nil, member, same}
-use Rattle.application.specs.Fragment.{is_unanswered, objects_of}
+use Rattle.application.specs.Fragment.{objects_of}
 use Rattle.points.specs.PointsView.{PointsView}
+use Rattle.points.specs.Setup.{fresh_binary, fresh_analog}
 use Rattle.events.specs.declared.Event.{Event}
 use Rattle.events.specs.declared.Classes.{Classes}
 use Rattle.events.specs.declared.Space.{Space}
@@ -15,10 +15,10 @@ use Rattle.read_headers.specs.declared.Header.{Header}
 use Rattle.static_objects.specs.Static.{static_bytes}
 use Rattle.outstation.specs.Setup.{Setup}
 use Rattle.outstation.specs.declared.Reading.{Reading}
-use Rattle.outstation.specs.OutstationView.{fresh_inputs}
+use Rattle.outstation.specs.Setup.{binary_classes, analog_setups}
 use Rattle.outstation.specs.Readings.{bad_time, ReadingEffect, apply_reading}
 use Rattle.read.specs.Response.{classes_of, room_beside}
-use Rattle.outstation.specs.Requests.{Ask, malformed, confirms, reads, misreads, asks, ask, is_confirmed, inputs_after}
+use Rattle.outstation.specs.Requests.{Ask, malformed, confirms, reads, misreads, asks, ask, is_confirmed}
 use Rattle.outstation.specs.Step.{Call, reading, table, fragment, on_effect}
 
 -- ---- "It keeps the clock, each point as "Readings" needs it, the last request, the wait, a warning (its IIN2.3) and a row for
@@ -119,8 +119,8 @@ row_event r = r.event
 
 -- so many readings taken, and the refusal that stopped them (0: none); a fragment refused; a CONFIRM accepted; a faultless READ's
 -- response newly built, with the rows that it carries and its static part; another response newly built, without objects (a READ's
--- fault, WRITE, a freeze, an unknown function); a control request's newly built, the echo of these object bytes of the request; function 6, 8
--- or 10, newly accepted and not answered; a repeat
+-- fault, WRITE, an unknown function); a control request's newly built, the echo of these object bytes of the request; function 6,
+-- newly accepted and not answered; a repeat
 pub data BookAnswer : Type 0 where
   takes : (taken refusal : ℕ) → BookAnswer
   refuses : ℕ → BookAnswer
@@ -216,10 +216,10 @@ read_entry b q time f hs =
       entries = built! b.master.built (picked b hs) ∷ [];
     }
 
--- a request that is no READ and no repeat, by its function: "Function 6 is never answered", nor are 8 and 10; the answer to 3 to 5 "echoes header
--- and objects with status"
+-- a request that is no READ and no repeat, by its function: "Function 6 is never answered"; the answer to 3 to 5 "echoes header and
+-- objects with status"
 unfoldable pub book_answer_of : (function : ℕ) (objects : List ℕ) → BookAnswer
-book_answer_of function o = first (is_unanswered function ⇒ unanswered ∷ member function (3 ∷ 4 ∷ 5 ∷ []) ⇒ echoes o ∷ []) plain
+book_answer_of function o = first (eqb function 6 ⇒ unanswered ∷ member function (3 ∷ 4 ∷ 5 ∷ []) ⇒ echoes o ∷ []) plain
 
 -- a request that is no faultless READ and no repeat, and what is said of it; answered: it has a response
 unfoldable pub other_entry : Book → (answered : Bool) → BookAnswer → ℕ → List ℕ → Entry
@@ -229,15 +229,6 @@ other_entry b answered answer time f =
       answer = answer;
       entries = cond answered (built! b.master.built [] ∷ []) [];
     }
-
--- "the clears done": the counters that a freeze names are frozen, and cleared, before it is entered
-abbrev pub froze : (function : ℕ) → List ℕ → Book → Book
-froze function o b = with_shared (with_inputs (inputs_after function o b.shared.inputs) b.shared) b
-
--- a request that is no READ and no repeat
-abbrev pub new_request_entry : Book → (function : ℕ) → ℕ → List ℕ → Entry
-new_request_entry b function time f =
-    other_entry (froze function (objects_of f) b) (not (is_unanswered function)) (book_answer_of function (objects_of f)) time f
 
 -- "A repeat's answer is not newly built."
 unfoldable pub repeat_entry : Book → ℕ → Entry
@@ -282,7 +273,7 @@ ask_entry (confirms q uns) b time f = confirm_entry b b.master.wait q uns time
 ask_entry (reads q hs) b time f = read_entry b q time f hs
 ask_entry (misreads q n) b time f = other_entry b true plain time f
 ask_entry (asks q function) b time f =
-    cond (same f b.master.last) (repeat_entry b time) (new_request_entry b function time f)
+    cond (same f b.master.last) (repeat_entry b time) (other_entry b (not (eqb function 6)) (book_answer_of function (objects_of f)) time f)
 
 unfoldable pub fragment_entry : (time : ℕ) (bytes : List ℕ) (room : ℕ) → Book → Entry
 fragment_entry time f room b =
@@ -305,7 +296,7 @@ book_of u =
           record {
             confirm_time = u.confirm_time;
             clock = 0;
-            inputs = fresh_inputs u;
+            inputs = record { binaries = map fresh_binary (binary_classes u); analogs = map fresh_analog (analog_setups u) };
           };
       master = record { rows = []; wait = idle; warning = false; last = []; built = 0 };
     }

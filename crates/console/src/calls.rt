@@ -7,7 +7,7 @@ use line_calls::{answers, session};
 use outstation::{Head, ReadingWords};
 use point_calls::readings::RECORDS_MAX;
 use point_calls::{held, readings, setup};
-use point_store::{ANALOG_WORDS, BINARY_WORDS, COUNTER_WORDS};
+use point_store::{ANALOG_WORDS, BINARY_WORDS};
 use points::POINTS_MAX;
 use tables::TableTook;
 
@@ -20,14 +20,13 @@ fn kept(setup: &mut [u8], w: &[u8]) -> usize {
     w.len()
 }
 
-// setup OWN MASTER ARM CONFIRM NB NA NO BINARY.. ANALOG.., then c NC COUNTER.. and s NS SETPOINT.., each or neither
+// setup OWN MASTER ARM CONFIRM NB NA NO BINARY.. ANALOG.., and s NS SETPOINT.. or nothing
 pub fn setup(
     u: Unit,
     w: &[u8],
     c: text::Cursor,
     binaries: &mut [u32; BINARY_WORDS],
     analogs: &mut [u32; ANALOG_WORDS],
-    counters: &mut [u32; COUNTER_WORDS],
     outputs: &mut [u32; ANALOG_OUTPUT_WORDS],
     setup: &mut [u8],
     gathered: &mut [u8],
@@ -35,7 +34,7 @@ pub fn setup(
     at: usize,
 ) -> Unit {
     let mut classes = [0u8; POINTS_MAX];
-    let t = setup::set_up(w, c, &mut classes, binaries, analogs, counters, outputs);
+    let t = setup::set_up(w, c, &mut classes, binaries, analogs, outputs);
     if !t.right {
         return unit::told_all(u, out, at, b"fault");
     }
@@ -70,7 +69,6 @@ pub fn restart(
     c: text::Cursor,
     binaries: &mut [u32; BINARY_WORDS],
     analogs: &mut [u32; ANALOG_WORDS],
-    counters: &mut [u32; COUNTER_WORDS],
     outputs: &mut [u32; ANALOG_OUTPUT_WORDS],
     setup: &[u8],
     out: &mut [u8],
@@ -92,7 +90,6 @@ pub fn restart(
         &mut classes,
         binaries,
         analogs,
-        counters,
         outputs,
     );
     let r = t.restarted;
@@ -110,7 +107,7 @@ pub fn restart(
     }
 }
 
-// bin, ana, flt and cnt T I V F; the kind is that of a table's record.
+// bin, ana and flt T I V F; the kind is that of a table's record.
 pub fn reading(
     u: Unit,
     w: &[u8],
@@ -118,7 +115,6 @@ pub fn reading(
     kind: u8,
     binaries: &mut [u32; BINARY_WORDS],
     analogs: &mut [u32; ANALOG_WORDS],
-    counters: &mut [u32; COUNTER_WORDS],
     held: &mut [u64; EVENT_WORDS],
     out: &mut [u8],
     at: usize,
@@ -132,7 +128,7 @@ pub fn reading(
         return unit::told_all(u, out, at, b"none");
     }
     let x = r.reading;
-    let t = outstation::take_reading(u.head, binaries, analogs, counters, held, x);
+    let t = outstation::take_reading(u.head, binaries, analogs, held, x);
     let head = t.head;
     let b = answers::taken(t.refusal, out, at);
     unit::left(u, head, b)
@@ -145,7 +141,6 @@ fn taken(
     n: usize,
     binaries: &mut [u32; BINARY_WORDS],
     analogs: &mut [u32; ANALOG_WORDS],
-    counters: &mut [u32; COUNTER_WORDS],
     held: &mut [u64; EVENT_WORDS],
 ) -> TableTook {
     let mut t = tables::begin_table(h);
@@ -157,7 +152,7 @@ fn taken(
         let i = t.taken;
         if i < RECORDS_MAX {
             let r = readings[i];
-            t = tables::take_next(t, binaries, analogs, counters, held, r);
+            t = tables::take_next(t, binaries, analogs, held, r);
         }
         left -= 1;
     }
@@ -171,7 +166,6 @@ pub fn table(
     c: text::Cursor,
     binaries: &mut [u32; BINARY_WORDS],
     analogs: &mut [u32; ANALOG_WORDS],
-    counters: &mut [u32; COUNTER_WORDS],
     held: &mut [u64; EVENT_WORDS],
     out: &mut [u8],
     at: usize,
@@ -185,7 +179,7 @@ pub fn table(
         return unit::told_all(u, out, at, b"none");
     }
     let rs = t.readings;
-    let r = taken(u.head, rs, t.count, binaries, analogs, counters, held);
+    let r = taken(u.head, rs, t.count, binaries, analogs, held);
     let head = r.head;
     let b = took_words(r.taken, r.refusal, out, at);
     unit::left(u, head, b)

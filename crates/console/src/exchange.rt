@@ -9,7 +9,7 @@ use fragments::{FragmentAnswer, FragmentResult};
 use line_calls::answers::{BYTES_MAX, Outcome, ROOM_MAX};
 use line_calls::{answers, session};
 use outstation::Head;
-use point_store::{ANALOG_WORDS, BINARY_WORDS, COUNTER_WORDS};
+use point_store::{ANALOG_WORDS, BINARY_WORDS};
 use points::Value;
 
 // frag T LEN HEX
@@ -19,7 +19,6 @@ pub fn frag(
     c: text::Cursor,
     binaries: &[u32; BINARY_WORDS],
     analogs: &[u32; ANALOG_WORDS],
-    counters: &mut [u32; COUNTER_WORDS],
     held: &mut [u64; EVENT_WORDS],
     request: &mut [u8; FRAGMENT_MAX],
     answer: &mut [u8; ANSWER_MAX],
@@ -40,8 +39,8 @@ pub fn frag(
         return unit::told_all(u, out, at, b"none");
     }
     let r = lend(
-        u.head, binaries, analogs, counters, held, request, answer, objects, outputs, t.value,
-        bytes, f.len, lent, f.size,
+        u.head, binaries, analogs, held, request, answer, objects, outputs, t.value, bytes, f.len,
+        lent, f.size,
     );
     let head = r.head;
     let a = r.answer;
@@ -54,7 +53,6 @@ fn lend(
     h: Head,
     binaries: &[u32; BINARY_WORDS],
     analogs: &[u32; ANALOG_WORDS],
-    counters: &mut [u32; COUNTER_WORDS],
     held: &mut [u64; EVENT_WORDS],
     request: &mut [u8; FRAGMENT_MAX],
     answer: &mut [u8; ANSWER_MAX],
@@ -72,7 +70,6 @@ fn lend(
         h,
         binaries,
         analogs,
-        counters,
         held,
         request,
         answer,
@@ -89,7 +86,6 @@ fn answered(
     h: Head,
     binaries: &[u32; BINARY_WORDS],
     analogs: &[u32; ANALOG_WORDS],
-    counters: &mut [u32; COUNTER_WORDS],
     held: &mut [u64; EVENT_WORDS],
     request: &mut [u8; FRAGMENT_MAX],
     answer: &mut [u8; ANSWER_MAX],
@@ -101,8 +97,7 @@ fn answered(
 ) -> FragmentResult {
     answers::fill(lent);
     fragments::fragment(
-        h, binaries, analogs, counters, held, request, answer, objects, outputs, time, fragment,
-        lent,
+        h, binaries, analogs, held, request, answer, objects, outputs, time, fragment, lent,
     )
 }
 

@@ -16,7 +16,7 @@ use line_calls::answers::{BYTES_MAX, ROOM_MAX};
 use line_calls::lines::LineCall;
 use line_calls::{answers, lines};
 use names::Command;
-use point_store::{ANALOG_WORDS, BINARY_WORDS, COUNTER_WORDS};
+use point_store::{ANALOG_WORDS, BINARY_WORDS};
 use unit::Unit;
 
 // The longest line, and room for it beside what is read next.
@@ -247,7 +247,6 @@ fn call(
     c: text::Cursor,
     binaries: &mut [u32; BINARY_WORDS],
     analogs: &mut [u32; ANALOG_WORDS],
-    counters: &mut [u32; COUNTER_WORDS],
     held: &mut [u64; EVENT_WORDS],
     request: &mut [u8; FRAGMENT_MAX],
     answer: &mut [u8; ANSWER_MAX],
@@ -263,22 +262,20 @@ fn call(
 ) -> Unit {
     match k {
         Command::Reading(kind) => {
-            calls::reading(u, w, c, kind, binaries, analogs, counters, held, out, at)
+            calls::reading(u, w, c, kind, binaries, analogs, held, out, at)
         }
-        Command::Table => calls::table(u, w, c, binaries, analogs, counters, held, out, at),
+        Command::Table => calls::table(u, w, c, binaries, analogs, held, out, at),
         Command::Frag => exchange::frag(
-            u, w, c, binaries, analogs, counters, held, request, answer, objects, outputs, bytes,
-            lent, out, at,
+            u, w, c, binaries, analogs, held, request, answer, objects, outputs, bytes, lent, out,
+            at,
         ),
         Command::Held => calls::held(u, c, held, out, at),
         Command::Setup => {
             calls::setup(
-                u, w, c, binaries, analogs, counters, outputs, setup, gathered, out, at,
+                u, w, c, binaries, analogs, outputs, setup, gathered, out, at,
             )
         }
-        Command::Restart => {
-            calls::restart(u, c, binaries, analogs, counters, outputs, setup, out, at)
-        }
+        Command::Restart => { calls::restart(u, c, binaries, analogs, outputs, setup, out, at) }
         Command::Line(l) => {
             let mut next = u;
             next.session = lines::line_call(
@@ -294,7 +291,6 @@ fn serve(
     t: &mut [u8],
     binaries: &mut [u32; BINARY_WORDS],
     analogs: &mut [u32; ANALOG_WORDS],
-    counters: &mut [u32; COUNTER_WORDS],
     held: &mut [u64; EVENT_WORDS],
     request: &mut [u8; FRAGMENT_MAX],
     answer: &mut [u8; ANSWER_MAX],
@@ -331,7 +327,6 @@ fn serve(
             c,
             binaries,
             analogs,
-            counters,
             held,
             request,
             answer,
@@ -359,7 +354,6 @@ fn main() {
     let mut t = [0u8; TEXT_MAX];
     let mut binaries = [0u32; BINARY_WORDS];
     let mut analogs = [0u32; ANALOG_WORDS];
-    let mut counters = [0u32; COUNTER_WORDS];
     let mut held = [0u64; EVENT_WORDS];
     let mut request = [0u8; FRAGMENT_MAX];
     let mut answer = [0u8; ANSWER_MAX];
@@ -375,7 +369,6 @@ fn main() {
         &mut t,
         &mut binaries,
         &mut analogs,
-        &mut counters,
         &mut held,
         &mut request,
         &mut answer,

@@ -2,7 +2,7 @@
 use line_calls::lines;
 use line_calls::lines::LineCall;
 
-// All calls. Reading: a binary (b), whole (a), float (f) or counter (c) one.
+// All calls. Reading: a binary (b), whole (a) or float (f) one.
 #[derive(Drop)]
 pub enum Command {
     Setup,
@@ -23,9 +23,6 @@ pub fn command_of(w: &[u8]) -> Command {
     }
     if octets::equal(w, b"flt") {
         return Command::Reading(b'f');
-    }
-    if octets::equal(w, b"cnt") {
-        return Command::Reading(b'c');
     }
     if octets::equal(w, b"table") {
         return Command::Table;

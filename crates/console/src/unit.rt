@@ -3,8 +3,7 @@ use analog_outputs::{ANALOG_OUTPUTS_MAX, AnalogOutputWords};
 use line_calls::session::LineSession;
 use line_calls::{answers, session};
 use outstation::Head;
-use points::COUNTERS_MAX;
-use restart::{CounterSetupWords, SetupWords};
+use restart::SetupWords;
 
 // The session, the outstation's head, and how long the line was that set it up.
 #[derive(Drop)]
@@ -22,9 +21,7 @@ pub fn fresh() -> Unit {
         high: 0,
         kind: 0,
     };
-    let outputs = [none; ANALOG_OUTPUTS_MAX];
-    let no_counter = CounterSetupWords { limit: 0, class: 0 };
-    let counters = [no_counter; COUNTERS_MAX];
+    let items = [none; ANALOG_OUTPUTS_MAX];
     let r = restart::finish_restart(
         SetupWords {
             arm_time: 0,
@@ -33,9 +30,7 @@ pub fn fresh() -> Unit {
             master: 0,
             outputs: 0,
             analog_output_count: 0,
-            analog_outputs: outputs,
-            counter_count: 0,
-            counters,
+            analog_outputs: items,
         },
         0,
         restart::RestartProgress { at: 0, refusal: 5 },

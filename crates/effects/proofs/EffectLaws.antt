@@ -1,19 +1,13 @@
 -- Laws of a CONFIRM's step by what it comes to, and of what a request other than READ does.
 -- Assumes nothing.
 use mathlib.Core.Path.{◌≡◌, refl, sym, ap, subst, ◌∙◌}
-use mathlib.Core.Bool.{Bool, true, false, cond, true≢false}
+use mathlib.Core.Bool.{Bool, true, false, cond}
 use mathlib.Core.List.{List, []}
 use Prim.Native.Nat.{ℕ, ◌≤◌}
 use native.Mathlib.Omega.{arith}
 use lib.Dec.{eqb}
-use borrow.Author.Tests.{eqb-true}
-use Rattle.laws.proofs.Choices.{by}
-use lib.ListN.{length, replicate, length-replicate}
+use lib.ListN.{length}
 use Rattle.application.specs.declared.Fault.TheVariants.{FunctionUnknown}
-use Rattle.application.specs.Fragment.{is_unanswered}
-use Rattle.freeze.specs.Freeze.{is_freeze}
-use Rattle.points.specs.declared.CounterPoint.{CounterPoint}
-use Rattle.points.specs.PointsView.{no_counter}
 use Rattle.application.specs.declared.ApplicationSequence.{ApplicationSequence}
 use Rattle.control.specs.Objects.{answer_max}
 use Rattle.select_latch.specs.declared.ControlFunction.{ControlFunction}
@@ -24,7 +18,7 @@ use Rattle.outstation.specs.declared.Wait.{Wait}
 use Rattle.outstation.specs.declared.Wait.TheVariants.{Idle, Awaiting}
 use Rattle.outstation.specs.Requests.{is_confirmed}
 use Rattle.outstation.specs.OutstationView.{OutstationView}
-use Rattle.outstation.specs.Step.{Result, refusal, control_request_effect, write_effect, freeze_effect, plain_effect, effect_by, confirmed_step, confirm_step}
+use Rattle.outstation.specs.Step.{Result, refusal, control_request_effect, write_effect, plain_effect, effect_by, confirmed_step, confirm_step}
 use Rattle.effects.specs.declared.Confirmation.{Confirmation}
 use Rattle.effects.specs.declared.RequestEffect.{RequestEffect}
 use Rattle.effects.specs.declared.RequestContext.{RequestContext}
@@ -56,91 +50,74 @@ confirm-given w P v q uns time x y is e h = subst P (sym (is w refl ∙ ap (λ (
 
 -- an answer that is kept has at most 113 bytes
 pub objects-most : (w : OutstationView) (q function time : ℕ) (o : List ℕ) → length (effect_by w q function time o).objects ≤ 109
-objects-most w q function time o = go (eqb function 2) (eqb function 3) (eqb function 4) (eqb function 5) (eqb function 6) (is_freeze function)
+objects-most w q function time o = go (eqb function 2) (eqb function 3) (eqb function 4) (eqb function 5) (eqb function 6)
   where
     most : (f : ControlFunction) → length (control_request_effect w f q time o).objects ≤ 109
     most f = echo-most w.shared.outputs w.shared.arm_time w.master.session.latch f q time o
 
-    go : (a b c d e g : Bool)
+    go : (a b c d e : Bool)
         → length
         (cond a (write_effect w o)
         (cond b (control_request_effect w Select q time o)
         (cond c (control_request_effect w Operate q time o)
         (cond d (control_request_effect w DirectOperate q time o)
         (cond e (control_request_effect w DirectOperateNoResponse q time o)
-        (cond g (freeze_effect w o)
-        (plain_effect w FunctionUnknown w.master.session.restarted))))))).objects ≤ 109
-    go true b c d e g = omega arith
-    go false true c d e g = most Select
-    go false false true d e g = most Operate
-    go false false false true e g = most DirectOperate
-    go false false false false true g = most DirectOperateNoResponse
-    go false false false false false true = omega arith
-    go false false false false false false = omega arith
+        (plain_effect w FunctionUnknown w.master.session.restarted)))))).objects ≤ 109
+    go true b c d e = omega arith
+    go false true c d e = most Select
+    go false false true d e = most Operate
+    go false false false true e = most DirectOperate
+    go false false false false true = most DirectOperateNoResponse
+    go false false false false false = omega arith
 
--- what is never answered has no objects
-pub silent-objects : (w : OutstationView) (q function time : ℕ) (o : List ℕ) → is_unanswered function ≡ true → (effect_by w q function time o).objects ≡ []
-unfolding is_unanswered
+-- function 6 is never answered, so it has no objects
+pub silent-objects : (w : OutstationView) (q function time : ℕ) (o : List ℕ) → function ≡ 6 → (effect_by w q function time o).objects ≡ []
 silent-objects w q function time o e =
-    by (eqb function 6)
-    (λ t.
-    ap (λ (n : ℕ). (effect_by w q n time o).objects) (eqb-true function 6 t)
-    ∙ unanswered-echo w.shared.outputs w.shared.arm_time w.master.session.latch DirectOperateNoResponse q time o refl)
-    (λ t.
-    by (eqb function 8)
-    (λ u. ap (λ (n : ℕ). (effect_by w q n time o).objects) (eqb-true function 8 u))
-    (λ u.
-    by (eqb function 10)
-    (λ v. ap (λ (n : ℕ). (effect_by w q n time o).objects) (eqb-true function 10 v))
-    (λ v. absurd (true≢false (sym e ∙ rw (t, u, v))))))
+    ap (λ (n : ℕ). (effect_by w q n time o).objects) e
+    ∙ unanswered-echo w.shared.outputs w.shared.arm_time w.master.session.latch DirectOperateNoResponse q time o refl
 
 -- the events that a request other than READ leaves
 pub effect-buffer : (w : OutstationView) (q function time : ℕ) (o : List ℕ) → cleared w.master.buffer ≡ (effect_by w q function time o).buffer
-effect-buffer w q function time o = go (eqb function 2) (eqb function 3) (eqb function 4) (eqb function 5) (eqb function 6) (is_freeze function)
+effect-buffer w q function time o = go (eqb function 2) (eqb function 3) (eqb function 4) (eqb function 5) (eqb function 6)
   where
-    go : (a b c d e g : Bool)
+    go : (a b c d e : Bool)
         → cleared w.master.buffer
         ≡ (cond a (write_effect w o)
         (cond b (control_request_effect w Select q time o)
         (cond c (control_request_effect w Operate q time o)
         (cond d (control_request_effect w DirectOperate q time o)
         (cond e (control_request_effect w DirectOperateNoResponse q time o)
-        (cond g (freeze_effect w o)
-        (plain_effect w FunctionUnknown w.master.session.restarted))))))).buffer
-    go true b c d e g = refl
-    go false true c d e g = refl
-    go false false true d e g = refl
-    go false false false true e g = refl
-    go false false false false true g = refl
-    go false false false false false true = refl
-    go false false false false false false = refl
+        (plain_effect w FunctionUnknown w.master.session.restarted)))))).buffer
+    go true b c d e = refl
+    go false true c d e = refl
+    go false false true d e = refl
+    go false false false true e = refl
+    go false false false false true = refl
+    go false false false false false = refl
 
 -- it awaits nothing
 pub effect-idle : (w : OutstationView) (q function time : ℕ) (o : List ℕ) → (effect_by w q function time o).wait ≡ Idle
-effect-idle w q function time o = go (eqb function 2) (eqb function 3) (eqb function 4) (eqb function 5) (eqb function 6) (is_freeze function)
+effect-idle w q function time o = go (eqb function 2) (eqb function 3) (eqb function 4) (eqb function 5) (eqb function 6)
   where
-    go : (a b c d e g : Bool)
+    go : (a b c d e : Bool)
         → (cond a (write_effect w o)
         (cond b (control_request_effect w Select q time o)
         (cond c (control_request_effect w Operate q time o)
         (cond d (control_request_effect w DirectOperate q time o)
         (cond e (control_request_effect w DirectOperateNoResponse q time o)
-        (cond g (freeze_effect w o)
-        (plain_effect w FunctionUnknown w.master.session.restarted))))))).wait
+        (plain_effect w FunctionUnknown w.master.session.restarted)))))).wait
         ≡ Idle
-    go true b c d e g = refl
-    go false true c d e g = refl
-    go false false true d e g = refl
-    go false false false true e g = refl
-    go false false false false true g = refl
-    go false false false false false true = refl
-    go false false false false false false = refl
+    go true b c d e = refl
+    go false true c d e = refl
+    go false false true d e = refl
+    go false false false true e = refl
+    go false false false false true = refl
+    go false false false false false = refl
 
 -- its answer has at most 113 bytes
 pub effect-small : (seen : RequestContext) (ws : List ℕ) (q function time : ℕ) (o : List ℕ) (r : RequestEffect) (b a : List ℕ)
-    → EffectMeetsWith r seen.counters b a (λ u cs. effect_by (context_view seen ws u cs) q function time o)
+    → EffectMeetsWith r b a (λ u. effect_by (context_view seen ws u) q function time o)
     → r.size ≤ answer_max
 effect-small seen ws q function time o r b a worked =
     let u : BufferView = record { held = []; overflow = false } in
-    let cs : List CounterPoint = replicate seen.counters no_counter in
-    omega (arith, objects-most (context_view seen ws u cs) q function time o, (worked u cs (length-replicate seen.counters no_counter)).size)
+    omega (arith, objects-most (context_view seen ws u) q function time o, (worked u).size)

@@ -6,7 +6,6 @@ use Rattle.control.specs.Objects.{echo_max, Holding}
 use Rattle.control.specs.Status.{outputs_of}
 use Rattle.select_latch.specs.Select.{latch_of}
 use Rattle.events.specs.BufferView.{BufferView}
-use Rattle.points.specs.declared.CounterPoint.{CounterPoint}
 use Rattle.application.specs.Response.{is_faultless, write_fault}
 use Rattle.last_request.specs.Repeat.{nothing}
 use Rattle.outstation.specs.declared.Wait.{Wait}
@@ -31,17 +30,17 @@ pub record EffectMeets (r : RequestEffect) (before after : List ℕ) (d : S.Requ
   pub counted : r.latch.len ≤ echo_max
   pub restarted : r.restarted ≡ d.restarted
 
--- the same, whatever events are held, and whatever the so many counters are
-abbrev pub EffectMeetsWith : RequestEffect → (counters : ℕ) → List ℕ → List ℕ → (BufferView → List CounterPoint → S.RequestEffect) → Type 0
-EffectMeetsWith r counters before after d = (k : BufferView) (cs : List CounterPoint) → length cs ≡ counters → EffectMeets r before after (d k cs)
+-- the same, whatever events are held
+abbrev pub EffectMeetsWith : RequestEffect → List ℕ → List ℕ → (BufferView → S.RequestEffect) → Type 0
+EffectMeetsWith r before after d = (k : BufferView) → EffectMeets r before after (d k)
 
 -- the same, whatever the state is, of a function that is lent nothing
 abbrev pub EffectMeetsStill : RequestEffect → (OutstationView → S.RequestEffect) → Type 0
 EffectMeetsStill r d = (w : OutstationView) (lent : List ℕ) → EffectMeets r lent lent (d w)
 
--- the state as a request other than READ sees it, with these analog outputs' words, these events and these counters
-abbrev pub context_view : RequestContext → List ℕ → BufferView → List CounterPoint → OutstationView
-context_view s ws k cs =
+-- the state as a request other than READ sees it, with these analog outputs' words and these events
+abbrev pub context_view : RequestContext → List ℕ → BufferView → OutstationView
+context_view s ws k =
     record {
       shared =
           record {
@@ -49,7 +48,7 @@ context_view s ws k cs =
             confirm_time = 0;
             outputs = outputs_of s.outputs ws;
             clock = 0;
-            inputs = record { binaries = []; analogs = []; counters = cs };
+            inputs = record { binaries = []; analogs = [] };
           };
       master =
           record {

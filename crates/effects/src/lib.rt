@@ -22,11 +22,10 @@ pub enum Confirmation {
     },
 }
 
-// What a request other than READ sees of the state, beside the analog outputs' words; `counters` of them are installed.
+// What a request other than READ sees of the state, beside the analog outputs' words.
 #[derive(Drop)]
 pub struct RequestContext {
     pub outputs: OutputCounts,
-    pub counters: u16,
     pub arm_time: u64,
     pub restarted: bool,
     pub latch: Latch,
@@ -147,7 +146,7 @@ fn control_request_effect(
     out: &mut [u8],
 ) -> RequestEffect
     requires { fragment_max ≤ length out.old }
-    ensures { EffectMeetsWith result seen.counters out.old out.new (λ k cs. control_request_effect (context_view seen ws.now k cs) g q.0 time s.now) }
+    ensures { EffectMeetsWith result out.old out.new (λ k. control_request_effect (context_view seen ws.now k) g q.0 time s.now) }
 {
     let latch = seen.latch;
     let counts = seen.outputs;
@@ -184,7 +183,7 @@ pub fn effect_by(
     out: &mut [u8],
 ) -> RequestEffect
     requires { fragment_max ≤ length out.old }
-    ensures { EffectMeetsWith result seen.counters out.old out.new (λ k cs. effect_by (context_view seen ws.now k cs) q.0 function time s.now) }
+    ensures { EffectMeetsWith result out.old out.new (λ k. effect_by (context_view seen ws.now k) q.0 function time s.now) }
 {
     if function == 2 {
         return write_effect(seen.restarted, s);
@@ -208,9 +207,6 @@ pub fn effect_by(
             s,
             out,
         );
-    }
-    if freeze::is_freeze(function) {
-        return plain_effect(freeze::freeze_fault(s, seen.counters), seen.restarted);
     }
     plain_effect(Fault::FunctionUnknown, seen.restarted)
 }

@@ -19,7 +19,7 @@ use Rattle.objects.proofs.RunLaws.{lead-nil, lead-other}
 use Rattle.events.specs.Placing.{kind_of, shown_kind, object_size}
 use Rattle.events.specs.BufferView.{is_carried}
 use Rattle.events.specs.declared.Shown.{Shown}
-use Rattle.events.specs.declared.Shown.TheVariants.{State, Analog, Counter}
+use Rattle.events.specs.declared.Shown.TheVariants.{State, Analog}
 use Rattle.events.specs.declared.Event.{Event}
 use Rattle.events.specs.declared.Held.{Held}
 use Rattle.event_objects.specs.Events.{event_heading, flags_byte, shown_bytes, event_bytes, event_object, carried_events, carried_objects}
@@ -62,9 +62,6 @@ module _ (e : Event) where
   pub length-analog : (v : Value) → e.shown ≡ Analog v → length (event_bytes e) ≡ 9 + value_size v
   length-analog v h = length-event ∙ ap (λ (s : Shown). 9 + length (shown_bytes s)) h ∙ ap (λ (n : ℕ). 9 + n) (length-value v)
 
-  pub length-counter : (n : ℕ) → e.shown ≡ Counter n → length (event_bytes e) ≡ 13
-  length-counter n h = length-event ∙ ap (λ (s : Shown). 9 + length (shown_bytes s)) h ∙ ap (λ (m : ℕ). 9 + m) (length-le 4 n)
-
   -- the size that the selection counts
   pub length-size : length (event_bytes e) ≡ object_size (kind_of e)
   length-size = length-event ∙ go e.shown
@@ -74,7 +71,6 @@ module _ (e : Event) where
       go (Analog (Int32 z)) = ap (λ (n : ℕ). 9 + n) (length-value (Int32 z))
       go (Analog (Int16 z)) = ap (λ (n : ℕ). 9 + n) (length-value (Int16 z))
       go (Analog (Float32 x)) = ap (λ (n : ℕ). 9 + n) (length-value (Float32 x))
-      go (Counter n) = ap (λ (m : ℕ). 9 + m) (length-le 4 n)
 
   pub state-put : (d d1 d3 : List ℕ) (at f : ℕ) (on : Bool) → e.shown ≡ State on → f ≡ state_byte on e.flags
       → d1 ≡ splice d at (le 2 e.point) → d3 ≡ splice (set d1 (at + 2) f) (at + 3) (le 6 e.time)
@@ -98,16 +94,6 @@ module _ (e : Event) where
       ∙ event-put d at e.point e.flags n (value_bytes v) (le 6 e.time) (hn ∙ ap (λ (k : ℕ). at + 3 + k) (sym (length-value v)))
       ∙ ap (λ (s : Shown). splice d at (le 2 e.point ++ (flags_byte s e.flags ∷ (shown_bytes s ++ le 6 e.time)))) (sym h)
 
-  pub counter-put : (d d1 d2 d3 : List ℕ) (at n : ℕ) → e.shown ≡ Counter n
-      → d1 ≡ splice d at (le 2 e.point) → d2 ≡ splice (set d1 (at + 2) e.flags) (at + 3) (le 4 n) → d3 ≡ splice d2 (at + 7) (le 6 e.time)
-      → d3 ≡ splice d at (event_bytes e)
-  unfolding event_bytes
-  counter-put d d1 d2 d3 at n h e1 e2 e3 =
-      e3
-      ∙ ap (λ (x : List ℕ). splice x (at + 7) (le 6 e.time)) (e2 ∙ ap (λ (x : List ℕ). splice (set x (at + 2) e.flags) (at + 3) (le 4 n)) e1)
-      ∙ event-put d at e.point e.flags (at + 7) (le 4 n) (le 6 e.time) (omega (arith, length-le 4 n))
-      ∙ ap (λ (s : Shown). splice d at (le 2 e.point ++ (flags_byte s e.flags ∷ (shown_bytes s ++ le 6 e.time)))) (sym h)
-
 -- ---- the carried events' objects
 
 pub carried-nil : carried_objects [] ≡ []
@@ -128,7 +114,6 @@ kind-some (State on) h = omega arith
 kind-some (Analog (Int32 z)) h = omega arith
 kind-some (Analog (Int16 z)) h = omega arith
 kind-some (Analog (Float32 x)) h = omega arith
-kind-some (Counter n) h = omega arith
 
 none_of : (es : List Event) → lead 0 (map event_object es) ≡ 0
 none_of [] = lead-nil 0

@@ -1,5 +1,5 @@
 -- The events that a response carries, as bytes: "Events are 2 var 2, 32 var 3 (32-bit), 4 (16-bit), 7 (float), qualifier 28,
--- neighbours of one kind under one header"; of a counter "22 var 5".
+-- neighbours of one kind under one header."
 -- Assumes nothing.
 use Rattle.std.specs.Prelude.{ℕ, suc, cond, List, [], ◌∷◌, ◌++◌, map, eqb}
 use Rattle.laws.specs.First.{first, ◌⇒◌}
@@ -7,28 +7,33 @@ use Rattle.laws.specs.Lists.{filter}
 use Rattle.octets.specs.Bytes.{le}
 use Rattle.objects.specs.Values.{value_bytes, state_byte}
 use Rattle.objects.specs.Runs.{Object, Heading, encoded}
-use Rattle.events.specs.Placing.{event_kind, kind_of}
+use Rattle.events.specs.Placing.{kind_of}
 use Rattle.events.specs.BufferView.{is_carried}
 use Rattle.events.specs.declared.Shown.{Shown}
-use Rattle.events.specs.declared.Shown.TheVariants.{State, Analog, Counter}
+use Rattle.events.specs.declared.Shown.TheVariants.{State, Analog}
 use Rattle.events.specs.declared.Event.{Event}
 use Rattle.events.specs.declared.Held.{Held}
 
--- group and variation of the kind, qualifier 28, the number of objects in two bytes
+-- by the kind: 1 binary, 2 a 32-bit, 3 a 16-bit, 4 a float analog
+abbrev pub event_group : ℕ → ℕ
+event_group k = cond (eqb k 1) 2 32
+
+abbrev pub event_variation : ℕ → ℕ
+event_variation k = first (eqb k 1 ⇒ 2 ∷ eqb k 2 ⇒ 3 ∷ eqb k 3 ⇒ 4 ∷ []) 7
+
+-- group, variation, qualifier 28, the number of objects in two bytes
 abbrev pub event_heading : Heading
-event_heading k index n = (event_kind k).group ∷ (event_kind k).variation ∷ 40 ∷ le 2 n
+event_heading k index n = event_group k ∷ event_variation k ∷ 40 ∷ le 2 n
 
 -- a binary's flags have its state
 abbrev pub flags_byte : Shown → ℕ → ℕ
 flags_byte (State on) flags = state_byte on flags
 flags_byte (Analog v) flags = flags
-flags_byte (Counter n) flags = flags
 
 -- a binary has no value
 abbrev pub shown_bytes : Shown → List ℕ
 shown_bytes (State on) = []
 shown_bytes (Analog v) = value_bytes v
-shown_bytes (Counter n) = le 4 n
 
 -- index in two bytes, flags, value, time in six bytes
 unfoldable pub event_bytes : Event → List ℕ

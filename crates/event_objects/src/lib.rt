@@ -5,6 +5,8 @@ ghost use Rattle.laws.specs.Limits.{events_max};
 ghost use Rattle.octets.specs.Bytes.{splice};
 ghost use Rattle.event_store.specs.EventWords.{slots_in, buffer_view_in};
 ghost use Rattle.event_objects.specs.Events.{
+  event_group,
+  event_variation,
   event_heading,
   event_bytes,
   carried_kind,
@@ -15,14 +17,34 @@ ghost use Rattle.event_objects.specs.Events.{
 use event_store::{BufferStatus, EVENT_WORDS};
 use events::{Event, Held, Shown};
 
+fn group(kind: u8) -> u8
+    ensures { result ≡ event_group kind }
+{
+    if kind == 1 { 2 } else { 32 }
+}
+
+fn variation(kind: u8) -> u8
+    ensures { result ≡ event_variation kind }
+{
+    if kind == 1 {
+        return 2;
+    }
+    if kind == 2 {
+        return 3;
+    }
+    if kind == 3 {
+        return 4;
+    }
+    7
+}
+
 // Puts a header at the offset, and answers the offset after it.
 fn put_heading(out: &mut [u8], at: usize, kind: u8, n: u16) -> usize
     requires { at + 5 ≤ length out.old }
     ensures { (result ≡ at + 5) × (out.new ≡ splice out.old at (event_heading kind 0 n)) }
 {
-    let facts = events::event_kind(kind);
-    out[at] = facts.group;
-    out[at + 1] = facts.variation;
+    out[at] = group(kind);
+    out[at + 1] = variation(kind);
     out[at + 2] = 40;
     octets::put2(out, at + 3, n);
     at + 5
@@ -47,12 +69,6 @@ fn put_event(out: &mut [u8], at: usize, e: Event) -> usize
             let to = objects::put_value(out, at + 3, v);
             octets::put6(out, to, e.time);
             to + 6
-        }
-        Shown::Counter(n) => {
-            out[at + 2] = e.flags;
-            octets::put4(out, at + 3, n);
-            octets::put6(out, at + 7, e.time);
-            at + 13
         }
     }
 }

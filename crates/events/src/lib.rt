@@ -1,27 +1,18 @@
 // Events: what is held of each, and what the selection of a response does with it.
 ghost use Rattle.std.specs.Prelude.{◌≡◌, ◌||◌, min, ◌≤◌, eqb};
 ghost use Rattle.laws.specs.Limits.{events_max};
-ghost use Rattle.events.specs.Placing.{event_kind, kind_of, is_asked, cost_of, place_event};
+ghost use Rattle.events.specs.Placing.{kind_of, object_size, is_asked, cost_of, place_event};
 
 use points::Value;
 
 // How many events may be held.
 pub const CAPACITY: usize = 256;
 
-// What an event shows: a binary's state, an analog's value, or a counter's count.
+// What an event shows: a binary's state, or an analog's value.
 #[derive(Drop)]
 pub enum Shown {
     State(bool),
     Analog(Value),
-    Counter(u32),
-}
-
-// A kind of event objects: its group and variation, and the bytes of an object with its index.
-#[derive(Drop)]
-pub struct EventKind {
-    pub group: u8,
-    pub variation: u8,
-    pub size: usize,
 }
 
 // An event: its reading's time, what it shows, its point, the shown flags without the state, its point's class.
@@ -79,7 +70,7 @@ fn is_asked(m: Classes, class: u8) -> bool
     false
 }
 
-// The kind of an event's object: 1 binary, 2 a 32-bit, 3 a 16-bit, 4 a float analog, 5 a counter.
+// The kind of an event's object: 1 binary, 2 a 32-bit, 3 a 16-bit, 4 a float analog.
 pub fn kind(e: Event) -> u8
     ensures { result ≡ kind_of e }
 {
@@ -91,55 +82,27 @@ pub fn kind(e: Event) -> u8
             Value::Int16(_) => 3,
             Value::Float32(_) => 4,
         },
-        Shown::Counter(_) => 5,
     }
 }
 
-// The table of the kinds: one row for each.
-pub fn event_kind(kind: u8) -> EventKind
-    ensures { (result ≡ event_kind kind) × (result.size ≤ 13) }
+// The bytes of an event's object with its index.
+fn size(kind: u8) -> usize
+    ensures { (result ≡ object_size kind) × (result ≤ 13) }
 {
     if kind == 1 {
-        return EventKind {
-            group: 2,
-            variation: 2,
-            size: 9,
-        };
-    }
-    if kind == 2 {
-        return EventKind {
-            group: 32,
-            variation: 3,
-            size: 13,
-        };
+        return 9;
     }
     if kind == 3 {
-        return EventKind {
-            group: 32,
-            variation: 4,
-            size: 11,
-        };
+        return 11;
     }
-    if kind == 4 {
-        return EventKind {
-            group: 32,
-            variation: 7,
-            size: 13,
-        };
-    }
-    EventKind {
-        group: 22,
-        variation: 5,
-        size: 13,
-    }
+    13
 }
 
 // The bytes that an event takes: with a header where its kind is not the last one's.
 fn cost(k: Space, kind: u8) -> usize
     ensures { (result ≡ cost_of k kind) × (result ≤ 18) }
 {
-    let facts = event_kind(kind);
-    let n = facts.size;
+    let n = size(kind);
     if kind == k.kind { n } else { n + 5 }
 }
 

@@ -6,13 +6,14 @@ use mathlib.Core.List.{List, []}
 use Prim.Native.Nat.{ℕ, ◌+◌, ◌≤◌}
 use native.Mathlib.Omega.{arith}
 use lib.Dec.{eqb}
+use borrow.Author.Tests.{eqb-true}
 use lib.ListN.{length, take, length-append}
 use Rattle.laws.specs.Limits.{fragment_max}
 use Rattle.octets.specs.Bytes.{splice}
 use Rattle.octets.proofs.Splice.{splice-nil}
 use Rattle.application.specs.declared.Fault.{Fault}
 use Rattle.application.specs.declared.Indications.{Indications}
-use Rattle.application.specs.Fragment.{is_unanswered, objects_of}
+use Rattle.application.specs.Fragment.{objects_of}
 use Rattle.application.specs.Response.{response_of}
 use Rattle.application.proofs.AnswerLaws.{answer-whole}
 use Rattle.read_headers.specs.Parse.{Parsed, headers, fault}
@@ -26,7 +27,7 @@ use Rattle.last_request.specs.Repeat.{LastRequestView, kept, kept_answer, is_rep
 use Rattle.last_request.proofs.ReplyLaws.{answer-taken}
 use Rattle.events.specs.BufferView.{Buffer, BufferView, buffer_view, released}
 use Rattle.outstation.specs.OutstationView.{OutstationView, SessionView}
-use Rattle.outstation.specs.Step.{Result, answers, silent, after_request, at_time, indications_of, indications, response_bytes, effect_by, read_step, request_step, froze, repeat_step, clearing}
+use Rattle.outstation.specs.Step.{Result, answers, silent, after_request, at_time, indications_of, indications, response_bytes, effect_by, read_step, request_step, repeat_step, clearing}
 use Rattle.outstation.specs.Step as S
 use Rattle.effects.specs.declared.RequestEffect.{RequestEffect}
 use Rattle.effects.specs.Effects.{EffectMeets}
@@ -91,7 +92,7 @@ module _ (w s : OutstationView) (r : RequestEffect) (b a₁ : List ℕ) (d : S.R
 module _ (w s : OutstationView) (q time : ℕ) (f : List ℕ) (r : RequestEffect) (b a₁ : List ℕ) (d : S.RequestEffect) (worked : EffectMeets r b a₁ d) (k : BufferView)
     (marked : k ≡ d.buffer) (x : SessionView) (m : LastRequestView) (leaves : s ≡ left_with w time w.shared.inputs k x)
     (holds : x ≡ record { restarted = r.restarted; wait = r.wait; last = m; latch = latch_of r.latch }) where
-  silent-given : (function : ℕ) → is_unanswered function ≡ true → d.objects ≡ [] → m ≡ kept f []
+  silent-given : (function : ℕ) → eqb function 6 ≡ true → d.objects ≡ [] → m ≡ kept f []
       → AnsweredAs s Fs.Silent r.operated b a₁ (request_step w q function time f d)
   unfolding request_step
   silent-given function e none keeps =
@@ -105,7 +106,7 @@ module _ (w s : OutstationView) (q time : ℕ) (f : List ℕ) (r : RequestEffect
       })
 
   module _ (a₂ : List ℕ) (put : a₂ ≡ splice a₁ 0 (response_of q r.con (indications_of k r.restarted) r.fault)) (room : r.size ≤ length b) where
-    request-given : (function : ℕ) → is_unanswered function ≡ false → m ≡ kept f (take r.size a₂)
+    request-given : (function : ℕ) → eqb function 6 ≡ false → m ≡ kept f (take r.size a₂)
         → AnsweredAs s (Fs.Answer r.size) r.operated b a₂ (request_step w q function time f d)
     unfolding request_step
     request-given function e keeps =
@@ -131,20 +132,20 @@ module _ (w s : OutstationView) (q time : ℕ) (f : List ℕ) (r : RequestEffect
           lent = answer-lent q r b a₁ a₂ d worked k marked put;
         }
 
-  pub request-any : (a₂ : List ℕ) (n : ℕ) (is : FragmentAnswer) (function : ℕ) → (is_unanswered function ≡ true → d.objects ≡ [])
-      → a₂ ≡ cond (is_unanswered function) a₁ (splice a₁ 0 (response_of q r.con (indications_of k r.restarted) r.fault))
-      → n ≡ cond (is_unanswered function) 0 r.size → r.size ≤ length b → is ≡ cond (is_unanswered function) Fs.Silent (Fs.Answer n) → m ≡ kept f (take n a₂)
+  pub request-any : (a₂ : List ℕ) (n : ℕ) (is : FragmentAnswer) (function : ℕ) → (function ≡ 6 → d.objects ≡ [])
+      → a₂ ≡ cond (eqb function 6) a₁ (splice a₁ 0 (response_of q r.con (indications_of k r.restarted) r.fault))
+      → n ≡ cond (eqb function 6) 0 r.size → r.size ≤ length b → is ≡ cond (eqb function 6) Fs.Silent (Fs.Answer n) → m ≡ kept f (take n a₂)
       → AnsweredAs s is r.operated b a₂ (request_step w q function time f d)
-  request-any a₂ n is function none put size room said keeps = go (is_unanswered function) refl put size said
+  request-any a₂ n is function none put size room said keeps = go (eqb function 6) refl put size said
     where
-      go : (e : Bool) → is_unanswered function ≡ e
+      go : (e : Bool) → eqb function 6 ≡ e
           → a₂ ≡ cond e a₁ (splice a₁ 0 (response_of q r.con (indications_of k r.restarted) r.fault)) → n ≡ cond e 0 r.size
           → is ≡ cond e Fs.Silent (Fs.Answer n)
           → AnsweredAs s is r.operated b a₂ (request_step w q function time f d)
       go true e p z t =
           subst (λ (x : FragmentAnswer). AnsweredAs s x r.operated b a₂ (request_step w q function time f d)) (sym t)
           (subst (λ (x : List ℕ). AnsweredAs s Fs.Silent r.operated b x (request_step w q function time f d)) (sym p)
-          (silent-given function e (none e) (keeps ∙ ap (λ (j : ℕ). kept f (take j a₂)) z)))
+          (silent-given function e (none (eqb-true function 6 e)) (keeps ∙ ap (λ (j : ℕ). kept f (take j a₂)) z)))
       go false e p z t =
           subst (λ (x : FragmentAnswer). AnsweredAs s x r.operated b a₂ (request_step w q function time f d))
           (sym (t ∙ ap Fs.Answer z))
@@ -166,11 +167,9 @@ module _ (w : OutstationView) (q function time : ℕ) (f : List ℕ) (P : Result
     pub by-repeat : is_repeat w.master.session.last f ≡ true → P (repeat_step w function time) → P (request_by w q function time f)
     by-repeat t h = rw (e, t) h
 
-    -- w₁ is the state after the counters that it names are frozen
-    pub by-other : is_repeat w.master.session.last f ≡ false → (w₁ : OutstationView) → w₁ ≡ froze function (objects_of f) w
-        → P (request_step w₁ q function time f (effect_by w₁ q function time (objects_of f))) → P (request_by w q function time f)
-    by-other t w₁ z h =
-        rw (e, t) (subst (λ (x : OutstationView). P (request_step x q function time f (effect_by x q function time (objects_of f)))) z h)
+    pub by-other : is_repeat w.master.session.last f ≡ false → P (request_step w q function time f (effect_by w q function time (objects_of f)))
+        → P (request_by w q function time f)
+    by-other t h = rw (e, t) h
 
 -- the events that a READ leaves
 pub read-buffer : (w : OutstationView) (q time : ℕ) (p : Parsed) → (read_effect_by w q time p).buffer ≡ buffer_after w.shared.inputs p w.master.buffer
@@ -190,11 +189,11 @@ read-most w q time o =
 -- ---- a repeat
 
 module _ (w s : OutstationView) (function time : ℕ) (none : ControlObjects) (b : List ℕ) (same : s ≡ at_time time w) (no : Holding none []) where
-  repeat-silent : is_unanswered function ≡ true → AnsweredAs s Fs.Silent none b b (repeat_step w function time)
+  repeat-silent : eqb function 6 ≡ true → AnsweredAs s Fs.Silent none b b (repeat_step w function time)
   unfolding repeat_step
   repeat-silent e = rw e (record { state = same; answer = ap silent no.objects; size = refl; objects = no; lent = refl })
 
-  repeat-given : (a : List ℕ) (n : ℕ) → is_unanswered function ≡ false → a ≡ splice b 0 (kept_answer w.master.session.last)
+  repeat-given : (a : List ℕ) (n : ℕ) → eqb function 6 ≡ false → a ≡ splice b 0 (kept_answer w.master.session.last)
       → n ≡ length (kept_answer w.master.session.last) → n ≤ length b
       → AnsweredAs s (Fs.Answer n) none b a (repeat_step w function time)
   unfolding repeat_step
@@ -208,13 +207,13 @@ module _ (w s : OutstationView) (function time : ℕ) (none : ControlObjects) (b
         lent = put;
       })
 
-  pub repeat-any : (a : List ℕ) (n : ℕ) (is : FragmentAnswer) → a ≡ cond (is_unanswered function) b (splice b 0 (kept_answer w.master.session.last))
-      → n ≡ cond (is_unanswered function) 0 (length (kept_answer w.master.session.last)) → n ≤ length b
-      → is ≡ cond (is_unanswered function) Fs.Silent (Fs.Answer n)
+  pub repeat-any : (a : List ℕ) (n : ℕ) (is : FragmentAnswer) → a ≡ cond (eqb function 6) b (splice b 0 (kept_answer w.master.session.last))
+      → n ≡ cond (eqb function 6) 0 (length (kept_answer w.master.session.last)) → n ≤ length b
+      → is ≡ cond (eqb function 6) Fs.Silent (Fs.Answer n)
       → AnsweredAs s is none b a (repeat_step w function time)
-  repeat-any a n is put size room said = go (is_unanswered function) refl put size said
+  repeat-any a n is put size room said = go (eqb function 6) refl put size said
     where
-      go : (e : Bool) → is_unanswered function ≡ e → a ≡ cond e b (splice b 0 (kept_answer w.master.session.last))
+      go : (e : Bool) → eqb function 6 ≡ e → a ≡ cond e b (splice b 0 (kept_answer w.master.session.last))
           → n ≡ cond e 0 (length (kept_answer w.master.session.last)) → is ≡ cond e Fs.Silent (Fs.Answer n)
           → AnsweredAs s is none b a (repeat_step w function time)
       go true e p z t =

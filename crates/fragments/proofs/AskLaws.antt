@@ -22,7 +22,7 @@ use Rattle.last_request.specs.Repeat.{is_repeat}
 use Rattle.outstation.specs.Readings.{bad_time}
 use Rattle.outstation.specs.Requests.{asks, read_ask, outcome_ask, ask}
 use Rattle.outstation.specs.OutstationView.{OutstationView}
-use Rattle.outstation.specs.Step.{Result, fragment, step, fragment_step, refusal, on_ask, read_step, repeat_step, new_request_step, confirm_step}
+use Rattle.outstation.specs.Step.{Result, fragment, step, fragment_step, refusal, on_ask, read_step, repeat_step, request_step, effect_by, confirm_step}
 use Rattle.fragments.specs.FragmentMeets.{read_effect_by, request_by}
 
 -- ---- the sizes
@@ -77,7 +77,7 @@ module _ (w : OutstationView) (time : ℕ) (f : List ℕ) (room : ℕ) (P : Resu
     asked_by : (q function : ℕ) (c : Bool) (p : Parsed)
         → P
         (cond c (read_step w q time f (read_effect_by w q time p))
-        (cond (is_repeat w.master.session.last f) (repeat_step w function time) (new_request_step w q function time f)))
+        (cond (is_repeat w.master.session.last f) (repeat_step w function time) (request_step w q function time f (effect_by w q function time (objects_of f)))))
         → P (on_ask (cond c (read_ask q p) (asks q function)) w time f)
     asked_by q function true (headers hs) h = h
     asked_by q function true (fault n) h = h

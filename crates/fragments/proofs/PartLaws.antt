@@ -15,7 +15,7 @@ use Rattle.octets.specs.Bytes.{splice}
 use Rattle.application.specs.declared.Fault.{Fault}
 use Rattle.application.specs.declared.Fault.TheVariants.{Faultless}
 use Rattle.application.specs.declared.ApplicationSequence.{ApplicationSequence}
-use Rattle.application.specs.Fragment.{is_unanswered, objects_of}
+use Rattle.application.specs.Fragment.{objects_of}
 use Rattle.application.specs.Response.{response_of, is_faultless}
 use Rattle.events.specs.BufferView.{BufferView, buffer_view, released, cleared, is_carried}
 use Rattle.read_headers.specs.declared.Header.{Header}
@@ -50,7 +50,6 @@ use Rattle.event_store.specs.EventWords.{buffer_in, buffer_view_in}
 use Rattle.read.specs.declared.Reply.{Reply}
 use Rattle.last_request.specs.declared.LastLengths.{LastLengths}
 use Rattle.outstation.specs.declared.Head.{Head}
-use Rattle.outstation.proofs.FreezeLaws.{counters-installed}
 use Rattle.outstation.specs.Lent.{Lent, HeadCountsWithin, installed_of, buffer_status, group_in, wait_of, view_of}
 use Rattle.fragments.specs.declared.FragmentResult.{FragmentResult}
 use Rattle.fragments.specs.FragmentMeets.{fragment_refusal_number, answer_by, size_by, left_with, read_effect_by, FragmentMeets, answered_by, PartMeets, with_held, ConfirmedHolds, ConfirmHolds, con_by, ReadHolds, last_lengths, with_last, RepeatHolds, LeftIn, ReadLeft, OtherHolds, context_in}
@@ -99,7 +98,6 @@ confirmed_head h time count overflow =
       latch_time = h.latch_time;
       binary_count = h.binary_count;
       analog_count = h.analog_count;
-      counter_count = h.counter_count;
       event_count = count;
       request_len = h.request_len;
       answer_len = h.answer_len;
@@ -139,7 +137,6 @@ confirmed-in h e e₁ time showed_overflow dropped_since t t₁ byte none same g
           record {
             binaries = c.binaries;
             analogs = c.analogs;
-            counters = c.counters;
             events = gone.1;
             request = c.request;
             answer = c.answer;
@@ -213,24 +210,24 @@ module _ (w : OutstationView) (q time : ℕ) (b a : List ℕ) (k : BufferView) (
   read-worked (fault g) t e = subst (λ (x : Fault). WorkedBy (fault x)) e (faulty (ap is_faultless e ∙ t))
 
 -- the memory of a READ, by the latch's bytes and the analog outputs' words
-abbrev pub memory_of : (binaries analogs counters held request answer : List ℕ) → (objects outputs : List ℕ) → Lent
-memory_of b a c e p s o u = record { binaries = b; analogs = a; counters = c; held = e; request = p; answer = s; objects = o; outputs = u }
+abbrev pub memory_of : (binaries analogs held request answer : List ℕ) → (objects outputs : List ℕ) → Lent
+memory_of b a e p s o u = record { binaries = b; analogs = a; held = e; request = p; answer = s; objects = o; outputs = u }
 
 -- a READ, of its reply r, the header put in front and the head that it leaves
-module _ (h : Head) (bw aw cw e p s : List ℕ) (q time : ℕ) (f e₁ p₁ s₁ : List ℕ) (r : Reply) (b a₁ a₂ : List ℕ) (con carried : Bool) (k : LastLengths)
+module _ (h : Head) (bw aw e p s : List ℕ) (q time : ℕ) (f e₁ p₁ s₁ : List ℕ) (r : Reply) (b a₁ a₂ : List ℕ) (con carried : Bool) (k : LastLengths)
     (h₁ : Head) (none : ControlObjects) (hands : Holding none []) (left : ReadLeft h time (cond con (Awaiting (record { 0 = q }) time (holds h.overflow) false) Idle) k h₁)
     (keeps : (last_in p₁ s₁ k ≡ kept f []) × (k.request_len ≡ length f) × (k.answer_len ≡ 0)) (short : length f ≤ fragment_max) (room : fragment_max ≤ length b) where
   -- the rest of what is known, by the status and the restart flag that the code has
   abbrev ReadBy : BufferStatus → Bool → Type 0
   ReadBy t restarted =
-      RepliedAs (points_view_in (installed_of h) bw aw cw) (objects_of f) (buffer_view_in e t) b r (buffer_view_in e₁ t) a₁ → con ≡ con_by r.fault carried t.overflow
+      RepliedAs (points_view_in (installed_of h) bw aw) (objects_of f) (buffer_view_in e t) b r (buffer_view_in e₁ t) a₁ → con ≡ con_by r.fault carried t.overflow
       → carried ≡ some is_carried (buffer_view_in e₁ t).held → a₂ ≡ splice a₁ 0 (response_of q con (indications_of (buffer_view_in e₁ t) restarted) r.fault)
-      → ReadHolds h (memory_of bw aw cw e p s) q time f (record { head = h₁; answer = Fs.Answer r.size; operated = none }) (memory_of bw aw cw e₁ p₁ s₁) b a₂
+      → ReadHolds h (memory_of bw aw e p s) q time f (record { head = h₁; answer = Fs.Answer r.size; operated = none }) (memory_of bw aw e₁ p₁ s₁) b a₂
 
   of-head : ReadBy (buffer_status h) (holds h.restarted)
   unfolding buffer_view latch_of
   of-head g ec is put o v =
-      let w : OutstationView = view_of h (memory_of bw aw cw e p s o v) in
+      let w : OutstationView = view_of h (memory_of bw aw e p s o v) in
       let y : Parsed = asked_of w.shared.inputs (objects_of f) in
       let d : RequestEffect = effect_for r.fault con r.size (wait_by w q time b a₁ u r.fault con carried r.size is con) (holds h.restarted) in
       let worked : EffectMeets d b a₁ (read_effect_by w q time y) = read-worked w q time b a₁ u r.fault con carried r.size is y (told-asked w.shared.inputs (objects_of f)) g.fault ec g.events g.size g.bytes in
@@ -238,7 +235,7 @@ module _ (h : Head) (bw aw cw e p s : List ℕ) (q time : ℕ) (f e₁ p₁ s₁
       let fits : r.size ≤ length b = omega (arith, read-most w q time (objects_of f), worked.size, room) in
       record {
         result =
-            read-given w (view_of h₁ (memory_of bw aw cw e₁ p₁ s₁ o v)) q time f d b a₁ _ worked u marked _ (last_in p₁ s₁ k) ((left o).view (memory_of bw aw cw e₁ p₁ s₁ o v)) refl a₂ put fits none hands
+            read-given w (view_of h₁ (memory_of bw aw e₁ p₁ s₁ o v)) q time f d b a₁ _ worked u marked _ (last_in p₁ s₁ k) ((left o).view (memory_of bw aw e₁ p₁ s₁ o v)) refl a₂ put fits none hands
             keeps.0;
         counted =
             λ c. (left o).counted (omega (arith, short, keeps.1)) (omega (arith, keeps.2)) c.objects c;
@@ -263,7 +260,6 @@ head_at h time =
       latch_time = h.latch_time;
       binary_count = h.binary_count;
       analog_count = h.analog_count;
-      counter_count = h.counter_count;
       event_count = h.event_count;
       request_len = h.request_len;
       answer_len = h.answer_len;
@@ -282,9 +278,9 @@ head_at h time =
     }
 
 pub repeated-in : (h : Head) (p s : List ℕ) (function time : ℕ) (none : ControlObjects) (b a : List ℕ) (n : ℕ) (is : FragmentAnswer) → Holding none []
-    → (a ≡ cond (is_unanswered function) b (splice b 0 (kept_answer (last_in p s (last_lengths h)))))
-    × (n ≡ cond (is_unanswered function) 0 (length (kept_answer (last_in p s (last_lengths h)))))
-    × (n ≤ answer_max) → fragment_max ≤ length b → is ≡ cond (is_unanswered function) Fs.Silent (Fs.Answer n)
+    → (a ≡ cond (eqb function 6) b (splice b 0 (kept_answer (last_in p s (last_lengths h)))))
+    × (n ≡ cond (eqb function 6) 0 (length (kept_answer (last_in p s (last_lengths h)))))
+    × (n ≤ answer_max) → fragment_max ≤ length b → is ≡ cond (eqb function 6) Fs.Silent (Fs.Answer n)
     → RepeatHolds h p s function time (record { head = head_at h time; answer = is; operated = none }) b a
 unfolding wait_of
 repeated-in h p s function time none b a n is hands put room said m =
@@ -297,7 +293,6 @@ repeated-in h p s function time none b a n is hands put room said m =
           record {
             binaries = c.binaries;
             analogs = c.analogs;
-            counters = c.counters;
             events = c.events;
             request = c.request;
             answer = c.answer;
@@ -311,27 +306,27 @@ repeated-in h p s function time none b a n is hands put room said m =
 module _ (h : Head) (e p s o ws : List ℕ) (q function time : ℕ) (f e₁ p₁ s₁ o₁ : List ℕ) (r : RequestEffect) (b a₁ a₂ : List ℕ) (n : ℕ) (is : FragmentAnswer)
     (k : LastLengths) (h₁ : Head) (left : LeftIn h time r.restarted Idle k (latch_of r.latch) r.latch.len h₁ o₁)
     (keeps : (last_in p₁ s₁ k ≡ kept f (take n a₂)) × (k.request_len ≡ length f) × (k.answer_len ≡ length (take n a₂))) (short : length f ≤ fragment_max)
-    (small : length (take n a₂) ≤ answer_max) (room : fragment_max ≤ length b) (said : is ≡ cond (is_unanswered function) Fs.Silent (Fs.Answer n)) where
+    (small : length (take n a₂) ≤ answer_max) (room : fragment_max ≤ length b) (said : is ≡ cond (eqb function 6) Fs.Silent (Fs.Answer n)) where
   -- the rest of what is known, by the status and the part of the state that the code has
   abbrev OtherBy : BufferStatus → RequestContext → Type 0
   OtherBy t seen =
-      EffectMeetsWith r seen.counters b a₁ (λ u cs. effect_by (context_view seen ws u cs) q function time (objects_of f)) → buffer_view_in e₁ t ≡ cleared (buffer_view_in e t)
-      → (a₂ ≡ cond (is_unanswered function) a₁ (splice a₁ 0 (response_of q r.con (indications_of (buffer_view_in e₁ t) r.restarted) r.fault)))
-      × (n ≡ cond (is_unanswered function) 0 r.size)
-      → OtherHolds h (λ x y z. memory_of x y z e p s o ws) q function time f (record { head = h₁; answer = is; operated = r.operated })
-      (λ x y z. memory_of x y z e₁ p₁ s₁ o₁ ws) b a₂
+      EffectMeetsWith r b a₁ (λ u. effect_by (context_view seen ws u) q function time (objects_of f)) → buffer_view_in e₁ t ≡ cleared (buffer_view_in e t)
+      → (a₂ ≡ cond (eqb function 6) a₁ (splice a₁ 0 (response_of q r.con (indications_of (buffer_view_in e₁ t) r.restarted) r.fault)))
+      × (n ≡ cond (eqb function 6) 0 r.size)
+      → OtherHolds h (λ x y. memory_of x y e p s o ws) q function time f (record { head = h₁; answer = is; operated = r.operated })
+      (λ x y. memory_of x y e₁ p₁ s₁ o₁ ws) b a₂
 
   of-seen : OtherBy (buffer_status h) (context_in h o)
-  of-seen all clears put x y z =
-      let w : OutstationView = view_of h (memory_of x y z e p s o ws) in
-      let worked : EffectMeets r b a₁ (effect_by w q function time (objects_of f)) = all (buffer_view_in e (buffer_status h)) w.shared.inputs.counters (counters-installed h (memory_of x y z e p s o ws)) in
+  of-seen all clears put x y =
+      let w : OutstationView = view_of h (memory_of x y e p s o ws) in
+      let worked : EffectMeets r b a₁ (effect_by w q function time (objects_of f)) = all (buffer_view_in e (buffer_status h)) in
       let marked : buffer_view_in e₁ (buffer_status h) ≡ (effect_by w q function time (objects_of f)).buffer = clears ∙ effect-buffer w q function time (objects_of f) in
       let idle : Idle ≡ r.wait = sym (worked.wait ∙ effect-idle w q function time (objects_of f)) in
       let size : r.size ≤ answer_max = effect-small (context_in h o) ws q function time (objects_of f) r b a₁ all in
       record {
         result =
-            request-any w (view_of h₁ (memory_of x y z e₁ p₁ s₁ o₁ ws)) q time f r b a₁ _ worked (buffer_view_in e₁ (buffer_status h)) marked _ (last_in p₁ s₁ k)
-            (left.view (memory_of x y z e₁ p₁ s₁ o₁ ws))
+            request-any w (view_of h₁ (memory_of x y e₁ p₁ s₁ o₁ ws)) q time f r b a₁ _ worked (buffer_view_in e₁ (buffer_status h)) marked _ (last_in p₁ s₁ k)
+            (left.view (memory_of x y e₁ p₁ s₁ o₁ ws))
             (λ i. record { restarted = r.restarted; wait = idle i; last = last_in p₁ s₁ k; latch = latch_of r.latch })
             a₂ n is function (silent-objects w q function time (objects_of f)) put.0 put.1 (omega (arith, size, room)) said keeps.0;
         counted = λ c. left.counted (omega (arith, short, keeps.1)) (omega (arith, small, keeps.2)) worked.counted c;
@@ -360,7 +355,6 @@ left_head h time restarted kind sequence sent showed_overflow dropped_since k he
       latch_time = at;
       binary_count = h.binary_count;
       analog_count = h.analog_count;
-      counter_count = h.counter_count;
       event_count = h.event_count;
       request_len = k.request_len;
       answer_len = k.answer_len;
@@ -415,7 +409,7 @@ module _ (h : Head) (time : ℕ) (k : LastLengths) (held : ℕ) (keeps : holds h
             };
         counted =
             λ request answer objects c.
-            record { binaries = c.binaries; analogs = c.analogs; counters = c.counters; events = c.events; request = request; answer = answer; objects = objects; outputs = c.outputs };
+            record { binaries = c.binaries; analogs = c.analogs; events = c.events; request = request; answer = answer; objects = objects; outputs = c.outputs };
       }
 
   pub after-request : (restarted : Bool) (latch : Latch) (again armed : ℕ) → holds again ≡ restarted
@@ -444,7 +438,7 @@ module _ (h : Head) (time : ℕ) (k : LastLengths) (held : ℕ) (keeps : holds h
             };
         counted =
             λ request answer objects c.
-            record { binaries = c.binaries; analogs = c.analogs; counters = c.counters; events = c.events; request = request; answer = answer; objects = objects; outputs = c.outputs };
+            record { binaries = c.binaries; analogs = c.analogs; events = c.events; request = request; answer = answer; objects = objects; outputs = c.outputs };
       }
 
 -- ---- the step of a CONFIRM, by what it comes to

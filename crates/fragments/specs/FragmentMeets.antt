@@ -1,8 +1,8 @@
 -- What a fragment's call gives: one definition for the call, and the same for its parts, which are lent less.
 -- Assumes nothing.
-use Rattle.std.specs.Prelude.{ℕ, ◌≤◌, min, ◌≡◌, Bool, ◌&&◌, ◌||◌, List, [], ◌∷◌, eqb, length, take}
+use Rattle.std.specs.Prelude.{ℕ, ◌≤◌, ◌≡◌, Bool, ◌&&◌, ◌||◌, List, [], ◌∷◌, eqb, length, take}
 use Rattle.laws.specs.First.{first, ◌⇒◌}
-use Rattle.laws.specs.Limits.{counters_max, fragment_max}
+use Rattle.laws.specs.Limits.{fragment_max}
 use Rattle.points.specs.PointsView.{PointsView}
 use Rattle.events.specs.BufferView.{BufferView}
 use Rattle.application.specs.declared.Fault.{Fault}
@@ -22,7 +22,7 @@ use Rattle.outstation.specs.declared.Head.{Head}
 use Rattle.outstation.specs.declared.Wait.{Wait}
 use Rattle.outstation.specs.OutstationView.{OutstationView, SessionView, with_clock, with_inputs, with_buffer, with_session, with_shared, with_master}
 use Rattle.outstation.specs.Lent.{Lent, Outstation, outstation_view, HeadCountsWithin, CountsWithin, buffer_status, output_counts, group_in, wait_of, view_of}
-use Rattle.outstation.specs.Step.{Answer, took, answers, silent, accepts, refuses, handed, output_after, Result, fragment, step, read_effect, plain_effect, read_step, repeat_step, request_step, new_request_step, effect_by, confirm_step, confirmed_step}
+use Rattle.outstation.specs.Step.{Answer, took, answers, silent, accepts, refuses, handed, output_after, Result, fragment, step, read_effect, plain_effect, read_step, repeat_step, request_step, effect_by, confirm_step, confirmed_step}
 use Rattle.outstation.specs.Step as S
 use Rattle.effects.specs.declared.RequestContext.{RequestContext}
 use Rattle.fragments.specs.declared.FragmentRefusal.{FragmentRefusal}
@@ -121,13 +121,13 @@ request_by w q function time f =
     (eqb function 1 ⇒ read_step w q time f (read_effect_by w q time (asked_of w.shared.inputs (objects_of f)))
     ∷ is_repeat w.master.session.last f ⇒ repeat_step w function time
     ∷ [])
-    (new_request_step w q function time f)
+    (request_step w q function time f (effect_by w q function time (objects_of f)))
 
 -- ---- a CONFIRM, whatever else is lent
 
 abbrev pub with_held : List ℕ → Lent → Lent
 with_held e m =
-    record { binaries = m.binaries; analogs = m.analogs; counters = m.counters; held = e; request = m.request; answer = m.answer; objects = m.objects; outputs = m.outputs }
+    record { binaries = m.binaries; analogs = m.analogs; held = e; request = m.request; answer = m.answer; objects = m.objects; outputs = m.outputs }
 
 abbrev pub ConfirmedHolds : Head → List ℕ → (time : ℕ) (showed_overflow dropped_since : Bool) → FragmentResult → List ℕ → Type 0
 ConfirmedHolds h e time showed_overflow dropped_since r e₁ =
@@ -159,7 +159,7 @@ last_lengths h = record { held = holds h.request_kept; request_len = h.request_l
 
 abbrev pub with_last : (request answer : List ℕ) → Lent → Lent
 with_last request answer m =
-    record { binaries = m.binaries; analogs = m.analogs; counters = m.counters; held = m.held; request = request; answer = answer; objects = m.objects; outputs = m.outputs }
+    record { binaries = m.binaries; analogs = m.analogs; held = m.held; request = request; answer = answer; objects = m.objects; outputs = m.outputs }
 
 -- of a repeat, whatever else is lent
 abbrev pub RepeatHolds : Head → (request answer : List ℕ) → (function time : ℕ) → FragmentResult → (before after : List ℕ) → Type 0
@@ -167,20 +167,19 @@ RepeatHolds h request answer function time r before after =
     (m : Lent)
     → PartMeets h r (with_last request answer m) before after (repeat_step (view_of h (with_last request answer m)) function time)
 
--- of any other, whatever the points' words: those that a freeze left
-abbrev pub OtherHolds : Head → ((b a c : List ℕ) → Lent) → (q function time : ℕ) (f : List ℕ) → FragmentResult → ((b a c : List ℕ) → Lent) → (before after : List ℕ)
+-- of any other, whatever the points' words
+abbrev pub OtherHolds : Head → (List ℕ → List ℕ → Lent) → (q function time : ℕ) (f : List ℕ) → FragmentResult → (List ℕ → List ℕ → Lent) → (before after : List ℕ)
     → Type 0
 OtherHolds h m q function time f r m₁ before after =
-    (b a c : List ℕ)
-    → PartMeets h r (m₁ b a c) before after
-    (request_step (view_of h (m b a c)) q function time f (effect_by (view_of h (m b a c)) q function time (objects_of f)))
+    (b a : List ℕ)
+    → PartMeets h r (m₁ b a) before after
+    (request_step (view_of h (m b a)) q function time f (effect_by (view_of h (m b a)) q function time (objects_of f)))
 
 -- what it sees of the state
 abbrev pub context_in : Head → List ℕ → RequestContext
 context_in h objects =
     record {
       outputs = output_counts h;
-      counters = min h.counter_count counters_max;
       arm_time = h.arm_time;
       restarted = holds h.restarted;
       latch =
@@ -199,7 +198,7 @@ context_in h objects =
 
 abbrev pub with_objects : List ℕ → Lent → Lent
 with_objects o m =
-    record { binaries = m.binaries; analogs = m.analogs; counters = m.counters; held = m.held; request = m.request; answer = m.answer; objects = o; outputs = m.outputs }
+    record { binaries = m.binaries; analogs = m.analogs; held = m.held; request = m.request; answer = m.answer; objects = o; outputs = m.outputs }
 
 pub record LeftIn (h : Head) (time : ℕ) (restarted : Bool) (wait : Wait) (k : LastLengths) (l : LatchView) (n : ℕ) (r : Head) (o : List ℕ) : Type 0 where
   pub view : (m : Lent)

@@ -1,8 +1,7 @@
 // A fragment on a head by value and lent memory: refused, a CONFIRM, a READ, a repeat, or another request.
-ghost use Rattle.std.specs.Prelude.{◌≡◌, cond, true, false, [], ◌≤◌, length};
+ghost use Rattle.std.specs.Prelude.{◌≡◌, cond, true, false, [], ◌≤◌, eqb, length};
 ghost use Rattle.laws.specs.Limits.{fragment_max};
 ghost use Rattle.octets.specs.Bytes.{splice};
-ghost use Rattle.application.specs.Fragment.{is_unanswered};
 ghost use Rattle.application.specs.Response.{response_of};
 ghost use Rattle.control.specs.Objects.{Holding, answer_max};
 ghost use Rattle.select_latch.specs.Select.{latch_of};
@@ -34,7 +33,7 @@ use effects::{Confirmation, RequestContext, RequestEffect};
 use event_store::{BufferStatus, EVENT_WORDS};
 use last_request::LastLengths;
 use outstation::{Head, Wait};
-use point_store::{ANALOG_WORDS, BINARY_WORDS, COUNTER_WORDS, Installed};
+use point_store::{ANALOG_WORDS, BINARY_WORDS, Installed};
 use select_latch::{ControlGroup, Latch};
 
 // Why a fragment is refused.
@@ -55,7 +54,7 @@ pub enum FragmentRefusal {
 pub enum FragmentAnswer {
     // The answer is the first so many lent bytes.
     Answer(usize),
-    // Accepted, and not answered: function 6, 8 or 10.
+    // Accepted, and not answered: function 6.
     Silent,
     // A CONFIRM was accepted.
     Confirmed,
@@ -217,7 +216,6 @@ fn answer_read(
     h: Head,
     binaries: &[u32; BINARY_WORDS],
     analogs: &[u32; ANALOG_WORDS],
-    counters: &[u32; COUNTER_WORDS],
     held: &mut [u64; EVENT_WORDS],
     request: &mut [u8; FRAGMENT_MAX],
     answer: &mut [u8; ANSWER_MAX],
@@ -227,18 +225,17 @@ fn answer_read(
     out: &mut [u8],
 ) -> FragmentResult
     requires { (2 ≤ length f.now) × (length f.now ≤ fragment_max) × (fragment_max ≤ length out.old) }
-    ensures { ReadHolds h (λ o u. record { binaries = binaries.entry.now; analogs = analogs.now; counters = counters.now; held = held.old; request = request.old; answer = answer.old; objects = o; outputs = u })
+    ensures { ReadHolds h (λ o u. record { binaries = binaries.entry.now; analogs = analogs.now; held = held.old; request = request.old; answer = answer.old; objects = o; outputs = u })
         q.0 time f.now result
-        (λ o u. record { binaries = binaries.entry.now; analogs = analogs.now; counters = counters.now; held = held.new; request = request.new; answer = answer.new; objects = o; outputs = u })
+        (λ o u. record { binaries = binaries.entry.now; analogs = analogs.now; held = held.new; request = request.new; answer = answer.new; objects = o; outputs = u })
         out.old out.new }
 {
     let n = Installed {
         binaries: h.binary_count,
         analogs: h.analog_count,
-        counters: h.counter_count,
     };
     let t = outstation::buffer_status(h);
-    let reply = read::respond(out, &f[2..], binaries, analogs, counters, n, held, t);
+    let reply = read::respond(out, &f[2..], binaries, analogs, n, held, t);
     let fault = reply.fault;
     let con = con_by(fault, event_store::any_carried(held, t), t.overflow);
     let s = ResponseFlags { fault, con };
@@ -254,11 +251,11 @@ fn answer_read(
     }
 }
 
-// An answer of so many bytes: functions 6, 8 and 10 are never answered.
+// An answer of so many bytes: function 6 is never answered.
 fn answer_as(function: u8, n: usize) -> FragmentAnswer
-    ensures { result ≡ cond (is_unanswered function) FragmentAnswer.Silent (FragmentAnswer.Answer n) }
+    ensures { result ≡ cond (eqb function 6) FragmentAnswer.Silent (FragmentAnswer.Answer n) }
 {
-    if application::is_unanswered(function) {
+    if function == 6 {
         FragmentAnswer::Silent
     } else {
         FragmentAnswer::Answer(n)
@@ -278,7 +275,7 @@ fn last_of(h: Head) -> LastLengths
     }
 }
 
-// Puts the kept answer at the front of the lent bytes, and says its length: functions 6, 8 and 10 are never answered.
+// Puts the kept answer at the front of the lent bytes, and says its length: function 6 is never answered.
 fn put_again(
     h: Head,
     request: &[u8; FRAGMENT_MAX],
@@ -287,11 +284,11 @@ fn put_again(
     out: &mut [u8],
 ) -> usize
     requires { answer_max ≤ length out.old }
-    ensures { (out.new ≡ cond (is_unanswered function) out.old (splice out.old 0 (kept_answer (last_in request.now answer.now (last_lengths h)))))
-        × (result ≡ cond (is_unanswered function) 0 (length (kept_answer (last_in request.now answer.now (last_lengths h)))))
+    ensures { (out.new ≡ cond (eqb function 6) out.old (splice out.old 0 (kept_answer (last_in request.now answer.now (last_lengths h)))))
+        × (result ≡ cond (eqb function 6) 0 (length (kept_answer (last_in request.now answer.now (last_lengths h)))))
         × (result ≤ answer_max) }
 {
-    if application::is_unanswered(function) {
+    if function == 6 {
         return 0;
     }
     last_request::answer_again(request, answer, last_of(h), out)
@@ -367,14 +364,13 @@ fn context_of(h: Head, objects: &[u8; ECHO_MAX]) -> RequestContext
     };
     RequestContext {
         outputs: counts,
-        counters: points::installed_counters(h.counter_count) as u16,
         arm_time: h.arm_time,
         restarted: outstation::truth(h.restarted),
         latch: latch,
     }
 }
 
-// Puts the header of its answer, and says the answer's length: functions 6, 8 and 10 are never answered.
+// Puts the header of its answer, and says the answer's length: function 6 is never answered.
 fn put_answer(
     out: &mut [u8],
     q: ApplicationSequence,
@@ -384,11 +380,11 @@ fn put_answer(
     t: BufferStatus,
 ) -> usize
     requires { 4 ≤ length out.old }
-    ensures { (out.new ≡ cond (is_unanswered function) out.old
+    ensures { (out.new ≡ cond (eqb function 6) out.old
         (splice out.old 0 (response_of q.0 d.con (indications_of (buffer_view_in held.now t) d.restarted) d.fault)))
-        × (result ≡ cond (is_unanswered function) 0 d.size) }
+        × (result ≡ cond (eqb function 6) 0 d.size) }
 {
-    if application::is_unanswered(function) {
+    if function == 6 {
         return 0;
     }
     let fault = d.fault;
@@ -443,9 +439,9 @@ fn answer_request(
     out: &mut [u8],
 ) -> FragmentResult
     requires { (2 ≤ length f.now) × (length f.now ≤ fragment_max) × (fragment_max ≤ length out.old) }
-    ensures { OtherHolds h (λ b a c. record { binaries = b; analogs = a; counters = c; held = held.old; request = request.old; answer = answer.old; objects = objects.old; outputs = outputs.now })
+    ensures { OtherHolds h (λ b a. record { binaries = b; analogs = a; held = held.old; request = request.old; answer = answer.old; objects = objects.old; outputs = outputs.now })
         q.0 function time f.now result
-        (λ b a c. record { binaries = b; analogs = a; counters = c; held = held.new; request = request.new; answer = answer.new; objects = objects.new; outputs = outputs.now })
+        (λ b a. record { binaries = b; analogs = a; held = held.new; request = request.new; answer = answer.new; objects = objects.new; outputs = outputs.now })
         out.old out.new }
 {
     let seen = context_of(h, objects);
@@ -472,7 +468,6 @@ fn take_request(
     h: Head,
     binaries: &[u32; BINARY_WORDS],
     analogs: &[u32; ANALOG_WORDS],
-    counters: &mut [u32; COUNTER_WORDS],
     held: &mut [u64; EVENT_WORDS],
     request: &mut [u8; FRAGMENT_MAX],
     answer: &mut [u8; ANSWER_MAX],
@@ -485,20 +480,17 @@ fn take_request(
     out: &mut [u8],
 ) -> FragmentResult
     requires { (2 ≤ length f.now) × (length f.now ≤ fragment_max) × (fragment_max ≤ length out.old) }
-    ensures { RequestHolds h (record { binaries = binaries.entry.now; analogs = analogs.now; counters = counters.old; held = held.old; request = request.old; answer = answer.old; objects = objects.old; outputs = outputs.now })
+    ensures { RequestHolds h (record { binaries = binaries.entry.now; analogs = analogs.now; held = held.old; request = request.old; answer = answer.old; objects = objects.old; outputs = outputs.now })
         q.0 function time f.now result
-        (record { binaries = binaries.entry.now; analogs = analogs.now; counters = counters.new; held = held.new; request = request.new; answer = answer.new; objects = objects.new; outputs = outputs.now })
+        (record { binaries = binaries.entry.now; analogs = analogs.now; held = held.new; request = request.new; answer = answer.new; objects = objects.new; outputs = outputs.now })
         out.old out.new }
 {
     if function == 1 {
-        return answer_read(
-            h, binaries, analogs, counters, held, request, answer, q, time, f, out,
-        );
+        return answer_read(h, binaries, analogs, held, request, answer, q, time, f, out);
     }
     if last_request::is_repeat(request, answer, last_of(h), f) {
         return repeat_request(h, request, answer, function, time, out);
     }
-    freeze::freeze_counters(counters, h.counter_count, function, &f[2..]);
     answer_request(
         h, held, request, answer, objects, outputs, q, function, time, f, out,
     )
@@ -509,7 +501,6 @@ pub fn fragment(
     h: Head,
     binaries: &[u32; BINARY_WORDS],
     analogs: &[u32; ANALOG_WORDS],
-    counters: &mut [u32; COUNTER_WORDS],
     held: &mut [u64; EVENT_WORDS],
     request: &mut [u8; FRAGMENT_MAX],
     answer: &mut [u8; ANSWER_MAX],
@@ -519,9 +510,9 @@ pub fn fragment(
     f: &[u8],
     out: &mut [u8],
 ) -> FragmentResult
-    ensures { FragmentHolds h (record { binaries = binaries.entry.now; analogs = analogs.now; counters = counters.old; held = held.old; request = request.old; answer = answer.old; objects = objects.old; outputs = outputs.now })
+    ensures { FragmentHolds h (record { binaries = binaries.entry.now; analogs = analogs.now; held = held.old; request = request.old; answer = answer.old; objects = objects.old; outputs = outputs.now })
         time f.now result
-        (record { binaries = binaries.entry.now; analogs = analogs.now; counters = counters.new; held = held.new; request = request.new; answer = answer.new; objects = objects.new; outputs = outputs.now })
+        (record { binaries = binaries.entry.now; analogs = analogs.now; held = held.new; request = request.new; answer = answer.new; objects = objects.new; outputs = outputs.now })
         out.old out.new }
 {
     if outstation::bad_time(h.clock, time) {
@@ -538,8 +529,8 @@ pub fn fragment(
             unsolicited,
         } => take_confirm(h, held, sequence, unsolicited, time),
         Fragment::Request { sequence, function } => take_request(
-            h, binaries, analogs, counters, held, request, answer, objects, outputs, sequence,
-            function, time, f, out,
+            h, binaries, analogs, held, request, answer, objects, outputs, sequence, function,
+            time, f, out,
         ),
     }
 }

@@ -1,4 +1,4 @@
--- The limits of document 01, and of the requests of document 02, each by a name.
+-- The limits of document 01, each by a name.
 -- Assumes nothing.
 use Rattle.std.specs.Prelude.{ℕ, ◌^◌}
 
@@ -8,10 +8,6 @@ points_max = 64
 
 abbrev pub outputs_max : ℕ
 outputs_max = 16
-
--- document 02, 104: "Add up to 32 counters"
-abbrev pub counters_max : ℕ
-counters_max = 32
 
 -- "Own and master addresses are 0 to 65,519"
 abbrev pub address_max : ℕ

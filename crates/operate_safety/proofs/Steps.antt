@@ -11,7 +11,7 @@ use Rattle.laws.specs.Limits.{fragment_max, events_max}
 use Rattle.laws.specs.Outcome.{Outcome, accepted, refused}
 use Rattle.laws.proofs.SameLaws.{same_refl}
 use Rattle.application.specs.Fragment as F
-use Rattle.application.specs.Fragment.{is_unanswered, classified, function_of, sequence_of, control_of, is_confirm, objects_of}
+use Rattle.application.specs.Fragment.{classified, function_of, sequence_of, control_of, is_confirm, objects_of}
 use Rattle.control.specs.Status.{Outputs}
 use Rattle.select_latch.specs.Select.{LatchView, no_select}
 use Rattle.events.specs.BufferView.{BufferView, pushed, released}
@@ -29,8 +29,7 @@ use Rattle.outstation.specs.declared.Wait.TheVariants.{Idle, Awaiting}
 use Rattle.outstation.specs.Setup.{Setup, analog_outputs, outputs_set_up}
 use Rattle.outstation.specs.OutstationView.{OutstationView, MasterView, with_master, restarted}
 use Rattle.outstation.specs.Readings.{bad_time, ReadingEffect, apply_reading}
-use Rattle.freeze.specs.Freeze.{is_freeze}
-use Rattle.outstation.specs.Requests.{inputs_after, Ask, malformed, confirms, asks, ask, read_ask, is_confirmed}
+use Rattle.outstation.specs.Requests.{Ask, malformed, confirms, asks, ask, read_ask, is_confirmed}
 use Rattle.outstation.specs.Step as S
 use Rattle.outstation.specs.Step.{Call, reading, table, fragment, Answer, Result, RequestEffect, on_effect, handed}
 use Rattle.laws.proofs.Choices.{by, both, split}
@@ -50,8 +49,7 @@ effect-acts w r n =
     (λ t. rw t (by (eqb n 3) (λ a. rw a)
     (λ a. rw a (by (eqb n 4) (λ b. rw b)
     (λ b. rw b (by (eqb n 5) (λ d. rw d)
-    (λ d. rw d (by (eqb n 6) (λ e. rw e)
-    (λ e. rw e (by (is_freeze n) (λ g. rw g) (λ g. rw g)))))))))))
+    (λ d. rw d (by (eqb n 6) (λ e. rw e) (λ e. rw e)))))))))
 
 -- a READ is no repeat, hands over nothing and empties the latch
 read-acts : (outputs : Outputs) (arm : ℕ) (l : LatchView) (r : Request) → function_in r ≡ 1 → acted outputs arm l r ≡ record { carried = []; latch = no_select }
@@ -254,10 +252,10 @@ module _ (outputs : Outputs) (arm : ℕ) where
 
     request-ok : (q function : ℕ)
         → ((answer : List ℕ) → acted_of d ≡ acted outputs arm (remembered_after outputs arm h).latch (record { bytes = f; time = time; answer = answer }))
-        → Does h (one_request f time (cond (is_unanswered function) [] (S.response_bytes q d))) (S.request_step (view h x) q function time f d)
+        → Does h (one_request f time (cond (eqb function 6) [] (S.response_bytes q d))) (S.request_step (view h x) q function time f d)
     unfolding S.request_step
     request-ok q function e =
-        by (is_unanswered function)
+        by (eqb function 6)
         (λ t. rw t (new_ok (record { bytes = f; time = time; answer = [] }) (S.silent d.operated) refl refl (e []) refl refl))
         (λ t. rw t (new_ok (record { bytes = f; time = time; answer = S.response_bytes q d }) (S.answers (S.response_bytes q d) d.operated) refl refl
         (e (S.response_bytes q d)) refl refl))
@@ -270,8 +268,8 @@ module _ (outputs : Outputs) (arm : ℕ) where
       record {
         sim = record { extra = effect_at x r.time x.inputs; is = rw t; since = since-request h x.clock r l k };
         handing =
-            hands-of outputs arm h r _ (by (is_unanswered function) (λ s. rw s) (λ s. rw s)) (since-next h x.clock r l k)
-            (by (is_unanswered function) (λ s. rw (s, t)) (λ s. rw (s, t)));
+            hands-of outputs arm h r _ (by (eqb function 6) (λ s. rw s) (λ s. rw s)) (since-next h x.clock r l k)
+            (by (eqb function 6) (λ s. rw (s, t)) (λ s. rw (s, t)));
       }
 
   -- ---- fragments
@@ -285,25 +283,21 @@ module _ (outputs : Outputs) (arm : ℕ) where
         read_ok h x k time in-time f (S.plain_effect (view h x) n x.restarted) (read-new (remembered_after outputs arm h).last f e) q
         (eqb-true (function_of f) 1 e) refl
 
-    -- after the counters that it names are frozen, if it is a freeze
-    abbrev frozen : ℕ → Extra
-    frozen function = effect_at x x.clock (inputs_after function (objects_of f) x.inputs)
-
     abbrev effect : RequestEffect
-    effect = S.effect_by (view h (frozen (function_of f))) (sequence_of (control_of f)) (function_of f) time (objects_of f)
+    effect = S.effect_by (view h x) (sequence_of (control_of f)) (function_of f) time (objects_of f)
 
     effect_is : (answer : List ℕ) → acted_of effect ≡ acted outputs arm (remembered_after outputs arm h).latch (record { bytes = f; time = time; answer = answer })
     unfolding acted
-    effect_is answer = effect-acts (view h (frozen (function_of f))) (record { bytes = f; time = time; answer = answer }) (function_of f)
+    effect_is answer = effect-acts (view h x) (record { bytes = f; time = time; answer = answer }) (function_of f)
 
     asks-ok : (q function : ℕ) (d : RequestEffect)
         → ((answer : List ℕ) → acted_of d ≡ acted outputs arm (remembered_after outputs arm h).latch (record { bytes = f; time = time; answer = answer }))
-        → Does h (one_request f time (cond (is_unanswered function) [] (S.response_bytes q d)))
-        (cond (is_repeat (remembered_after outputs arm h).last f) (S.repeat_step (view h x) function time) (S.request_step (view h (frozen function)) q function time f d))
+        → Does h (one_request f time (cond (eqb function 6) [] (S.response_bytes q d)))
+        (cond (is_repeat (remembered_after outputs arm h).last f) (S.repeat_step (view h x) function time) (S.request_step (view h x) q function time f d))
     asks-ok q function d e =
-        split (Does h (one_request f time (cond (is_unanswered function) [] (S.response_bytes q d)))) (is_repeat (remembered_after outputs arm h).last f)
-        (λ t. repeat-ok h x k function (record { bytes = f; time = time; answer = cond (is_unanswered function) [] (S.response_bytes q d) }) in-time t)
-        (λ t. request-ok h (frozen function) k time in-time f d t q function e)
+        split (Does h (one_request f time (cond (eqb function 6) [] (S.response_bytes q d)))) (is_repeat (remembered_after outputs arm h).last f)
+        (λ t. repeat-ok h x k function (record { bytes = f; time = time; answer = cond (eqb function 6) [] (S.response_bytes q d) }) in-time t)
+        (λ t. request-ok h x k time in-time f d t q function e)
 
     ask-ok : Does h (request_asked (ask x.inputs f) (view h x) time f) (S.on_ask (ask x.inputs f) (view h x) time f)
     ask-ok =

@@ -5,7 +5,7 @@ use Rattle.std.specs.Prelude.{ℕ, ◌+◌, ◌≡◌, ◌⊎◌, Bool, true, fa
 use Rattle.laws.specs.First.{first, ◌⇒◌}
 use Rattle.laws.specs.Lists.{filter}
 use Rattle.laws.specs.Limits.{fragment_max}
-use Rattle.application.specs.Fragment.{is_unanswered, objects_of}
+use Rattle.application.specs.Fragment.{objects_of}
 use Rattle.control.specs.declared.ControlObject.{ControlObject}
 use Rattle.control.specs.Objects.{objects, is_crob, is_analog_output, list_of}
 use Rattle.control.specs.Status.{Outputs}
@@ -18,7 +18,7 @@ use Rattle.outstation.specs.OutstationView.{OutstationView, restarted}
 use Rattle.outstation.specs.Lent.{Outstation, outstation_view}
 use Rattle.outstation.specs.Readings.{bad_time}
 use Rattle.outstation.specs.Requests.{Ask, malformed, confirms, reads, misreads, asks, ask}
-use Rattle.outstation.specs.Step.{Call, reading, table, fragment, Answer, took, answers, silent, accepts, refuses, response_bytes, effect_by, froze, step}
+use Rattle.outstation.specs.Step.{Call, reading, table, fragment, Answer, took, answers, silent, accepts, refuses, response_bytes, effect_by, step}
 use Rattle.outstation.specs.CallContracts.{StepHolds}
 use Rattle.fragments.specs.FragmentMeets.{Answered, fragment_answer, FragmentMeets}
 use Rattle.book.specs.Demand3.{Ran, none, more}
@@ -29,14 +29,14 @@ use Rattle.book.specs.Demand3.{Ran, none, more}
 abbrev pub one_request : List ℕ → ℕ → List ℕ → List Request
 one_request bytes time answer = record { bytes = bytes; time = time; answer = answer } ∷ []
 
--- "CONFIRM is not a request"; a READ's answer is not kept, and functions 6, 8 and 10 are never answered
+-- "CONFIRM is not a request"; a READ's answer is not kept, and "Function 6 is never answered"
 abbrev pub request_asked : Ask → OutstationView → ℕ → List ℕ → List Request
 request_asked malformed w time f = []
 request_asked (confirms q uns) w time f = []
 request_asked (reads q hs) w time f = one_request f time []
 request_asked (misreads q n) w time f = one_request f time []
 request_asked (asks q function) w time f =
-    one_request f time (cond (is_unanswered function) [] (response_bytes q (effect_by (froze function (objects_of f) w) q function time (objects_of f))))
+    one_request f time (cond (eqb function 6) [] (response_bytes q (effect_by w q function time (objects_of f))))
 
 -- none or one; a fragment refused with 1 or 33 is none
 unfoldable pub request_of : Call → OutstationView → List Request

@@ -2,4 +2,3 @@ pub mod ReadLaws
 pub mod SetupLaws
 pub mod StepLaws
 pub mod HeadLaws
-pub mod FreezeLaws

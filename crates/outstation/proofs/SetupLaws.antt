@@ -8,20 +8,18 @@ use native.Mathlib.Omega.{arith}
 use borrow.Author.Tests.{le-leb, leb-true, ne_eqb, eq-eqb}
 use lib.Dec.{leb, eqb}
 use lib.ListN.{take}
-use Rattle.laws.specs.Limits.{points_max, counters_max}
+use Rattle.laws.specs.Limits.{points_max}
 use Rattle.laws.specs.Lists.{all}
 use Rattle.laws.proofs.AllLaws.{refuted}
 use Rattle.points.specs.Setup.{class_ok, analog_ok}
-use Rattle.points.specs.Counter.{counter_ok}
 use Rattle.analog_outputs.specs.Output.{output_ok}
-use Rattle.outstation.specs.Setup.{Setup, binary_classes, analog_setups, counter_setups, analog_outputs, setup_ok}
+use Rattle.outstation.specs.Setup.{Setup, binary_classes, analog_setups, analog_outputs, setup_ok}
 
 -- the limits that are tests of numbers
 pub record Bounds (u : Setup) : Type 0 where
   pub binaries : u.binary_count ≤ points_max
   pub analogs : u.analog_count ≤ points_max
   pub outputs : u.outputs ≤ 16
-  pub counters : u.counter_count ≤ counters_max
   pub analog_outputs : u.analog_output_count ≤ 16
   pub own : u.own ≤ 65519
   pub master : u.master ≤ 65519
@@ -46,8 +44,7 @@ bounds u h =
     let a = first (leb u.binary_count points_max) _ h in
     let b = first (leb u.analog_count points_max) _ a.1 in
     let d = first (leb u.outputs 16) _ b.1 in
-    let c = first (leb u.counter_count counters_max) _ d.1 in
-    let l = first (leb u.analog_output_count 16) _ c.1 in
+    let l = first (leb u.analog_output_count 16) _ d.1 in
     let e = first (leb u.own 65519) _ l.1 in
     let f = first (leb u.master 65519) _ e.1 in
     let g = first (not (eqb u.own u.master)) _ f.1 in
@@ -58,7 +55,6 @@ bounds u h =
       binaries = leb-true _ _ a.0;
       analogs = leb-true _ _ b.0;
       outputs = leb-true _ _ d.0;
-      counters = leb-true _ _ c.0;
       analog_outputs = leb-true _ _ l.0;
       own = leb-true _ _ e.0;
       master = leb-true _ _ f.0;
@@ -74,14 +70,13 @@ broken u h = sym (refuted (setup_ok u) (λ e. h (bounds u e)))
 
 -- a setup that keeps them is as good as its inputs
 module _ (u : Setup) (b : Bounds u) where
-  kept : setup_ok u ≡ (all (map class_ok (binary_classes u)) && (all (map analog_ok (analog_setups u)) && (all (map counter_ok (counter_setups u)) && (all (map output_ok (analog_outputs u)) && true))))
+  kept : setup_ok u ≡ (all (map class_ok (binary_classes u)) && (all (map analog_ok (analog_setups u)) && (all (map output_ok (analog_outputs u)) && true)))
   unfolding setup_ok
   kept =
       rw (
         le-leb _ _ b.binaries,
         le-leb _ _ b.analogs,
         le-leb _ _ b.outputs,
-        le-leb _ _ b.counters,
         le-leb _ _ b.analog_outputs,
         le-leb _ _ b.own,
         le-leb _ _ b.master,
@@ -92,6 +87,6 @@ module _ (u : Setup) (b : Bounds u) where
       )
 
   pub good-setup : all (map class_ok (take u.binary_count u.classes)) ≡ true → all (map analog_ok (take u.analog_count u.analogs)) ≡ true
-      → all (map counter_ok (take u.counter_count u.counters)) ≡ true → all (map output_ok (take u.analog_output_count u.analog_outputs)) ≡ true → true ≡ setup_ok u
-  unfolding binary_classes analog_setups counter_setups analog_outputs
-  good-setup h e c o = rw (kept, h, e, c, o)
+      → all (map output_ok (take u.analog_output_count u.analog_outputs)) ≡ true → true ≡ setup_ok u
+  unfolding binary_classes analog_setups analog_outputs
+  good-setup h e o = rw (kept, h, e, o)

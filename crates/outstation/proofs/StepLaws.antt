@@ -17,15 +17,13 @@ use Rattle.points.specs.declared.BinaryPoint.{BinaryPoint}
 use Rattle.points.specs.declared.AnalogPoint.{AnalogPoint}
 use Rattle.points.specs.declared.AnalogState.{AnalogState}
 use Rattle.points.specs.declared.AnalogState.TheVariants as Ks
-use Rattle.points.specs.declared.CounterPoint.{CounterPoint}
 use Rattle.points.specs.PointsView.{PointsView}
 use Rattle.points.specs.Reading.{BinaryAfter, AnalogAfter, flags_above, read_binary, whole_by, read_whole, float_by, read_float}
-use Rattle.points.specs.Counter.{CounterAfter, read_counter}
 use Rattle.outstation.specs.declared.Reading.{Reading}
 use Rattle.outstation.specs.declared.Measured.{Measured}
 use Rattle.outstation.specs.declared.Measured.TheVariants as Ms
 use Rattle.outstation.specs.OutstationView.{OutstationView}
-use Rattle.outstation.specs.Readings.{bad_time, ReadingEffect, on_binary, on_analog, on_counter, apply_by, apply_reading}
+use Rattle.outstation.specs.Readings.{bad_time, ReadingEffect, on_binary, on_analog, apply_by, apply_reading}
 use Rattle.outstation.specs.Step.{took, Result, taken, reading_step, table_from}
 use Rattle.outstation.specs.Singly.{after_readings, each_taken, Singly}
 
@@ -72,10 +70,6 @@ numbered-analog : (i : PointsView) (r : Reading) (x : Outcome AnalogAfter) → N
 numbered-analog i r (accepted a) h = ok _
 numbered-analog i r (refused n) h = no _ n (number_in _ n h)
 
-numbered-counter : (i : PointsView) (r : Reading) (x : Outcome CounterAfter) → Numbered x → Numbered (on_counter i r x)
-numbered-counter i r (accepted a) h = ok _
-numbered-counter i r (refused n) h = no _ n (number_in _ n h)
-
 binary-numbered : (p : BinaryPoint) (s : Bool) (flags : ℕ) → Numbered (read_binary p s flags)
 unfolding read_binary
 binary-numbered p s flags = by_flags (flags_above flags) _
@@ -98,15 +92,10 @@ float-numbered : (p : AnalogPoint) (x : Float) (flags : ℕ) → Numbered (read_
 unfolding read_float
 float-numbered p x flags = float-by p.gate_state p x flags
 
-counter-numbered : (p : CounterPoint) (n flags : ℕ) → Numbered (read_counter p n flags)
-unfolding read_counter
-counter-numbered p n flags = by_flags (flags_above flags) _
-
 by-numbered : (m : Measured) (i : PointsView) (r : Reading) → Numbered (apply_by m i r)
 by-numbered (Ms.State s) i r = either (ltb r.point (length i.binaries)) _ _ (numbered-binary i r _ (binary-numbered _ s r.flags)) (no _ 2 (omega arith))
 by-numbered (Ms.Whole z) i r = either (ltb r.point (length i.analogs)) _ _ (numbered-analog i r _ (whole-numbered _ z r.flags)) (no _ 2 (omega arith))
 by-numbered (Ms.Float x) i r = either (ltb r.point (length i.analogs)) _ _ (numbered-analog i r _ (float-numbered _ x r.flags)) (no _ 2 (omega arith))
-by-numbered (Ms.Counts n) i r = either (ltb r.point (length i.counters)) _ _ (numbered-counter i r _ (counter-numbered _ n r.flags)) (no _ 2 (omega arith))
 
 apply-numbered : (clock : ℕ) (i : PointsView) (r : Reading) → Numbered (apply_reading clock i r)
 unfolding apply_reading

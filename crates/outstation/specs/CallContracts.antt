@@ -30,16 +30,10 @@ took_by n = took (cond (eqb n 0) 1 0) n
 abbrev pub ReadingHolds : Head → Words → Reading → (n : ℕ) → Head → Words → Type 0
 ReadingHolds h w r n h₁ w₁ = (m : Lent) → StepHolds (on h w m) (reading r) (took_by n) (on h₁ w₁ m)
 
--- ---- a reading as numbers; kind 0: a binary's state; 1: a whole reading; 3: a counter's counts; any other: a float's
+-- ---- a reading as numbers; kind 0: a binary's state; 1: a whole reading; any other: a float's
 
 abbrev pub measured_of : (kind bits : ℕ) → Measured
-measured_of kind bits =
-    first
-    (eqb kind 0 ⇒ Ms.State (holds bits)
-    ∷ eqb kind 1 ⇒ Ms.Whole (to_z w32 bits)
-    ∷ eqb kind 3 ⇒ Ms.Counts bits
-    ∷ [])
-    (Ms.Float (of_bits binary32 bits))
+measured_of kind bits = first (eqb kind 0 ⇒ Ms.State (holds bits) ∷ eqb kind 1 ⇒ Ms.Whole (to_z w32 bits) ∷ []) (Ms.Float (of_bits binary32 bits))
 
 abbrev pub reading_of : ReadingWords → Reading
 reading_of w = record { time = w.time; point = w.point; measured = measured_of w.kind w.bits; flags = w.flags }

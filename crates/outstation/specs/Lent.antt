@@ -1,7 +1,7 @@
 -- The outstation that a head and lent memory stand for. Any head and any content of the memory stand for one.
 -- Assumes nothing.
 use Rattle.std.specs.Prelude.{ℕ, ◌≤◌, cond, List, eqb}
-use Rattle.laws.specs.Limits.{points_max, counters_max, events_max, fragment_max}
+use Rattle.laws.specs.Limits.{points_max, events_max, fragment_max}
 use Rattle.analog_outputs.specs.Output.{analog_outputs_max}
 use Rattle.control.specs.declared.OutputCounts.{OutputCounts}
 use Rattle.control.specs.Objects.{echo_max, answer_max}
@@ -21,12 +21,11 @@ use Rattle.outstation.specs.declared.Wait.TheVariants.{Idle, Awaiting}
 use Rattle.outstation.specs.declared.Head.{Head}
 use Rattle.outstation.specs.OutstationView.{SessionView, OutstationView}
 
--- what is lent: the points' words by kind, the held events' words, the last request, its answer, the object bytes of the select latch, the
--- analog outputs' words
+-- what is lent: the points' words, the held events' words, the last request, its answer, the object bytes of the select latch, the analog
+-- outputs' words
 pub record Lent : Type 0 where
   pub binaries : List ℕ
   pub analogs : List ℕ
-  pub counters : List ℕ
   pub held : List ℕ
   pub request : List ℕ
   pub answer : List ℕ
@@ -36,7 +35,7 @@ pub record Lent : Type 0 where
 -- ---- the parts
 
 abbrev pub installed_of : Head → Installed
-installed_of h = record { binaries = h.binary_count; analogs = h.analog_count; counters = h.counter_count }
+installed_of h = record { binaries = h.binary_count; analogs = h.analog_count }
 
 abbrev pub buffer_status : Head → BufferStatus
 buffer_status h = record { count = h.event_count; overflow = holds h.overflow }
@@ -91,7 +90,7 @@ view_with h i m =
     }
 
 abbrev pub view_of : Head → Lent → OutstationView
-view_of h m = view_with h (points_view_in (installed_of h) m.binaries m.analogs m.counters) m
+view_of h m = view_with h (points_view_in (installed_of h) m.binaries m.analogs) m
 
 -- ---- an outstation: the head by value and the memory that the host lends
 
@@ -108,7 +107,6 @@ outstation_view o = view_of o.head o.lent
 pub record HeadCountsWithin (h : Head) : Type 0 where
   pub binaries : h.binary_count ≤ points_max
   pub analogs : h.analog_count ≤ points_max
-  pub counters : h.counter_count ≤ counters_max
   pub events : h.event_count ≤ events_max
   pub request : h.request_len ≤ fragment_max
   pub answer : h.answer_len ≤ answer_max
@@ -123,7 +121,6 @@ CountsWithin o = HeadCountsWithin o.head
 pub record Words : Type 0 where
   pub binaries : List ℕ
   pub analogs : List ℕ
-  pub counters : List ℕ
   pub held : List ℕ
 
 abbrev pub with_words : Words → Lent → Lent
@@ -131,7 +128,6 @@ with_words w m =
     record {
       binaries = w.binaries;
       analogs = w.analogs;
-      counters = w.counters;
       held = w.held;
       request = m.request;
       answer = m.answer;
@@ -142,16 +138,7 @@ with_words w m =
 -- with other analog outputs' words
 abbrev pub with_outputs : List ℕ → Lent → Lent
 with_outputs os m =
-    record {
-      binaries = m.binaries;
-      analogs = m.analogs;
-      counters = m.counters;
-      held = m.held;
-      request = m.request;
-      answer = m.answer;
-      objects = m.objects;
-      outputs = os;
-    }
+    record { binaries = m.binaries; analogs = m.analogs; held = m.held; request = m.request; answer = m.answer; objects = m.objects; outputs = os }
 
 -- an outstation with these words, m all else that is lent
 abbrev pub on : Head → Words → Lent → Outstation

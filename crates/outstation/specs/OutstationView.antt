@@ -1,10 +1,9 @@
 -- The outstation as its contracts see it: numbers, and lists of what is in use.
 -- Assumes nothing.
 use Rattle.std.specs.Prelude.{ℕ, Bool, true, false, [], map, replicate}
-use Rattle.laws.specs.Limits.{points_max, counters_max}
+use Rattle.laws.specs.Limits.{points_max}
 use Rattle.points.specs.PointsView.{PointsView}
 use Rattle.points.specs.Setup.{fresh_binary, fresh_analog}
-use Rattle.points.specs.Counter.{fresh_counter}
 use Rattle.points.specs.declared.WholeGate.TheVariants as W
 use Rattle.points.specs.declared.AnalogKind.TheVariants as Ks
 use Rattle.events.specs.BufferView.{BufferView}
@@ -15,7 +14,7 @@ use Rattle.outstation.specs.declared.Wait.TheVariants.{Idle}
 use Rattle.analog_outputs.specs.Output.{analog_outputs_max}
 use Rattle.analog_outputs.specs.OutputWords.{no_output}
 use Rattle.control.specs.Status.{Outputs}
-use Rattle.outstation.specs.Setup.{Setup, binary_classes, analog_setups, counter_setups, outputs_set_up}
+use Rattle.outstation.specs.Setup.{Setup, binary_classes, analog_setups, outputs_set_up}
 
 -- what all masters share: the times that are set up, the outputs, the clock and the points
 pub record SharedView : Type 0 where
@@ -67,15 +66,6 @@ with_master m w = record { shared = w.shared; master = m }
 abbrev pub fresh_session : SessionView
 fresh_session = record { restarted = true; wait = Idle; last = nothing; latch = no_select }
 
--- the inputs before any reading
-abbrev pub fresh_inputs : Setup → PointsView
-fresh_inputs u =
-    record {
-      binaries = map fresh_binary (binary_classes u);
-      analogs = map fresh_analog (analog_setups u);
-      counters = map fresh_counter (counter_setups u);
-    }
-
 -- "A restart keeps only the setup."
 unfoldable pub restarted : Setup → OutstationView
 restarted u =
@@ -86,7 +76,7 @@ restarted u =
             confirm_time = u.confirm_time;
             outputs = outputs_set_up u;
             clock = 0;
-            inputs = fresh_inputs u;
+            inputs = record { binaries = map fresh_binary (binary_classes u); analogs = map fresh_analog (analog_setups u) };
           };
       master = record { buffer = record { held = []; overflow = false }; session = fresh_session };
     }
@@ -104,8 +94,6 @@ bare_setup =
       analog_count = 0;
       classes = replicate points_max 0;
       analogs = replicate points_max (record { class = 0; kind = Ks.Int32 W.Never });
-      counter_count = 0;
-      counters = replicate counters_max (record { class = 0; limit = 0 });
       analog_output_count = 0;
       analog_outputs = replicate analog_outputs_max no_output;
     }

@@ -4,8 +4,7 @@ use Rattle.std.specs.Prelude.{ℕ, ◌-◌, Bool, not, cond, ◌&&◌, List, eqb
 use Rattle.laws.specs.Outcome.{Outcome, accepted, refused}
 use Rattle.application.specs.declared.Fault.{Fault}
 use Rattle.application.specs.Fragment.{Kind, confirm, request, classified, objects_of}
-use Rattle.points.specs.PointsView.{PointsView, with_counters}
-use Rattle.freeze.specs.Freeze.{counters_after}
+use Rattle.points.specs.PointsView.{PointsView}
 use Rattle.read_headers.specs.declared.Header.{Header}
 use Rattle.read_headers.specs.Parse.{Parsed, headers, fault}
 use Rattle.static_objects.specs.Static.{asked_of}
@@ -39,9 +38,3 @@ ask i f = outcome_ask i f (classified f)
 
 unfoldable pub is_confirmed : (confirm_time sequence : ℕ) (uns : Bool) (time awaited built : ℕ) → Bool
 is_confirmed confirm_time sequence uns time awaited built = not uns && (eqb sequence awaited && leb (time - built) confirm_time)
-
--- ---- a freeze (document 02, 104)
-
--- the inputs after a request that is no READ and no repeat, of the bytes after control and function: only a freeze changes them
-unfoldable pub inputs_after : (function : ℕ) → List ℕ → PointsView → PointsView
-inputs_after function o i = with_counters (counters_after function o i.counters) i

@@ -1,12 +1,10 @@
--- The setup and its limits (document 01, "The cubicle's equipment"; document 02, 104 and 109): refusal 5 exactly when one is broken.
+-- The setup and its limits (document 01, "The cubicle's equipment"; document 02, 109): refusal 5 exactly when one is broken.
 -- Assumes nothing.
 use Rattle.std.specs.Prelude.{ℕ, Bool, not, List, [], ◌∷◌, map, leb, eqb, take}
-use Rattle.laws.specs.Limits.{points_max, counters_max, outputs_max, address_max, arm_time_max, confirm_time_max}
+use Rattle.laws.specs.Limits.{points_max, outputs_max, address_max, arm_time_max, confirm_time_max}
 use Rattle.laws.specs.Lists.{all}
 use Rattle.points.specs.Setup.{class_ok, analog_ok}
-use Rattle.points.specs.Counter.{counter_ok}
 use Rattle.points.specs.declared.AnalogSetup.{AnalogSetup}
-use Rattle.points.specs.declared.CounterSetup.{CounterSetup}
 use Rattle.analog_outputs.specs.declared.AnalogOutput.{AnalogOutput}
 use Rattle.analog_outputs.specs.Output.{analog_outputs_max, output_ok}
 use Rattle.control.specs.Status.{Outputs}
@@ -22,8 +20,6 @@ pub record Setup : Type 0 where
   pub analog_count : ℕ
   pub classes : List ℕ
   pub analogs : List AnalogSetup
-  pub counter_count : ℕ
-  pub counters : List CounterSetup
   pub analog_output_count : ℕ
   pub analog_outputs : List AnalogOutput
 
@@ -34,11 +30,7 @@ binary_classes u = take u.binary_count u.classes
 unfoldable pub analog_setups : Setup → List AnalogSetup
 analog_setups u = take u.analog_count u.analogs
 
--- so are the counters
-unfoldable pub counter_setups : Setup → List CounterSetup
-counter_setups u = take u.counter_count u.counters
-
--- and the analog outputs
+-- so are the analog outputs
 unfoldable pub analog_outputs : Setup → List AnalogOutput
 analog_outputs u = take u.analog_output_count u.analog_outputs
 
@@ -54,8 +46,6 @@ setup_ok u =
     (leb u.binary_count points_max
     ∷ leb u.analog_count points_max
     ∷ leb u.outputs outputs_max
-    -- "Add up to 32 counters"
-    ∷ leb u.counter_count counters_max
     -- "Add up to 16 analog outputs"
     ∷ leb u.analog_output_count analog_outputs_max
     -- "Own and master addresses are 0 to 65,519 and differ."
@@ -69,7 +59,6 @@ setup_ok u =
     -- "Every input has a class 0 to 3"; gain, offset and limits of float points finite, limits not below 0
     ∷ all (map class_ok (binary_classes u))
     ∷ all (map analog_ok (analog_setups u))
-    ∷ all (map counter_ok (counter_setups u))
     -- "allowed ends of that kind, finite, the first not above the second (else refusal 5)"
     ∷ all (map output_ok (analog_outputs u))
     ∷ [])

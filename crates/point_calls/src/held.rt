@@ -41,7 +41,6 @@ fn put_shown(point: u16, s: Shown, out: &mut [u8], at: usize) -> usize {
     match s {
         Shown::State(state) => put_state(point, state, out, at),
         Shown::Analog(v) => put_analog(point, v, out, at),
-        Shown::Counter(count) => put_counter(point, count, out, at),
     }
 }
 
@@ -49,12 +48,6 @@ fn put_shown(point: u16, s: Shown, out: &mut [u8], at: usize) -> usize {
 fn put_state(point: u16, state: bool, out: &mut [u8], at: usize) -> usize {
     let a = put_point(b'b', point, out, at);
     text::put(out, a, if state { b'1' } else { b'0' })
-}
-
-// ` c,INDEX,VALUE`
-fn put_counter(point: u16, count: u32, out: &mut [u8], at: usize) -> usize {
-    let a = put_point(b'c', point, out, at);
-    text::put_decimal(out, a, count as u64)
 }
 
 // ` KIND,INDEX,VALUE` of an analog point

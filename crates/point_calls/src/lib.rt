@@ -1,7 +1,5 @@
 // What a script gives and asks of points: setups, readings, held events.
-pub mod counters;
 pub mod held;
-pub mod limits;
 pub mod outputs;
 pub mod readings;
 pub mod setup;

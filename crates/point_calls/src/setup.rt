@@ -1,7 +1,7 @@
 // The fields of the call `setup`, and the fresh points that they ask for.
-use crate::{counters, limits, outputs};
+use crate::outputs;
 use analog_outputs::ANALOG_OUTPUT_WORDS;
-use point_store::{ANALOG_WORDS, BINARY_WORDS, COUNTER_WORDS};
+use point_store::{ANALOG_WORDS, BINARY_WORDS};
 use points::POINTS_MAX;
 use restart::{AnalogSetupWords, RestartProgress, Restarted, SetupWords};
 
@@ -45,6 +45,32 @@ struct GateAt {
     next: text::Cursor,
 }
 
+// A limit as its type holds it, and whether it does.
+#[derive(Drop)]
+struct Limit {
+    value: u32,
+    fits: bool,
+}
+
+fn limit_of(negative: bool, size: u64) -> Limit {
+    if negative {
+        return Limit {
+            value: 0,
+            fits: false,
+        };
+    }
+    if 4294967295 < size {
+        return Limit {
+            value: 0,
+            fits: false,
+        };
+    }
+    Limit {
+        value: size as u32,
+        fits: true,
+    }
+}
+
 // GATE and - where it has no limit.
 fn no_limit(f: &[u8], c: text::Cursor, gate: u8) -> GateAt {
     GateAt {
@@ -62,12 +88,16 @@ fn whole_gate(f: &[u8], c: text::Cursor) -> GateAt {
     if gate < 2 {
         return no_limit(f, g.next, gate);
     }
-    let l = limits::limit_at(f, g.next);
-    let next = l.next;
+    let p = text::word(f, g.next, 44);
+    let from = p.from;
+    let to = p.to;
+    let n = text::signed_of(&f[from..to], 9223372036854775808, 9223372036854775807);
+    let next = text::cursor_if(p.next, n.ok);
+    let limit = limit_of(n.negative, n.size);
     GateAt {
         gate,
-        limit: l.value,
-        fits: l.fits,
+        limit: limit.value,
+        fits: limit.fits,
         next,
     }
 }
@@ -234,7 +264,7 @@ fn given(n: u8) -> usize {
     octets::least(n as usize, POINTS_MAX)
 }
 
-// OWN MASTER ARM CONFIRM NB NA NO BINARY.. ANALOG.., then c NC COUNTER.. and s NS SETPOINT.., each or neither
+// OWN MASTER ARM CONFIRM NB NA NO BINARY.. ANALOG.., and s NS SETPOINT.. or nothing
 fn setup_of(w: &[u8], c: text::Cursor, classes: &mut [u8; POINTS_MAX]) -> SetupAt {
     let e = ends_of(w, c);
     let nb = count_of(w, e.next);
@@ -242,11 +272,9 @@ fn setup_of(w: &[u8], c: text::Cursor, classes: &mut [u8; POINTS_MAX]) -> SetupA
     let no = count_of(w, na.next);
     let first = binaries(w, no.next, given(nb.value), classes);
     let a = analogs(w, first, given(na.value));
-    let k = counters::counters_at(w, a.next);
-    let counters = k.items;
-    let o = outputs::outputs_at(w, k.next);
-    let outputs = o.items;
+    let o = outputs::outputs_at(w, a.next);
     let next = o.next;
+    let items = o.items;
     let setup = SetupWords {
         arm_time: e.arm,
         confirm_time: e.confirm,
@@ -254,15 +282,13 @@ fn setup_of(w: &[u8], c: text::Cursor, classes: &mut [u8; POINTS_MAX]) -> SetupA
         master: e.master,
         outputs: no.value as u16,
         analog_output_count: o.count,
-        analog_outputs: outputs,
-        counter_count: k.count,
-        counters,
+        analog_outputs: items,
     };
     SetupAt {
         setup,
         binaries: nb.value as usize,
         analogs: na.value as usize,
-        fits: a.fits & k.fits & o.fits,
+        fits: a.fits & o.fits,
         first,
         next,
     }
@@ -275,12 +301,11 @@ fn restarted(
     classes: &[u8],
     binaries: &mut [u32; BINARY_WORDS],
     analogs: &mut [u32; ANALOG_WORDS],
-    counters: &mut [u32; COUNTER_WORDS],
     outputs: &mut [u32; ANALOG_OUTPUT_WORDS],
 ) -> Restarted {
     let s = t.setup;
     let n = t.analogs;
-    let mut g = restart::begin_restart(s, classes, n, binaries, counters, outputs);
+    let mut g = restart::begin_restart(s, classes, n, binaries, outputs);
     let mut next = t.first;
     let mut left: usize = POINTS_MAX;
     while 0 < left {
@@ -306,11 +331,10 @@ fn restarted_with(
     classes: &[u8],
     binaries: &mut [u32; BINARY_WORDS],
     analogs: &mut [u32; ANALOG_WORDS],
-    counters: &mut [u32; COUNTER_WORDS],
     outputs: &mut [u32; ANALOG_OUTPUT_WORDS],
 ) -> Restarted {
     let n = octets::least(t.binaries, classes.len());
-    restarted(t, w, &classes[0..n], binaries, analogs, counters, outputs)
+    restarted(t, w, &classes[0..n], binaries, analogs, outputs)
 }
 
 // No outstation: a line that is not right, or a limit or a count that is more than its type holds.
@@ -330,7 +354,6 @@ pub fn set_up(
     classes: &mut [u8; POINTS_MAX],
     binaries: &mut [u32; BINARY_WORDS],
     analogs: &mut [u32; ANALOG_WORDS],
-    counters: &mut [u32; COUNTER_WORDS],
     outputs: &mut [u32; ANALOG_OUTPUT_WORDS],
 ) -> SetUp {
     let t = setup_of(w, c, classes);
@@ -344,7 +367,7 @@ pub fn set_up(
     if POINTS_MAX < t.binaries {
         return not_set_up(true, setup);
     }
-    let r = restarted_with(t, w, classes, binaries, analogs, counters, outputs);
+    let r = restarted_with(t, w, classes, binaries, analogs, outputs);
     SetUp {
         right: true,
         setup,

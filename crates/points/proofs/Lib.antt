@@ -6,4 +6,3 @@ pub mod WholeLaws
 pub mod SumLaws
 pub mod PointLaws
 pub mod Examples
-pub mod CounterExamples

@@ -2,6 +2,5 @@ pub mod Scaling
 pub mod Gate
 pub mod Reading
 pub mod Setup
-pub mod Counter
 pub mod Kept
 pub mod PointsView

@@ -6,12 +6,10 @@ use Rattle.points.specs.declared.WholeGate.TheVariants as W
 use Rattle.points.specs.declared.AnalogState.TheVariants as Ms
 use Rattle.points.specs.declared.BinaryPoint.{BinaryPoint}
 use Rattle.points.specs.declared.AnalogPoint.{AnalogPoint}
-use Rattle.points.specs.declared.CounterPoint.{CounterPoint}
 
 pub record PointsView : Type 0 where
   pub binaries : List BinaryPoint
   pub analogs : List AnalogPoint
-  pub counters : List CounterPoint
 
 -- the places of the points of each kind; the first so many are installed
 pub record Points : Type 0 where
@@ -19,21 +17,10 @@ pub record Points : Type 0 where
   pub binary_count : ℕ
   pub analogs : List AnalogPoint
   pub analog_count : ℕ
-  pub counters : List CounterPoint
-  pub counter_count : ℕ
 
 -- a count past the places has all of them, so that any points have a meaning
 unfoldable pub points_view : Points → PointsView
-points_view p =
-    record {
-      binaries = take p.binary_count p.binaries;
-      analogs = take p.analog_count p.analogs;
-      counters = take p.counter_count p.counters;
-    }
-
--- with other counters, all else as it was
-abbrev pub with_counters : List CounterPoint → PointsView → PointsView
-with_counters cs i = record { binaries = i.binaries; analogs = i.analogs; counters = cs }
+points_view p = record { binaries = take p.binary_count p.binaries; analogs = take p.analog_count p.analogs }
 
 -- what a read past the end of an array of points counts as
 abbrev pub no_binary : BinaryPoint
@@ -48,18 +35,4 @@ no_analog =
       flags = 0;
       reported_flags = 0;
       gate_state = Ms.Int32 (record { gate = W.Never; reported_value = pos 0; previous = pos 0; sum = 0 });
-    }
-
-abbrev pub no_counter : CounterPoint
-no_counter =
-    record {
-      class = 0;
-      seen = false;
-      count = 0;
-      flags = 0;
-      limit = 0;
-      reported_count = 0;
-      reported_flags = 0;
-      frozen_count = 0;
-      frozen_flags = 0;
     }

@@ -1,10 +1,9 @@
-// One reading against one point: scaling, reporting gates, the point's record (document 01, "Readings"); counters, their readings and freezes
-// (document 02, 104).
-ghost use Rattle.std.specs.Prelude.{◌≡◌, ◌≤◌, ◌<◌, ◌^◌, min, nat_abs, ◌-ℤ◌, cond};
+// One reading against one point: scaling, reporting gates, the point's record (document 01, "Readings").
+ghost use Rattle.std.specs.Prelude.{◌≡◌, ◌≤◌, min, nat_abs, ◌-ℤ◌, cond};
 ghost use Rattle.std.specs.Float.Ieee.Scale.{finite};
 ghost use Rattle.points.specs.Scaling.{scale_value, limited_of, clamp_value};
 ghost use Rattle.points.specs.Gate.{float_distance, gate_float, gate_whole};
-ghost use Rattle.laws.specs.Limits.{points_max, counters_max};
+ghost use Rattle.laws.specs.Limits.{points_max};
 ghost use Rattle.laws.specs.Outcome.{accepted};
 ghost use Rattle.points.specs.Reading.{
   shown_flags,
@@ -22,16 +21,6 @@ ghost use Rattle.points.specs.Reading.{
   reading_refusal_number,
   binary_taken_of,
   analog_taken_of,
-};
-ghost use Rattle.points.specs.Counter.{
-  count_after,
-  forward_distance,
-  counter_after,
-  read_counter,
-  counter_taken_of,
-  freeze_counter,
-  counter_ok,
-  fresh_counter,
 };
 ghost use Rattle.points.specs.Setup.{
   class_ok,
@@ -153,37 +142,6 @@ pub fn installed(count: usize) -> usize
     octets::least(count, POINTS_MAX)
 }
 
-// How many counters there may be.
-pub const COUNTERS_MAX: usize = 32;
-
-// How many counters are installed: a count past the array has all of it.
-pub fn installed_counters(count: usize) -> usize
-    ensures { result ≡ min count counters_max }
-{
-    octets::least(count, COUNTERS_MAX)
-}
-
-// A counter's record. `count` and `flags` are the running ones, `reported` those last reported, `frozen` those of the last freeze.
-#[derive(Drop)]
-pub struct CounterPoint {
-    pub class: u8,
-    pub seen: bool,
-    pub count: u32,
-    pub flags: u8,
-    pub limit: u32,
-    pub reported_count: u32,
-    pub reported_flags: u8,
-    pub frozen_count: u32,
-    pub frozen_flags: u8,
-}
-
-// A counter as a setup gives it: its class, and the limit of its gate.
-#[derive(Drop)]
-pub struct CounterSetup {
-    pub class: u8,
-    pub limit: u32,
-}
-
 // Why a point does not take a reading.
 #[derive(Drop)]
 pub enum ReadingRefusal {
@@ -206,13 +164,6 @@ pub enum BinaryTaken {
 #[derive(Drop)]
 pub enum AnalogTaken {
     Taken(AnalogPoint, bool),
-    Refused(ReadingRefusal),
-}
-
-// What a counter reading comes to: the counter's new record and whether an event is raised, or a refusal.
-#[derive(Drop)]
-pub enum CounterTaken {
-    Taken(CounterPoint, bool),
     Refused(ReadingRefusal),
 }
 
@@ -755,99 +706,5 @@ pub fn fresh_analog(a: AnalogSetup) -> AnalogPoint
                 AnalogState::Float32(fresh_float(g, s)),
             )
         }
-    }
-}
-
-// ---- counters
-
-// The count after these counts: modulo 2^32.
-fn count_after(count: u32, counts: u32) -> u32
-    ensures { result ≡ count_after count counts }
-{
-    ((count as u64 + counts as u64) % 4294967296) as u32
-}
-
-// How far it is from one count forward to another, modulo 2^32.
-fn forward_distance(from: u32, to: u32) -> u32
-    ensures { result ≡ forward_distance from to }
-{
-    if to < from {
-        return (4294967296 - (from - to) as u64) as u32;
-    }
-    to - from
-}
-
-// The counter's record after a reading that leaves this count and these flags.
-fn counter_after(p: CounterPoint, count: u32, flags: u8, reported: bool) -> CounterTaken
-    ensures { counter_taken_of result ≡ accepted (counter_after p count flags reported) }
-{
-    let mut last = p.reported_count;
-    if reported {
-        last = count;
-    }
-    CounterTaken::Taken(
-        CounterPoint {
-            class: p.class,
-            seen: true,
-            count: count,
-            flags: flags,
-            limit: p.limit,
-            reported_count: last,
-            reported_flags: last_flags(reported, flags, p.reported_flags),
-            frozen_count: p.frozen_count,
-            frozen_flags: p.frozen_flags,
-        },
-        is_raised(p.seen, reported, p.class),
-    )
-}
-
-// One reading of a counter: so many counts to add.
-pub fn read_counter(p: CounterPoint, counts: u32, flags: u8) -> CounterTaken
-    ensures { counter_taken_of result ≡ read_counter p counts flags }
-{
-    if HOST_FLAGS_MAX < flags {
-        return CounterTaken::Refused(ReadingRefusal::HostFlags);
-    }
-    let count = count_after(p.count, counts);
-    let pass = p.limit < forward_distance(p.reported_count, count);
-    let report = is_reported(p.seen, flags, p.reported_flags, pass);
-    counter_after(p, count, flags, report)
-}
-
-// A freeze: the frozen count and flags are the running ones; with clear the count and the one last reported are 0 after it.
-pub fn freeze_counter(p: CounterPoint, clear: bool) -> CounterPoint
-    ensures { result ≡ freeze_counter clear p }
-{
-    let mut next = p;
-    next.frozen_count = p.count;
-    next.frozen_flags = p.flags;
-    if clear {
-        next.count = 0;
-        next.reported_count = 0;
-    }
-    next
-}
-
-// Whether a counter's setup keeps the limits. Its own limit, a u32, does by its type.
-pub fn counter_ok(c: CounterSetup) -> bool
-    ensures { result ≡ counter_ok c }
-{
-    class_ok(c.class)
-}
-
-// A counter before its first reading, never frozen.
-pub fn fresh_counter(c: CounterSetup) -> CounterPoint
-    ensures { result ≡ fresh_counter c }
-{
-    CounterPoint {
-        class: c.class,
-        seen: false,
-        count: 0,
-        flags: FRESH_FLAGS,
-        limit: c.limit,
-        reported_count: 0,
-        reported_flags: FRESH_FLAGS,
-        frozen_count: 0,
-        frozen_flags: FRESH_FLAGS,
     }
 }

@@ -20,7 +20,7 @@ use Rattle.read.specs.Response.{response_objects}
 
 -- row c of the acceptance table: 3C 02 06, no events
 abbrev four : PointsView
-four = record { binaries = no_binary ∷ no_binary ∷ no_binary ∷ no_binary ∷ []; analogs = []; counters = [] }
+four = record { binaries = no_binary ∷ no_binary ∷ no_binary ∷ no_binary ∷ []; analogs = [] }
 
 row-c : response_objects four (asked_of four (60 ∷ 2 ∷ 6 ∷ [])) (record { held = []; overflow = false }) ≡ []
 unfolding headers_of front_header object_of class_header asks_for static_bytes range_bytes point_objects encoded runs all_bytes carry carried_bytes carried_objects carried_events filter
@@ -44,7 +44,6 @@ one =
     record {
       binaries = record { class = 0; seen = true; state = true; flags = 1; reported_flags = 1 } ∷ [];
       analogs = record { class = 0; seen = true; value = Float32 (of_bits binary32 1065353216); flags = 1; reported_flags = 1; gate_state = no_analog.gate_state } ∷ [];
-      counters = [];
     }
 
 row-j : response_objects one (asked_of one (60 ∷ 1 ∷ 6 ∷ [])) (record { held = []; overflow = false })

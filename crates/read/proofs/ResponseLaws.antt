@@ -20,7 +20,7 @@ use Rattle.read_headers.specs.declared.Header.{Header}
 use Rattle.read_headers.specs.Parse.{Parsed, headers, fault, parse}
 use Rattle.event_objects.specs.Events.{carried_bytes}
 use Rattle.event_objects.proofs.Budget.{within}
-use Rattle.static_objects.specs.Static.{static_bytes, sized, counts_of, asked_of}
+use Rattle.static_objects.specs.Static.{static_bytes, sized, asked_of}
 use Rattle.read.specs.Response.{classes_of, response_objects_max, room_beside, buffer_after, response_objects}
 
 -- faultless headers have a static part that fits
@@ -47,7 +47,7 @@ response-fits i s q = go (asked_of i s) refl
     go : (x : Parsed) → x ≡ asked_of i s → 4 + length (response_objects i x q) ≤ fragment_max
     go (fault f) e = omega arith
     go (headers hs) e =
-        let f : length (static_bytes i hs) + 4 ≤ fragment_max = fitting i (parse (counts_of i) s) hs e in
+        let f : length (static_bytes i hs) + 4 ≤ fragment_max = fitting i (parse (length i.binaries) (length i.analogs) s) hs e in
         let k : BufferView = buffer_after i (headers hs) q in
         omega (arith, length-append (carried_bytes k.held) (static_bytes i hs), beside (classes_of hs) (length (static_bytes i hs)) q k f refl)
 

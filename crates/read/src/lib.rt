@@ -9,14 +9,14 @@ ghost use Rattle.read_headers.specs.Parse.{fault, fault_in};
 ghost use Rattle.point_store.specs.PointWords.{points_view_in};
 ghost use Rattle.event_store.specs.EventWords.{buffer_view_in};
 ghost use Rattle.event_objects.specs.Events.{carried_bytes};
-ghost use Rattle.static_objects.specs.Static.{counts_of, asked_of};
+ghost use Rattle.static_objects.specs.Static.{asked_of};
 ghost use Rattle.read.specs.Response.{request_of, static_part, RepliedAs};
 
 use application::{FRAGMENT_MAX, Fault};
 use event_store::{BufferStatus, EVENT_WORDS};
 use events::Classes;
-use point_store::{ANALOG_WORDS, BINARY_WORDS, COUNTER_WORDS, Installed};
-use read_headers::{Front, HEADERS_MAX, PointCounts};
+use point_store::{ANALOG_WORDS, BINARY_WORDS, Installed};
+use read_headers::{Front, HEADERS_MAX};
 
 // The bytes of a response's objects: 2,048 less the four bytes in front of them.
 const RESPONSE_OBJECTS_MAX: usize = FRAGMENT_MAX - 4;
@@ -65,24 +65,14 @@ fn with_class(m: Classes, class: u8) -> Classes
     }
 }
 
-// How many points of each kind are installed, as headers count them.
-fn counts_of(n: Installed) -> PointCounts
-    ensures { (b a c : List ℕ) → result ≡ counts_of (points_view_in n b a c) }
-{
-    PointCounts {
-        binaries: points::installed(n.binaries) as u16,
-        analogs: points::installed(n.analogs) as u16,
-        counters: points::installed_counters(n.counters) as u16,
-    }
-}
-
-// What a READ asks for, of the bytes after control and function. Its headers are not kept: put_static reads them again. No binary and no
-// counter is read for it, so it is the same whatever their words are: (b c : List ℕ) → …
+// What a READ asks for, of the bytes after control and function. Its headers are not kept: put_static reads them again. No binary is read
+// for it, so it is the same whatever their words are: (b : List ℕ) → …
 fn asked(s: &[u8], analogs: &[u32; ANALOG_WORDS], n: Installed) -> ReadRequest
-    ensures { (b c : List ℕ) → result ≡
-        request_of (points_view_in n b analogs.now c) (asked_of (points_view_in n b analogs.now c) s.now) }
+    ensures { (b : List ℕ) → result ≡
+        request_of (points_view_in n b analogs.now) (asked_of (points_view_in n b analogs.now) s.now) }
 {
-    let counts = counts_of(n);
+    let binary_count = points::installed(n.binaries) as u16;
+    let analog_count = points::installed(n.analogs) as u16;
     let mut classes = Classes {
         one: false,
         two: false,
@@ -95,7 +85,7 @@ fn asked(s: &[u8], analogs: &[u32; ANALOG_WORDS], n: Installed) -> ReadRequest
         if count == HEADERS_MAX {
             return faulty(Fault::BadParameter);
         }
-        let next = read_headers::front_header(&s[at..], counts);
+        let next = read_headers::front_header(&s[at..], binary_count, analog_count);
         match next {
             Front::Asked(h, bytes) => {
                 size += static_objects::header_size(h, analogs, n);
@@ -125,22 +115,22 @@ fn put_static(
     s: &[u8],
     binaries: &[u32; BINARY_WORDS],
     analogs: &[u32; ANALOG_WORDS],
-    counters: &[u32; COUNTER_WORDS],
     n: Installed,
 ) -> usize
-    requires { (fault_in (asked_of (points_view_in n binaries.now analogs.now counters.now) s.now) ≡ Faultless)
-        × (at + length (static_part (points_view_in n binaries.now analogs.now counters.now) s.now) ≤ length out.old) }
-    ensures { (result ≡ at + length (static_part (points_view_in n binaries.now analogs.now counters.now) s.now))
-        × (out.new ≡ splice out.old at (static_part (points_view_in n binaries.now analogs.now counters.now) s.now)) }
+    requires { (fault_in (asked_of (points_view_in n binaries.now analogs.now) s.now) ≡ Faultless)
+        × (at + length (static_part (points_view_in n binaries.now analogs.now) s.now) ≤ length out.old) }
+    ensures { (result ≡ at + length (static_part (points_view_in n binaries.now analogs.now) s.now))
+        × (out.new ≡ splice out.old at (static_part (points_view_in n binaries.now analogs.now) s.now)) }
 {
-    let counts = counts_of(n);
+    let binary_count = points::installed(n.binaries) as u16;
+    let analog_count = points::installed(n.analogs) as u16;
     let mut to = at;
     let mut i: usize = 0;
     while i < s.len() {
-        let next = read_headers::front_header(&s[i..], counts);
+        let next = read_headers::front_header(&s[i..], binary_count, analog_count);
         match next {
             Front::Asked(h, bytes) => {
-                to = static_objects::put_header(out, to, h, binaries, analogs, counters, n);
+                to = static_objects::put_header(out, to, h, binaries, analogs, n);
                 i += bytes;
             }
             Front::Faulty(_) => {
@@ -157,19 +147,18 @@ fn put_objects(
     s: &[u8],
     binaries: &[u32; BINARY_WORDS],
     analogs: &[u32; ANALOG_WORDS],
-    counters: &[u32; COUNTER_WORDS],
     n: Installed,
     held: &[u64; EVENT_WORDS],
     status: BufferStatus,
 ) -> usize
-    requires { (fault_in (asked_of (points_view_in n binaries.now analogs.now counters.now) s.now) ≡ Faultless)
+    requires { (fault_in (asked_of (points_view_in n binaries.now analogs.now) s.now) ≡ Faultless)
         × (4 + length (carried_bytes (buffer_view_in held.now status).held)
-        + length (static_part (points_view_in n binaries.now analogs.now counters.now) s.now) ≤ length out.old) }
-    ensures { (result ≡ 4 + length (carried_bytes (buffer_view_in held.now status).held ++ static_part (points_view_in n binaries.now analogs.now counters.now) s.now))
-        × (out.new ≡ splice out.old 4 (carried_bytes (buffer_view_in held.now status).held ++ static_part (points_view_in n binaries.now analogs.now counters.now) s.now)) }
+        + length (static_part (points_view_in n binaries.now analogs.now) s.now) ≤ length out.old) }
+    ensures { (result ≡ 4 + length (carried_bytes (buffer_view_in held.now status).held ++ static_part (points_view_in n binaries.now analogs.now) s.now))
+        × (out.new ≡ splice out.old 4 (carried_bytes (buffer_view_in held.now status).held ++ static_part (points_view_in n binaries.now analogs.now) s.now)) }
 {
     let to = event_objects::put_events(out, 4, held, status);
-    put_static(out, to, s, binaries, analogs, counters, n)
+    put_static(out, to, s, binaries, analogs, n)
 }
 
 // Answers a READ, of the bytes after control and function.
@@ -178,13 +167,12 @@ pub fn respond(
     s: &[u8],
     binaries: &[u32; BINARY_WORDS],
     analogs: &[u32; ANALOG_WORDS],
-    counters: &[u32; COUNTER_WORDS],
     n: Installed,
     held: &mut [u64; EVENT_WORDS],
     status: BufferStatus,
 ) -> Reply
     requires { fragment_max ≤ length out.old }
-    ensures { RepliedAs (points_view_in n binaries.now analogs.now counters.now) s.now (buffer_view_in held.old status) out.old result
+    ensures { RepliedAs (points_view_in n binaries.now analogs.now) s.now (buffer_view_in held.old status) out.old result
         (buffer_view_in held.new status) out.new }
 {
     let a = asked(s, analogs, n);
@@ -192,7 +180,7 @@ pub fn respond(
     if application::is_faultless(fault) {
         let m = a.classes;
         event_store::mark_carried(held, status, m, RESPONSE_OBJECTS_MAX - a.size);
-        let size = put_objects(out, s, binaries, analogs, counters, n, held, status);
+        let size = put_objects(out, s, binaries, analogs, n, held, status);
         return Reply { fault, size };
     }
     event_store::clear(held, status);

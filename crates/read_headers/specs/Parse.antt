@@ -1,11 +1,10 @@
--- All object headers of a READ or of a freeze, "0 to 16 headers", or the first fault.
+-- All object headers of a READ, "0 to 16 headers", or the first fault.
 -- Assumes nothing.
 use Rattle.std.specs.Prelude.{ℕ, zero, suc, Bool, List, [], ◌∷◌, eqb, drop}
 use Rattle.laws.specs.Lists.{some}
 use Rattle.application.specs.declared.Fault.{Fault}
 use Rattle.application.specs.declared.Fault.TheVariants.{Faultless, BadParameter}
-use Rattle.read_headers.specs.Headers.{front_header, freeze_header}
-use Rattle.read_headers.specs.declared.PointCounts.{PointCounts}
+use Rattle.read_headers.specs.Headers.{front_header}
 use Rattle.read_headers.specs.declared.Header.{Header}
 use Rattle.read_headers.specs.declared.Front.{Front}
 use Rattle.read_headers.specs.declared.Front.TheVariants.{Asked, Faulty}
@@ -36,20 +35,17 @@ abbrev pub by_front : Front → (Header → ℕ → Parsed) → Parsed
 by_front (Asked h n) more = more h n
 by_front (Faulty f) more = fault f
 
--- "Left to right, the first fault decides", with k headers still allowed, each as `front` has it; "any byte after 16 headers 2.2"
-unfoldable pub headers_of : (List ℕ → Front) → ℕ → List ℕ → Parsed
-headers_of front zero [] = headers []
-headers_of front zero (b ∷ bs) = fault BadParameter
-headers_of front (suc k) [] = headers []
-headers_of front (suc k) (b ∷ bs) = by_front (front (b ∷ bs)) (λ h n. also h (headers_of front k (drop n (b ∷ bs))))
+-- "Left to right, the first fault decides", with k headers still allowed; "any byte after 16 headers 2.2"
+unfoldable pub headers_of : ℕ → ℕ → ℕ → List ℕ → Parsed
+headers_of nb na zero [] = headers []
+headers_of nb na zero (b ∷ bs) = fault BadParameter
+headers_of nb na (suc k) [] = headers []
+headers_of nb na (suc k) (b ∷ bs) =
+    by_front (front_header nb na (b ∷ bs)) (λ h n. also h (headers_of nb na k (drop n (b ∷ bs))))
 
--- of the bytes of a READ after control and function, where there are so many points
-abbrev pub parse : PointCounts → List ℕ → Parsed
-parse n s = headers_of (front_header n) headers_max s
-
--- of those of a freeze, where there are so many counters
-abbrev pub parse_freeze : ℕ → List ℕ → Parsed
-parse_freeze counters s = headers_of (freeze_header counters) headers_max s
+-- of the bytes after control and function, where there are nb binaries and na analogs
+abbrev pub parse : ℕ → ℕ → List ℕ → Parsed
+parse nb na s = headers_of nb na headers_max s
 
 -- events of the class are asked for by one of the headers
 unfoldable pub asks_for : ℕ → List Header → Bool

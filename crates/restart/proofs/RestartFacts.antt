@@ -22,7 +22,7 @@ use Rattle.restart.specs.declared.AnalogSetupWords.{AnalogSetupWords}
 use Rattle.restart.specs.declared.RestartProgress.{RestartProgress}
 use Rattle.restart.specs.Restart.{analog_setup_of, setup_of, front_ok, Fresh, begin_restart, analogs_left, progress_after, add_analog, finish_restart, RestartHolds}
 use Rattle.restart.proofs.StoringLaws.{Storing, storing-start, storing-more, storing-fails, storing-end}
-use Rattle.restart.proofs.SetupLaws.{setup-and, few-classes, few-analogs, few-counted, few-given, fresh-view, bare-view, fresh-counted}
+use Rattle.restart.proofs.SetupLaws.{setup-and, few-classes, few-analogs, few-given, fresh-view, bare-view, fresh-counted}
 
 -- whether an analog setup is good, and its fresh point
 abbrev good : AnalogSetupWords → Bool
@@ -99,12 +99,12 @@ module _ (s : SetupWords) (classes : List ℕ) (xs : List AnalogSetupWords) wher
         goes_on = goes-on-at (good w) refl
 
     -- where no more is to be stored, the answer is given
-    pub is-over : (bs cs os : List ℕ) → Fresh s classes (length xs) bs cs os → analogs_left g (length xs) ≡ false
-        → RestartHolds s classes xs (finish_restart s (length classes) g).refusal (finish_restart s (length classes) g).head bs ps cs os
-    is-over bs cs os fresh e = by-refusal (eqb g.refusal 0) refl
+    pub is-over : (bs os : List ℕ) → Fresh s classes (length xs) bs os → analogs_left g (length xs) ≡ false
+        → RestartHolds s classes xs (finish_restart s (length classes) g).refusal (finish_restart s (length classes) g).head bs ps os
+    is-over bs os fresh e = by-refusal (eqb g.refusal 0) refl
       where
         by-refusal : (b : Bool) → eqb g.refusal 0 ≡ b
-            → RestartHolds s classes xs (finish_restart s (length classes) g).refusal (finish_restart s (length classes) g).head bs ps cs os
+            → RestartHolds s classes xs (finish_restart s (length classes) g).refusal (finish_restart s (length classes) g).head bs ps os
         by-refusal true z =
             let far : length xs ≤ k = rw (← (st.here z)) (ltb-false _ _ (rw z at e)) in
             let done = storing-end good point xs (analogs_in ps) k (st.stored z) far in
@@ -113,17 +113,16 @@ module _ (s : SetupWords) (classes : List ℕ) (xs : List AnalogSetupWords) wher
             rw (z, all_of)
             (record {
               answer = rw right;
-              state = λ m. rw right (fresh-view s classes xs bs ps cs os m (fresh.binaries (st.front z)) done.1 (fresh.counters (st.front z)) (fresh.outputs (st.front z)));
+              state = λ m. rw right (fresh-view s classes xs bs ps os m (fresh.binaries (st.front z)) done.1 (fresh.outputs (st.front z)));
               counted =
                   λ m.
-                  fresh-counted s.arm_time s.confirm_time s.outputs s.analog_output_count (length classes) (length xs) s.counter_count
-                  (few-given s classes (length xs) (st.front z)) (few-classes s classes (length xs) (st.front z)) (few-analogs s classes (length xs) (st.front z))
-                  (few-counted s classes (length xs) (st.front z));
+                  fresh-counted s.arm_time s.confirm_time s.outputs s.analog_output_count (length classes) (length xs)
+                  (few-given s classes (length xs) (st.front z)) (few-classes s classes (length xs) (st.front z)) (few-analogs s classes (length xs) (st.front z));
             })
         by-refusal false z =
             rw z
             (record {
               answer = rw (st.over z);
-              state = λ m. rw (st.over z) (bare-view bs ps cs os m);
-              counted = λ m. fresh-counted 0 0 0 0 0 0 0 (omega arith) (omega arith) (omega arith) (omega arith);
+              state = λ m. rw (st.over z) (bare-view bs ps os m);
+              counted = λ m. fresh-counted 0 0 0 0 0 0 (omega arith) (omega arith) (omega arith);
             })

@@ -7,19 +7,16 @@ use Rattle.laws.specs.First.{first, ◌⇒◌}
 use Rattle.points.specs.declared.AnalogKind.{AnalogKind}
 use Rattle.points.specs.declared.AnalogKind.TheVariants as Ks
 use Rattle.points.specs.declared.AnalogSetup.{AnalogSetup}
-use Rattle.points.specs.declared.CounterSetup.{CounterSetup}
 use Rattle.points.specs.Setup.{analog_ok, fresh_binary}
-use Rattle.points.specs.Counter.{fresh_counter}
 use Rattle.analog_outputs.specs.declared.AnalogOutput.{AnalogOutput}
 use Rattle.analog_outputs.specs.OutputWords.{output_given, outputs_in}
 use Rattle.outstation.specs.Setup.{Setup, setup_ok}
 use Rattle.outstation.specs.OutstationView.{restarted, bare_setup}
-use Rattle.point_store.specs.PointWords.{whole_gate_of, float_gate_of, binaries_in, counters_in}
+use Rattle.point_store.specs.PointWords.{whole_gate_of, float_gate_of, binaries_in}
 use Rattle.outstation.specs.declared.Head.{Head}
 use Rattle.outstation.specs.Lent.{Lent, with_outputs, outstation_view, CountsWithin, on}
 use Rattle.restart.specs.declared.SetupWords.{SetupWords}
 use Rattle.restart.specs.declared.AnalogSetupWords.{AnalogSetupWords}
-use Rattle.restart.specs.declared.CounterSetupWords.{CounterSetupWords}
 use Rattle.restart.specs.declared.RestartProgress.{RestartProgress}
 use Rattle.restart.specs.declared.Restarted.{Restarted}
 
@@ -35,20 +32,13 @@ analog_kind_of w =
 unfoldable pub analog_setup_of : AnalogSetupWords → AnalogSetup
 analog_setup_of w = record { class = w.class; kind = analog_kind_of w }
 
--- the counters that it gives, those past its count too
-abbrev pub counter_given : CounterSetupWords → CounterSetup
-counter_given w = record { class = w.class; limit = w.limit }
-
-abbrev pub counters_given : SetupWords → List CounterSetup
-counters_given s = map counter_given s.counters
-
 -- the analog outputs that it gives, those past its count too
 abbrev pub outputs_given : SetupWords → List AnalogOutput
 outputs_given s = map output_given s.analog_outputs
 
--- the setup of s with so many binaries and analogs, the first of these, and of these counters and analog outputs
-abbrev pub setup_with : SetupWords → ℕ → List ℕ → ℕ → List AnalogSetup → List CounterSetup → List AnalogOutput → Setup
-setup_with s n classes m analogs counters outputs =
+-- the setup of s with so many binaries and analogs, the first of these, and these analog outputs
+abbrev pub setup_with : SetupWords → ℕ → List ℕ → ℕ → List AnalogSetup → List AnalogOutput → Setup
+setup_with s n classes m analogs outputs =
     record {
       own = s.own;
       master = s.master;
@@ -59,25 +49,22 @@ setup_with s n classes m analogs counters outputs =
       analog_count = m;
       classes = classes;
       analogs = analogs;
-      counter_count = s.counter_count;
-      counters = counters;
       analog_output_count = s.analog_output_count;
       analog_outputs = outputs;
     }
 
 -- the setup that is lent
 abbrev pub setup_of : SetupWords → List ℕ → List AnalogSetupWords → Setup
-setup_of s classes setups = setup_with s (length classes) classes (length setups) (map analog_setup_of setups) (counters_given s) (outputs_given s)
+setup_of s classes setups = setup_with s (length classes) classes (length setups) (map analog_setup_of setups) (outputs_given s)
 
 -- ---- how it goes: all but the analogs, then each analog
 
 abbrev pub front_ok : SetupWords → List ℕ → ℕ → Bool
-front_ok s classes m = setup_ok (setup_with s (length classes) classes m [] (counters_given s) (outputs_given s))
+front_ok s classes m = setup_ok (setup_with s (length classes) classes m [] (outputs_given s))
 
--- what it then says of the binaries', the counters' and the analog outputs' words
-pub record Fresh (s : SetupWords) (classes : List ℕ) (m : ℕ) (bs cs os : List ℕ) : Type 0 where
+-- what it then says of the binaries' and the analog outputs' words
+pub record Fresh (s : SetupWords) (classes : List ℕ) (m : ℕ) (bs os : List ℕ) : Type 0 where
   pub binaries : front_ok s classes m ≡ true → take (length classes) (binaries_in bs) ≡ map fresh_binary classes
-  pub counters : front_ok s classes m ≡ true → take s.counter_count (counters_in cs) ≡ map fresh_counter (take s.counter_count (counters_given s))
   pub outputs : front_ok s classes m ≡ true → take s.analog_output_count (outputs_in os) ≡ take s.analog_output_count (outputs_given s)
 
 abbrev pub begin_restart : Bool → RestartProgress
@@ -97,8 +84,8 @@ add_analog g w = progress_after (analog_ok (analog_setup_of w)) g
 -- ---- what it gives
 
 -- IIN1.7 stands, nothing is held, awaited, kept or selected
-abbrev pub fresh_head : (arm confirm outputs analog_outputs binaries analogs counters : ℕ) → Head
-fresh_head arm confirm outputs analog_outputs binaries analogs counters =
+abbrev pub fresh_head : (arm confirm outputs analog_outputs binaries analogs : ℕ) → Head
+fresh_head arm confirm outputs analog_outputs binaries analogs =
     record {
       arm_time = arm;
       confirm_time = confirm;
@@ -107,7 +94,6 @@ fresh_head arm confirm outputs analog_outputs binaries analogs counters =
       latch_time = 0;
       binary_count = binaries;
       analog_count = analogs;
-      counter_count = counters;
       event_count = 0;
       request_len = 0;
       answer_len = 0;
@@ -127,16 +113,16 @@ fresh_head arm confirm outputs analog_outputs binaries analogs counters =
 
 abbrev pub finish_restart : SetupWords → ℕ → RestartProgress → Restarted
 finish_restart s n g =
-    cond (eqb g.refusal 0) (record { head = fresh_head s.arm_time s.confirm_time s.outputs s.analog_output_count n g.at s.counter_count; refusal = 0 })
-    (record { head = fresh_head 0 0 0 0 0 0 0; refusal = 5 })
+    cond (eqb g.refusal 0) (record { head = fresh_head s.arm_time s.confirm_time s.outputs s.analog_output_count n g.at; refusal = 0 })
+    (record { head = fresh_head 0 0 0 0 0 0; refusal = 5 })
 
--- a restart with the setup s, classes and setups left the head h, the points' words bs, ps and cs, and the analog outputs' words os
-pub record RestartHolds (s : SetupWords) (classes : List ℕ) (setups : List AnalogSetupWords) (refusal : ℕ) (h : Head) (bs ps cs os : List ℕ) : Type 0 where
+-- a restart with the setup s, classes and setups left the head h, the points' words bs and ps, and the analog outputs' words os
+pub record RestartHolds (s : SetupWords) (classes : List ℕ) (setups : List AnalogSetupWords) (refusal : ℕ) (h : Head) (bs ps os : List ℕ) : Type 0 where
   -- 5 exactly when the setup breaks a limit
   pub answer : refusal ≡ cond (setup_ok (setup_of s classes setups)) 0 5
   -- the restarted view, whatever else is lent: of a refused setup the one with no points and no outputs
   pub state : (m : Lent)
-      → outstation_view (on h (record { binaries = bs; analogs = ps; counters = cs; held = m.held }) (with_outputs os m))
+      → outstation_view (on h (record { binaries = bs; analogs = ps; held = m.held }) (with_outputs os m))
       ≡ restarted (cond (setup_ok (setup_of s classes setups)) (setup_of s classes setups) bare_setup)
   -- no count passes its array
-  pub counted : (m : Lent) → CountsWithin (on h (record { binaries = bs; analogs = ps; counters = cs; held = m.held }) (with_outputs os m))
+  pub counted : (m : Lent) → CountsWithin (on h (record { binaries = bs; analogs = ps; held = m.held }) (with_outputs os m))

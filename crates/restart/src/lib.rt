@@ -3,19 +3,18 @@
 // a program in Rattle an array of its own.
 ghost use Rattle.std.specs.Prelude.{◌≡◌, true, [], map, ◌<◌, ◌≤◌, length, take, set};
 ghost use Rattle.laws.specs.Lists.{all};
-ghost use Rattle.laws.specs.Limits.{points_max, counters_max};
+ghost use Rattle.laws.specs.Limits.{points_max};
 ghost use Rattle.points.specs.Setup.{class_ok, analog_ok, fresh_binary, fresh_analog};
-ghost use Rattle.points.specs.Counter.{counter_ok, fresh_counter};
 ghost use Rattle.analog_outputs.specs.Output.{analog_outputs_max, output_ok};
 ghost use Rattle.analog_outputs.specs.OutputWords.{outputs_in};
 ghost use Rattle.outstation.specs.Setup.{setup_ok};
-ghost use Rattle.point_store.specs.PointWords.{binaries_in, analogs_in, counters_in};
-ghost use Rattle.restart.specs.Restart.{analog_setup_of, counters_given, outputs_given, setup_with, front_ok, Fresh, begin_restart, analogs_left, add_analog, finish_restart};
+ghost use Rattle.point_store.specs.PointWords.{binaries_in, analogs_in};
+ghost use Rattle.restart.specs.Restart.{analog_setup_of, outputs_given, setup_with, front_ok, Fresh, begin_restart, analogs_left, add_analog, finish_restart};
 
 use analog_outputs::{ANALOG_OUTPUT_WORDS, ANALOG_OUTPUTS_MAX, AnalogOutputWords};
 use outstation::Head;
-use point_store::{ANALOG_WORDS, BINARY_WORDS, COUNTER_WORDS};
-use points::{AnalogKind, AnalogSetup, COUNTERS_MAX, CounterSetup, POINTS_MAX, Scale};
+use point_store::{ANALOG_WORDS, BINARY_WORDS};
+use points::{AnalogKind, AnalogSetup, POINTS_MAX, Scale};
 
 // Limits of a setup.
 pub const OUTPUTS_MAX: u16 = 16;
@@ -26,16 +25,7 @@ pub const ARM_TIME_MAX: u32 = 64000;
 
 pub const CONFIRM_TIME_MAX: u32 = 60000;
 
-// A counter: its class, and the limit of its gate.
-#[repr(C)]
-#[derive(Drop)]
-pub struct CounterSetupWords {
-    pub limit: u32,
-    pub class: u8,
-}
-
-// What is set up beside the binary and analog inputs. Of the analog outputs the first `analog_output_count` count, of the counters the first
-// `counter_count`.
+// What is set up beside the inputs. Of the analog outputs the first `analog_output_count` count.
 #[repr(C)]
 #[derive(Drop)]
 pub struct SetupWords {
@@ -46,8 +36,6 @@ pub struct SetupWords {
     pub outputs: u16,
     pub analog_output_count: u16,
     pub analog_outputs: [AnalogOutputWords; ANALOG_OUTPUTS_MAX],
-    pub counter_count: u16,
-    pub counters: [CounterSetupWords; COUNTERS_MAX],
 }
 
 // An analog input. Kind 0: a 32-bit point; 1: a 16-bit point; any other: a float point, with a gain and an offset, the bits of floats. Gate 0: never;
@@ -109,7 +97,7 @@ fn analog_setup_of(w: AnalogSetupWords) -> AnalogSetup
 
 // Whether the limits that are tests of numbers are kept, with so many binaries and analogs.
 fn limits_ok(s: SetupWords, binaries: usize, analogs: usize) -> bool
-    ensures { result ≡ setup_ok (setup_with s binaries [] analogs [] [] []) }
+    ensures { result ≡ setup_ok (setup_with s binaries [] analogs [] []) }
 {
     if POINTS_MAX < binaries {
         return false;
@@ -118,9 +106,6 @@ fn limits_ok(s: SetupWords, binaries: usize, analogs: usize) -> bool
         return false;
     }
     if OUTPUTS_MAX < s.outputs {
-        return false;
-    }
-    if COUNTERS_MAX < s.counter_count as usize {
         return false;
     }
     if ANALOG_OUTPUTS_MAX < s.analog_output_count as usize {
@@ -166,29 +151,6 @@ fn fresh_binaries(binaries: &mut [u32; BINARY_WORDS], classes: &[u8]) -> bool
     true
 }
 
-// Stores the fresh counters, up to the first whose class is none.
-fn fresh_counters(counters: &mut [u32; COUNTER_WORDS], s: SetupWords) -> bool
-    requires { s.counter_count ≤ counters_max }
-    ensures { (result ≡ all (map counter_ok (take s.counter_count (counters_given s)))) × (result ≡ true → take s.counter_count (counters_in counters.new) ≡ map fresh_counter (take s.counter_count (counters_given s))) }
-{
-    let n = s.counter_count as usize;
-    let mut i: usize = 0;
-    while i < n {
-        let w = s.counters[i];
-        let c = CounterSetup {
-            class: w.class,
-            limit: w.limit,
-        };
-        if points::counter_ok(c) {
-            point_store::store_counter(counters, i, points::fresh_counter(c));
-            i += 1;
-        } else {
-            return false;
-        }
-    }
-    true
-}
-
 // Stores the analog outputs, up to the first whose ends are not allowed.
 fn fresh_outputs(outputs: &mut [u32; ANALOG_OUTPUT_WORDS], s: SetupWords) -> bool
     requires { s.analog_output_count ≤ analog_outputs_max }
@@ -215,17 +177,14 @@ pub fn begin_restart(
     classes: &[u8],
     analogs: usize,
     binaries: &mut [u32; BINARY_WORDS],
-    counters: &mut [u32; COUNTER_WORDS],
     outputs: &mut [u32; ANALOG_OUTPUT_WORDS],
 ) -> RestartProgress
-    ensures { (result ≡ begin_restart (front_ok s classes.now analogs)) × Fresh s classes.now analogs binaries.new counters.new outputs.new }
+    ensures { (result ≡ begin_restart (front_ok s classes.now analogs)) × Fresh s classes.now analogs binaries.new outputs.new }
 {
     if limits_ok(s, classes.len(), analogs) {
         if fresh_binaries(binaries, classes) {
-            if fresh_counters(counters, s) {
-                if fresh_outputs(outputs, s) {
-                    return RestartProgress { at: 0, refusal: 0 };
-                }
+            if fresh_outputs(outputs, s) {
+                return RestartProgress { at: 0, refusal: 0 };
             }
         }
     }
@@ -277,7 +236,6 @@ pub fn finish_restart(s: SetupWords, binaries: usize, g: RestartProgress) -> Res
         latch_time: 0,
         binary_count: 0,
         analog_count: 0,
-        counter_count: 0,
         event_count: 0,
         request_len: 0,
         answer_len: 0,
@@ -299,7 +257,6 @@ pub fn finish_restart(s: SetupWords, binaries: usize, g: RestartProgress) -> Res
         h.confirm_time = s.confirm_time as u64;
         h.binary_count = binaries;
         h.analog_count = g.at;
-        h.counter_count = s.counter_count as usize;
         h.outputs = s.outputs;
         h.analog_outputs = s.analog_output_count;
         return Restarted {

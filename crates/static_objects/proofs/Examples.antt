@@ -24,40 +24,20 @@ one =
     record {
       binaries = record { class = 0; seen = true; state = true; flags = 1; reported_flags = 1 } ∷ [];
       analogs = analog 1 (Float32 (of_bits binary32 1065353216)) ∷ [];
-      counters = [];
     }
 
-row-j : static_bytes one (every_point (record { binaries = 1; analogs = 1; counters = 0 }) ∷ [])
+row-j : static_bytes one (every_point 1 1 ∷ [])
     ≡ 1 ∷ 2 ∷ 1 ∷ 0 ∷ 0 ∷ 0 ∷ 0 ∷ 129 ∷ 30 ∷ 5 ∷ 1 ∷ 0 ∷ 0 ∷ 0 ∷ 0 ∷ 1 ∷ 0 ∷ 0 ∷ 128 ∷ 63 ∷ []
 unfolding static_bytes range_bytes point_objects point_bytes encoded runs all_bytes object_bytes le of_bits to_bits
 row-j = refl
 
 -- analogs of 32, 16, 16 and 32 bits: three headers
 abbrev four : PointsView
-four = record { binaries = []; analogs = analog 1 (Int32 (pos 1)) ∷ analog 1 (Int16 (pos 2)) ∷ analog 1 (Int16 (negsuc 0)) ∷ analog 2 (Int32 (pos 3)) ∷ []; counters = [] }
+four = record { binaries = []; analogs = analog 1 (Int32 (pos 1)) ∷ analog 1 (Int16 (pos 2)) ∷ analog 1 (Int16 (negsuc 0)) ∷ analog 2 (Int32 (pos 3)) ∷ [] }
 
-kinds : static_bytes four (every_point (record { binaries = 0; analogs = 4; counters = 0 }) ∷ [])
+kinds : static_bytes four (every_point 0 4 ∷ [])
     ≡ 30 ∷ 1 ∷ 1 ∷ 0 ∷ 0 ∷ 0 ∷ 0 ∷ 1 ∷ 1 ∷ 0 ∷ 0 ∷ 0
     ∷ 30 ∷ 2 ∷ 1 ∷ 1 ∷ 0 ∷ 2 ∷ 0 ∷ 1 ∷ 2 ∷ 0 ∷ 1 ∷ 255 ∷ 255
     ∷ 30 ∷ 1 ∷ 1 ∷ 3 ∷ 0 ∷ 3 ∷ 0 ∷ 2 ∷ 3 ∷ 0 ∷ 0 ∷ 0 ∷ []
 unfolding static_bytes range_bytes point_objects point_bytes encoded runs all_bytes object_bytes le
 kinds = refl
-
--- two counters, the second frozen: 14 01 01 00 00 01 00 and both running ones, then 15 01 01 00 00 01 00 and both frozen ones, the first never
--- frozen
-abbrev two : PointsView
-two =
-    record {
-      binaries = [];
-      analogs = [];
-      counters =
-          record { class = 1; seen = true; count = 258; flags = 1; limit = 0; reported_count = 258; reported_flags = 1; frozen_count = 0; frozen_flags = 2 }
-          ∷ record { class = 1; seen = true; count = 4294967295; flags = 1; limit = 0; reported_count = 7; reported_flags = 1; frozen_count = 7; frozen_flags = 1 }
-          ∷ [];
-    }
-
-counters : static_bytes two (every_point (record { binaries = 0; analogs = 0; counters = 2 }) ∷ [])
-    ≡ 20 ∷ 1 ∷ 1 ∷ 0 ∷ 0 ∷ 1 ∷ 0 ∷ 1 ∷ 2 ∷ 1 ∷ 0 ∷ 0 ∷ 1 ∷ 255 ∷ 255 ∷ 255 ∷ 255
-    ∷ 21 ∷ 1 ∷ 1 ∷ 0 ∷ 0 ∷ 1 ∷ 0 ∷ 2 ∷ 0 ∷ 0 ∷ 0 ∷ 0 ∷ 1 ∷ 7 ∷ 0 ∷ 0 ∷ 0 ∷ []
-unfolding static_bytes range_bytes point_objects point_bytes encoded runs all_bytes object_bytes le
-counters = refl

@@ -1,5 +1,5 @@
 // The static part of a response for one header of a READ: its size, and its bytes, written from points in lent words into lent bytes.
-ghost use Rattle.std.specs.Prelude.{◌≡◌, Bool, cond, List, [], ℕ, ◌+◌, ◌*◌, ◌≤◌, ◌<◌, eqb, length};
+ghost use Rattle.std.specs.Prelude.{◌≡◌, true, false, cond, List, [], ℕ, ◌+◌, ◌*◌, ◌≤◌, ◌<◌, eqb, length};
 ghost use Rattle.octets.specs.Bytes.{splice};
 ghost use Rattle.points.specs.PointsView.{PointsView};
 ghost use Rattle.objects.specs.Runs.{object_bytes};
@@ -12,35 +12,27 @@ ghost use Rattle.static_objects.specs.Static.{
   shown_at,
   point_objects,
   range_bytes,
-  counters_bytes,
   header_bytes,
 };
-ghost use Rattle.read_headers.specs.declared.PointKind.TheVariants as K;
-ghost use Rattle.static_objects.specs.Alone.{binaries_alone, analogs_alone, counters_alone, counter_kind};
+ghost use Rattle.static_objects.specs.Alone.{binaries_alone, analogs_alone};
 
-use point_store::{ANALOG_WORDS, BINARY_WORDS, COUNTER_WORDS, Installed};
+use point_store::{ANALOG_WORDS, BINARY_WORDS, Installed};
 use points::Value;
-use read_headers::{Header, PointKind};
+use read_headers::Header;
 
-// What a point shows: a binary's flags with its state, an analog's flags and value, or a counter's flags and count.
+// What a point shows: a binary's flags with its state, or an analog's flags and value.
 #[derive(Drop)]
 enum ShownPoint {
     Binary(u8),
     Analog(u8, Value),
-    Counter(u8, u32),
 }
 
 // ---- one point, and one header
 
-fn group(kind: PointKind) -> u8
-    ensures { result ≡ static_group kind }
+fn group(analog: bool) -> u8
+    ensures { result ≡ static_group analog }
 {
-    match kind {
-        PointKind::Binary => 1,
-        PointKind::Analog => 30,
-        PointKind::Counter => 20,
-        PointKind::FrozenCounter => 21,
-    }
+    if analog { 30 } else { 1 }
 }
 
 fn variation(s: ShownPoint) -> u8
@@ -53,7 +45,6 @@ fn variation(s: ShownPoint) -> u8
             Value::Int16(_) => 2,
             Value::Float32(_) => 5,
         },
-        ShownPoint::Counter(_, _) => 1,
     }
 }
 
@@ -68,7 +59,6 @@ fn size(s: ShownPoint) -> usize
             Value::Int16(_) => 3,
             Value::Float32(_) => 5,
         },
-        ShownPoint::Counter(_, _) => 5,
     }
 }
 
@@ -76,16 +66,16 @@ fn size(s: ShownPoint) -> usize
 fn put_heading(
     out: &mut [u8],
     at: usize,
-    kind: PointKind,
+    analog: bool,
     variation: u8,
     first: usize,
     m: usize,
 ) -> usize
     requires { (at + 7 ≤ length out.old) × (first + m < 200000) }
     ensures { (result ≡ at + 7)
-        × (out.new ≡ splice out.old at (static_heading kind variation first (m + 1))) }
+        × (out.new ≡ splice out.old at (static_heading analog variation first (m + 1))) }
 {
-    out[at] = group(kind);
+    out[at] = group(analog);
     out[at + 1] = variation;
     out[at + 2] = 1;
     octets::put(out, at + 3, 2, first as u64);
@@ -108,18 +98,13 @@ fn put_point(out: &mut [u8], at: usize, s: ShownPoint) -> usize
             out[at] = flags;
             objects::put_value(out, at + 1, v)
         }
-        ShownPoint::Counter(flags, n) => {
-            out[at] = flags;
-            octets::put4(out, at + 1, n);
-            at + 5
-        }
     }
 }
 
 // ---- what the i-th point shows, of so many installed
 
 fn binary_shown(ws: &[u32; BINARY_WORDS], count: usize, i: usize) -> ShownPoint
-    ensures { result ≡ shown_at (binaries_alone count ws.now) K.Binary i }
+    ensures { result ≡ shown_at (binaries_alone count ws.now) false i }
 {
     if i < points::installed(count) {
         let b = point_store::load_binary(ws, i);
@@ -130,7 +115,7 @@ fn binary_shown(ws: &[u32; BINARY_WORDS], count: usize, i: usize) -> ShownPoint
 }
 
 fn analog_shown(ws: &[u32; ANALOG_WORDS], count: usize, i: usize) -> ShownPoint
-    ensures { result ≡ shown_at (analogs_alone count ws.now) K.Analog i }
+    ensures { result ≡ shown_at (analogs_alone count ws.now) true i }
 {
     if i < points::installed(count) {
         let a = point_store::load_shown(ws, i);
@@ -141,27 +126,12 @@ fn analog_shown(ws: &[u32; ANALOG_WORDS], count: usize, i: usize) -> ShownPoint
     }
 }
 
-// What the i-th counter shows: its running count, or the frozen one.
-fn counter_shown(ws: &[u32; COUNTER_WORDS], count: usize, frozen: bool, i: usize) -> ShownPoint
-    ensures { result ≡ shown_at (counters_alone count ws.now) (counter_kind frozen) i }
-{
-    if i < points::installed_counters(count) {
-        if frozen {
-            let c = point_store::load_frozen(ws, i);
-            return ShownPoint::Counter(c.flags, c.count);
-        }
-        let c = point_store::load_running(ws, i);
-        return ShownPoint::Counter(c.flags, c.count);
-    }
-    ShownPoint::Counter(0, 0)
-}
-
 // ---- binaries: all of one variation, so one header
 
 // The bytes that n binaries take.
 fn binaries_size(n: usize) -> usize
     requires { n < 200000 }
-    ensures { ((i : PointsView) (from : ℕ) → result ≡ length (range_bytes i K.Binary from n)) × (result ≤ 7 + n) }
+    ensures { ((i : PointsView) (from : ℕ) → result ≡ length (range_bytes i false from n)) × (result ≤ 7 + n) }
 {
     if n == 0 { 0 } else { 7 + n }
 }
@@ -177,7 +147,7 @@ fn put_states(
 )
     requires { (at + n ≤ length out.old) × (from + n < 200000) }
     ensures { out.new ≡
-        splice out.old at (object_bytes (point_objects (binaries_alone count ws.now) K.Binary from n)) }
+        splice out.old at (object_bytes (point_objects (binaries_alone count ws.now) false from n)) }
 {
     let mut to = at;
     let mut i = from;
@@ -199,15 +169,15 @@ fn put_binaries(
     from: usize,
     n: usize,
 ) -> usize
-    requires { (at + length (range_bytes (binaries_alone count ws.now) K.Binary from n) ≤ length out.old)
+    requires { (at + length (range_bytes (binaries_alone count ws.now) false from n) ≤ length out.old)
         × (from + n < 200000) }
-    ensures { (result ≡ at + length (range_bytes (binaries_alone count ws.now) K.Binary from n))
-        × (out.new ≡ splice out.old at (range_bytes (binaries_alone count ws.now) K.Binary from n)) }
+    ensures { (result ≡ at + length (range_bytes (binaries_alone count ws.now) false from n))
+        × (out.new ≡ splice out.old at (range_bytes (binaries_alone count ws.now) false from n)) }
 {
     if n == 0 {
         return at;
     }
-    let to = put_heading(out, at, PointKind::Binary, 2, from, n - 1);
+    let to = put_heading(out, at, false, 2, from, n - 1);
     put_states(out, to, ws, count, from, n);
     to + n
 }
@@ -217,7 +187,7 @@ fn put_binaries(
 // The bytes that n analogs from `from` on take.
 fn analogs_size(ws: &[u32; ANALOG_WORDS], count: usize, from: usize, n: usize) -> usize
     requires { from + n < 200000 }
-    ensures { (result ≡ length (range_bytes (analogs_alone count ws.now) K.Analog from n)) × (result ≤ 12 * n) }
+    ensures { (result ≡ length (range_bytes (analogs_alone count ws.now) true from n)) × (result ≤ 12 * n) }
 {
     let mut total: usize = 0;
     let mut last: u8 = 0;
@@ -241,13 +211,13 @@ fn analogs_size(ws: &[u32; ANALOG_WORDS], count: usize, from: usize, n: usize) -
 
 // Puts the header of a run that ends, of the point `first` and m more. The variation 0 stands for no run.
 fn end_run(out: &mut [u8], at: usize, variation: u8, first: usize, m: usize)
-    requires { (at + length (cond (eqb variation 0) [] (static_heading K.Analog variation first (m + 1))) ≤ length out.old)
+    requires { (at + length (cond (eqb variation 0) [] (static_heading true variation first (m + 1))) ≤ length out.old)
         × (first + m < 200000) }
     ensures { out.new ≡
-        splice out.old at (cond (eqb variation 0) [] (static_heading K.Analog variation first (m + 1))) }
+        splice out.old at (cond (eqb variation 0) [] (static_heading true variation first (m + 1))) }
 {
     if variation != 0 {
-        put_heading(out, at, PointKind::Analog, variation, first, m);
+        put_heading(out, at, true, variation, first, m);
     }
 }
 
@@ -261,10 +231,10 @@ fn put_analogs(
     from: usize,
     n: usize,
 ) -> usize
-    requires { (at + length (range_bytes (analogs_alone count ws.now) K.Analog from n) ≤ length out.old)
+    requires { (at + length (range_bytes (analogs_alone count ws.now) true from n) ≤ length out.old)
         × (from + n < 200000) }
-    ensures { (result ≡ at + length (range_bytes (analogs_alone count ws.now) K.Analog from n))
-        × (out.new ≡ splice out.old at (range_bytes (analogs_alone count ws.now) K.Analog from n)) }
+    ensures { (result ≡ at + length (range_bytes (analogs_alone count ws.now) true from n))
+        × (out.new ≡ splice out.old at (range_bytes (analogs_alone count ws.now) true from n)) }
 {
     let mut to = at;
     let mut run = at;
@@ -295,119 +265,15 @@ fn put_analogs(
     to
 }
 
-// ---- counters, running or frozen: all of one variation, so one header
-
-// The bytes that n counters take, of either kind.
-fn counters_size(n: usize) -> usize
-    requires { n < 200000 }
-    ensures { ((i : PointsView) (frozen : Bool) (from : ℕ) → result ≡ length (range_bytes i (counter_kind frozen) from n)) × (result ≤ 7 + 5 * n) }
-{
-    if n == 0 { 0 } else { 7 + 5 * n }
-}
-
-// Puts the bytes of n counters from `from` on at the offset, with no header.
-fn put_counts(
-    out: &mut [u8],
-    at: usize,
-    ws: &[u32; COUNTER_WORDS],
-    count: usize,
-    frozen: bool,
-    from: usize,
-    n: usize,
-)
-    requires { (at + 5 * n ≤ length out.old) × (from + n < 200000) }
-    ensures { out.new ≡
-        splice out.old at (object_bytes (point_objects (counters_alone count ws.now) (counter_kind frozen) from n)) }
-{
-    let mut to = at;
-    let mut i = from;
-    let mut left = n;
-    while 0 < left {
-        let s = counter_shown(ws, count, frozen, i);
-        to = put_point(out, to, s);
-        i += 1;
-        left -= 1;
-    }
-}
-
-// The kind of point of a response's header.
-fn counter_kind(frozen: bool) -> PointKind
-    ensures { result ≡ counter_kind frozen }
-{
-    if frozen {
-        PointKind::FrozenCounter
-    } else {
-        PointKind::Counter
-    }
-}
-
-// Puts n counters from `from` on at the offset, and answers the offset after them.
-fn put_counters(
-    out: &mut [u8],
-    at: usize,
-    ws: &[u32; COUNTER_WORDS],
-    count: usize,
-    frozen: bool,
-    from: usize,
-    n: usize,
-) -> usize
-    requires { (at + length (range_bytes (counters_alone count ws.now) (counter_kind frozen) from n) ≤ length out.old)
-        × (from + n < 200000) }
-    ensures { (result ≡ at + length (range_bytes (counters_alone count ws.now) (counter_kind frozen) from n))
-        × (out.new ≡ splice out.old at (range_bytes (counters_alone count ws.now) (counter_kind frozen) from n)) }
-{
-    if n == 0 {
-        return at;
-    }
-    let kind = counter_kind(frozen);
-    let to = put_heading(out, at, kind, 1, from, n - 1);
-    put_counts(out, to, ws, count, frozen, from, n);
-    to + 5 * n
-}
-
 // ---- a header of a request
 
-// The bytes that a header takes. A size reads no binary and no counter, and is the same whatever their words are: (b c : List ℕ) → …
+// The bytes that a header takes. A size reads no binary, and is the same whatever their words are: (b : List ℕ) → …
 pub fn header_size(h: Header, analogs: &[u32; ANALOG_WORDS], n: Installed) -> usize
-    ensures { ((b c : List ℕ) → result ≡ length (header_bytes (points_view_in n b analogs.now c) h)) × (result ≤ 1600000) }
+    ensures { ((b : List ℕ) → result ≡ length (header_bytes (points_view_in n b analogs.now) h)) × (result ≤ 1600000) }
 {
     let binary_bytes = binaries_size(h.binaries as usize);
     let analog_bytes = analogs_size(analogs, n.analogs, h.analog as usize, h.analogs as usize);
-    let counter_bytes = counters_size(h.counters as usize);
-    let frozen_bytes = counters_size(h.frozen_counters as usize);
-    binary_bytes + analog_bytes + counter_bytes + frozen_bytes
-}
-
-// Puts the counters that a header asks for at the offset, running before frozen, and answers the offset after them.
-fn put_both(
-    out: &mut [u8],
-    at: usize,
-    h: Header,
-    counters: &[u32; COUNTER_WORDS],
-    count: usize,
-) -> usize
-    requires { at + length (counters_bytes (counters_alone count counters.now) h) ≤ length out.old }
-    ensures { (result ≡ at + length (counters_bytes (counters_alone count counters.now) h))
-        × (out.new ≡ splice out.old at (counters_bytes (counters_alone count counters.now) h)) }
-{
-    let to = put_counters(
-        out,
-        at,
-        counters,
-        count,
-        false,
-        h.counter as usize,
-        h.counters as usize,
-    );
-    put_counters(
-        out,
-        to,
-        counters,
-        count,
-        true,
-        h.frozen_counter as usize,
-        h.frozen_counters as usize,
-    )
+    binary_bytes + analog_bytes
 }
 
 // Puts what a header asks for at the offset, and answers the offset after it.
@@ -417,12 +283,11 @@ pub fn put_header(
     h: Header,
     binaries: &[u32; BINARY_WORDS],
     analogs: &[u32; ANALOG_WORDS],
-    counters: &[u32; COUNTER_WORDS],
     n: Installed,
 ) -> usize
-    requires { at + length (header_bytes (points_view_in n binaries.now analogs.now counters.now) h) ≤ length out.old }
-    ensures { (result ≡ at + length (header_bytes (points_view_in n binaries.now analogs.now counters.now) h))
-        × (out.new ≡ splice out.old at (header_bytes (points_view_in n binaries.now analogs.now counters.now) h)) }
+    requires { at + length (header_bytes (points_view_in n binaries.now analogs.now) h) ≤ length out.old }
+    ensures { (result ≡ at + length (header_bytes (points_view_in n binaries.now analogs.now) h))
+        × (out.new ≡ splice out.old at (header_bytes (points_view_in n binaries.now analogs.now) h)) }
 {
     let to = put_binaries(
         out,
@@ -432,13 +297,12 @@ pub fn put_header(
         h.binary as usize,
         h.binaries as usize,
     );
-    let after = put_analogs(
+    put_analogs(
         out,
         to,
         analogs,
         n.analogs,
         h.analog as usize,
         h.analogs as usize,
-    );
-    put_both(out, after, h, counters, n.counters)
+    )
 }

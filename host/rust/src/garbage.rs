@@ -9,8 +9,8 @@ use crate::header::*;
 use crate::meaning::*;
 use crate::memory::Memory;
 use crate::pair::{keep, operated_image, Lent, Seen};
-use crate::reached::{named, statuses};
-use crate::words::{Counter, Event, Output, Shown, COUNTER_RECORD, OUTPUT_RECORD, RECORD};
+use crate::reached::statuses;
+use crate::words::{Output, OUTPUT_RECORD, RECORD};
 
 fn same<T: Same>(what: &str, given: &T, plain: &T) -> Result<(), String> {
     match given.differs(plain) {
@@ -42,15 +42,11 @@ fn image(live: &Outstation, random: &mut Random) -> Outstation {
     let few = |word: u32| word & 0xFF00_FFFF | ((word >> 16 & 0xFF) % 3) << 16;
     image.binaries.iter_mut().for_each(|word| *word = few(*word));
     image.analogs.iter_mut().step_by(RECORD).for_each(|word| *word = few(*word));
-    for words in image.counters.chunks_exact_mut(COUNTER_RECORD) {
-        words[0] = few(words[0]);
-        counter(words, random);
-    }
     // Mostly classes that there are, and kinds that events have.
     for second in image.events.iter_mut().skip(1).step_by(2) {
         if random.chance(80) {
             let mut bytes = second.to_le_bytes();
-            (bytes[5], bytes[6]) = (bytes[5] % 5, bytes[6] % 6);
+            (bytes[5], bytes[6]) = (bytes[5] % 5, bytes[6] % 5);
             *second = u64::from_le_bytes(bytes);
         }
     }
@@ -65,7 +61,6 @@ fn image(live: &Outstation, random: &mut Random) -> Outstation {
     head.analog_outputs = random.pick(&[0, 1, 8, 15, 16, 16, 17, 65_535, any, any % 32]);
     head.binary_count = count(BINARIES, random);
     head.analog_count = count(ANALOGS, random);
-    head.counter_count = count(COUNTERS, random);
     head.event_count = count(EVENTS, random);
     head.request_len = count(FRAGMENT, random);
     head.answer_len = count(KEPT_ANSWER, random);
@@ -97,20 +92,6 @@ fn image(live: &Outstation, random: &mut Random) -> Outstation {
         image.head.latch_armed = random.pick(&[1, 2, 2, 3, 255]);
     }
     image
-}
-
-/// Mostly a class that there is; often a count next to its limit, from any count last reported.
-fn counter(words: &mut [u32], random: &mut Random) {
-    if random.chance(80) {
-        words[0] = words[0] & !0xFF | random.below(5) as u32;
-    }
-    if random.chance(70) {
-        let any = random.next() as u32;
-        words[2] = random.pick(&[0, 1, 10, 0x7FFF_FFFF, u32::MAX, any]);
-        let from = random.pick(&[0, 5, u32::MAX, any]);
-        let distance = random.pick(&[0, 1, words[2], words[2].wrapping_sub(1)]);
-        (words[1], words[3]) = (from.wrapping_add(distance), from);
-    }
 }
 
 /// An output of this kind that a setup may have; or ends that are next to each other or far apart; or
@@ -190,39 +171,9 @@ fn reading(clock: u64, random: &mut Random) -> Reading {
         reading.time = clock.wrapping_add(random.below(3) as u64);
         reading.point %= 66;
         reading.flags %= random.pick(&[3, 3, 3, 33]);
-        reading.kind %= 5;
-    }
-    if reading.kind == 3 && random.chance(80) {
-        reading.point %= COUNTERS as u16;
-        reading.bits = random.pick(&[0, 1, 2, 11, u32::MAX, reading.bits]);
+        reading.kind %= 4;
     }
     reading
-}
-
-/// Headers of 20 var 0: all counters, or some of those that there are, or one too many. Sometimes
-/// more than a freeze may have, or another object.
-fn freeze_objects(image: &Outstation, random: &mut Random) -> Vec<u8> {
-    let installed = image.head.counter_count.min(COUNTERS);
-    let headers = random.pick(&[0, 1, 1, 1, 2, 3, 16, 17]);
-    let mut bytes = Vec::new();
-    for _ in 0..headers {
-        let (past, above) = (random.chance(5), random.chance(3));
-        let stop = random.below(installed + usize::from(past) + 1).saturating_sub(1);
-        let start = random.below(stop + 1 + usize::from(above));
-        let (start, stop) = (start as u8, stop as u8);
-        match random.below(4) {
-            0 => bytes.extend_from_slice(&[20, 0, 6]),
-            1 => bytes.extend_from_slice(&[20, 0, 1, start, 0, stop, 0]),
-            _ => bytes.extend_from_slice(&[20, 0, 0, start, stop]),
-        }
-    }
-    match random.below(20) {
-        0 => bytes.extend_from_slice(&[20, 0]),
-        1 => bytes.extend_from_slice(&[random.pick(&[20, 21, 22, 60]), 1, 6]),
-        2 => bytes.extend_from_slice(&[20, 0, random.byte()]),
-        _ => {}
-    }
-    bytes
 }
 
 /// A fragment that an image may take up: a READ, a CONFIRM, an OPERATE of its latch, a repeat.
@@ -249,130 +200,18 @@ fn fragment(image: &Outstation, random: &mut Random) -> Vec<u8> {
         _ => {
             let mut bytes = vec![0xC2, 1];
             for _ in 0..random.below(6) {
-                let header: [&[u8]; 9] = [
+                let header: [&[u8]; 6] = [
                     &[60, 1, 6],
                     &[60, 2, 6],
                     &[60, 3, 6],
                     &[60, 4, 6],
                     &[1, 0, 6],
                     &[30, 0, 0, 1, 7],
-                    &[20, 0, 6],
-                    &[21, 0, 6],
-                    &[20, 0, 0, 1, 7],
                 ];
                 bytes.extend_from_slice(random.pick(&header));
             }
             bytes
         }
-    }
-}
-
-/// A counter after a reading, for any words, and whether that raises an event. The second program has
-/// only what calls leave.
-fn counted(before: Counter, counts: u32, flags: u8) -> (Counter, bool) {
-    let count = before.count.wrapping_add(counts);
-    let passes = count.wrapping_sub(before.reported) > before.limit;
-    let reports = !before.seen || flags != before.reported_flags || passes;
-    let mut after = Counter { seen: true, count, flags, ..before };
-    if reports {
-        (after.reported, after.reported_flags) = (count, flags);
-    }
-    (after, before.seen && reports && (1..=3).contains(&before.class))
-}
-
-/// What a reading of a counter came to, by the definition.
-fn counter_reading(
-    given: &Outstation,
-    left: &Outstation,
-    one: &Reading,
-    refusal: u8,
-    seen: &mut Seen,
-) -> Result<(), String> {
-    let (place, installed) = (usize::from(one.point), given.head.counter_count.min(COUNTERS));
-    let late = one.time >= 1 << 48 || one.time < given.head.clock;
-    let expected = match () {
-        () if late => 1,
-        () if place >= installed => 2,
-        () if one.flags > 31 => 4,
-        () => 0,
-    };
-    same("counter reading by its definition: refusal", &refusal, &expected)?;
-    if refusal != 0 {
-        return Ok(());
-    }
-    let at = |image: &Outstation| Counter::of(&image.counters[COUNTER_RECORD * place..]);
-    let (after, raised) = counted(at(given), one.bits, one.flags);
-    if at(left) != after {
-        return Err(format!("counter by its definition: {:?}, {after:?}", at(left)));
-    }
-    let held = given.head.event_count.min(EVENTS);
-    let full = held == EVENTS;
-    let holds = if raised && !full { held + 1 } else { held };
-    same("counter reading: events held", &left.head.event_count.min(EVENTS), &holds)?;
-    seen.note("garbage: counter reading without an event", !raised);
-    seen.note("garbage: counter reading with an event", raised && !full);
-    seen.note("garbage: counter reading with a dropped event", raised && full);
-    if raised && !full {
-        let event = Event::of(left.events[2 * held], left.events[2 * held + 1]);
-        let Counter { count, flags, class, .. } = after;
-        let shown = Shown::Count(count);
-        let wanted =
-            Event { time: one.time, point: one.point, shown, flags, class, carried: false };
-        if event != wanted {
-            return Err(format!("a counter's event: {event:?}, {wanted:?}"));
-        }
-    }
-    Ok(())
-}
-
-/// What a freeze came to, by the definition; every other fragment leaves the counters.
-fn freezes(
-    given: &Outstation,
-    left: &Outstation,
-    bytes: &[u8],
-    answer: &[u8],
-    seen: &mut Seen,
-) -> Result<(), String> {
-    let function = bytes[1];
-    let kept = &given.request[..given.head.request_len.min(FRAGMENT)];
-    let repeat = given.head.request_kept != 0 && kept == bytes;
-    if !matches!(function, 7..=10) || repeat {
-        return match left.counters == given.counters {
-            true => Ok(()),
-            false => Err("counters changed by no freeze".into()),
-        };
-    }
-    let installed = given.head.counter_count.min(COUNTERS);
-    let asked = named(&bytes[2..], installed);
-    let frozen = asked.clone().unwrap_or_else(|| vec![false; installed]);
-    for (place, &frozen) in frozen.iter().enumerate() {
-        let at = |image: &Outstation| Counter::of(&image.counters[COUNTER_RECORD * place..]);
-        let mut expected = at(given);
-        if frozen {
-            (expected.frozen, expected.frozen_flags) = (expected.count, expected.flags);
-            if function >= 9 {
-                (expected.count, expected.reported) = (0, 0);
-            }
-        }
-        if at(left) != expected {
-            return Err(format!("frozen by its definition: {:?}, {expected:?}", at(left)));
-        }
-    }
-    let answered = function % 2 == 1;
-    let fault = answer.get(3).map(|iin2| iin2 & 7);
-    let right = match answered {
-        true => answer.len() == 4 && (fault == Some(0)) == asked.is_some(),
-        false => answer.is_empty(),
-    };
-    seen.note("garbage: freeze", frozen.contains(&true) && function < 9);
-    seen.note("garbage: freeze with clear", frozen.contains(&true) && function >= 9);
-    seen.note("garbage: freeze of some counters, not of all", {
-        frozen.contains(&true) && frozen.contains(&false)
-    });
-    seen.note("garbage: freeze with a fault", asked.is_none());
-    match right {
-        true => Ok(()),
-        false => Err(format!("the answer of a freeze: {answer:?}")),
     }
 }
 
@@ -479,16 +318,9 @@ pub fn outstation(
     let refused = memory.reading(&mut expected, plain_reading(&one))?;
     same("reading: refusal", &refusal, &refused)?;
     same("reading", &plain(&left), &plain(&expected))?;
-    let kind = match plain_reading(&one).kind {
-        0 => "garbage: binary reading accepted",
-        1 => "garbage: whole reading accepted",
-        3 => "garbage: counter reading accepted",
-        _ => "garbage: float reading accepted",
-    };
+    let kinds = ["garbage: binary reading accepted", "garbage: whole reading accepted"];
+    let kind = kinds.get(usize::from(one.kind)).unwrap_or(&"garbage: float reading accepted");
     seen.note(kind, refusal == 0);
-    if one.kind == 3 {
-        counter_reading(&given, &left, &one, refusal, seen)?;
-    }
 
     let n = random.pick(&[0, 1, 2, 20, 128, 129, 300]);
     let mut readings: Vec<Reading> = (0..n).map(|_| reading(given.head.clock, random)).collect();
@@ -522,11 +354,6 @@ pub fn outstation(
     let function = random.pick(&[3, 5, 6]);
     let bytes = [vec![0xC1, function], set_point_objects(&given, random)].concat();
     let mut lent = Lent::new(FRAGMENT, random);
-    one_fragment(&given, memory, given.head.clock, &bytes, &mut lent, seen)?;
-    // And a freeze.
-    let function = random.pick(&[7, 8, 9, 10]);
-    let bytes = [vec![0xC1, function], freeze_objects(&given, random)].concat();
-    let mut lent = Lent::new(FRAGMENT, random);
     one_fragment(&given, memory, given.head.clock, &bytes, &mut lent, seen)
 }
 
@@ -553,7 +380,6 @@ fn one_fragment(
     if answer.kind < 2 {
         let out = &lent.library()[..answer.length];
         set_points(given, &left, bytes, out, &operated, seen)?;
-        freezes(given, &left, bytes, out, seen)?;
     }
     seen.note("garbage: fragment answered", answer.kind == 0);
     let read = answer.kind == 0 && bytes[1] == 1;
@@ -599,8 +425,6 @@ pub fn setup(live: &Outstation, memory: &mut Memory, random: &mut Random) -> Res
             setup.outputs %= 17;
             setup.analog_output_count %= 17;
             setup.analog_outputs.iter_mut().for_each(|output| allowed(output, random));
-            setup.counter_count %= 33;
-            setup.counters.iter_mut().for_each(|counter| counter.class_ %= 4);
             classes.truncate(BINARIES);
             setups.truncate(ANALOGS);
             classes.iter_mut().for_each(|class| *class %= 4);

@@ -8,7 +8,6 @@ use reference::generate::Random;
 
 pub const BINARIES: usize = 64;
 pub const ANALOGS: usize = 64;
-pub const COUNTERS: usize = 32;
 pub const ANALOG_OUTPUTS: usize = 16;
 pub const EVENTS: usize = 256;
 pub const CONTROLS: usize = 8;
@@ -21,7 +20,6 @@ pub const USER: usize = 250;
 pub const EVENT_WORDS: usize = 2 * EVENTS;
 pub const BINARY_WORDS: usize = BINARIES;
 pub const ANALOG_WORDS: usize = 8 * ANALOGS;
-pub const COUNTER_WORDS: usize = 6 * COUNTERS;
 pub const OUTPUT_WORDS: usize = 3 * ANALOG_OUTPUTS;
 pub const KEPT_ANSWER: usize = 113;
 pub const OBJECTS: usize = 109;
@@ -103,7 +101,7 @@ macro_rules! structs {
 }
 
 structs! {
-    Head "head" 112 {
+    Head "head" 104 {
         arm_time: u64 = 0,
         confirm_time: u64 = 8,
         clock: u64 = 16,
@@ -111,37 +109,34 @@ structs! {
         latch_time: u64 = 32,
         binary_count: usize = 40,
         analog_count: usize = 48,
-        counter_count: usize = 56,
-        event_count: usize = 64,
-        request_len: usize = 72,
-        answer_len: usize = 80,
-        latch_len: usize = 88,
-        outputs: u16 = 96,
-        overflow: u8 = 98,
-        restarted: u8 = 99,
-        waiting: u8 = 100,
-        wait_sequence: u8 = 101,
-        showed_overflow: u8 = 102,
-        dropped_since: u8 = 103,
-        request_kept: u8 = 104,
-        latch_armed: u8 = 105,
-        latch_sequence: u8 = 106,
-        analog_outputs: u16 = 108,
+        event_count: usize = 56,
+        request_len: usize = 64,
+        answer_len: usize = 72,
+        latch_len: usize = 80,
+        outputs: u16 = 88,
+        overflow: u8 = 90,
+        restarted: u8 = 91,
+        waiting: u8 = 92,
+        wait_sequence: u8 = 93,
+        showed_overflow: u8 = 94,
+        dropped_since: u8 = 95,
+        request_kept: u8 = 96,
+        latch_armed: u8 = 97,
+        latch_sequence: u8 = 98,
+        analog_outputs: u16 = 100,
     }
-    Outstation "outstation" 9744 {
+    Outstation "outstation" 8968 {
         head: Head = 0,
-        events: [u64; EVENT_WORDS] = 112,
-        binaries: [u32; BINARY_WORDS] = 4208,
-        analogs: [u32; ANALOG_WORDS] = 4464,
-        counters: [u32; COUNTER_WORDS] = 6512,
-        analog_outputs: [u32; OUTPUT_WORDS] = 7280,
-        request: [u8; FRAGMENT] = 7472,
-        answer: [u8; KEPT_ANSWER] = 9520,
-        latch_objects: [u8; OBJECTS] = 9633,
+        events: [u64; EVENT_WORDS] = 104,
+        binaries: [u32; BINARY_WORDS] = 4200,
+        analogs: [u32; ANALOG_WORDS] = 4456,
+        analog_outputs: [u32; OUTPUT_WORDS] = 6504,
+        request: [u8; FRAGMENT] = 6696,
+        answer: [u8; KEPT_ANSWER] = 8744,
+        latch_objects: [u8; OBJECTS] = 8857,
     }
     AnalogOutput "analog_output" 12 { low: u32 = 0, high: u32 = 4, kind: u8 = 8 }
-    CounterSetup "counter_setup" 8 { limit: u32 = 0, class_: u8 = 4 }
-    Setup "setup" 468 {
+    Setup "setup" 208 {
         arm_time: u32 = 0,
         confirm_time: u32 = 4,
         own: u16 = 8,
@@ -149,8 +144,6 @@ structs! {
         outputs: u16 = 12,
         analog_output_count: u16 = 14,
         analog_outputs: [AnalogOutput; ANALOG_OUTPUTS] = 16,
-        counter_count: u16 = 208,
-        counters: [CounterSetup; COUNTERS] = 212,
     }
     AnalogSetup "analog_setup" 16 {
         limit: u32 = 0,
@@ -167,9 +160,9 @@ structs! {
         kind: u8 = 14,
         flags: u8 = 15,
     }
-    Restarted "restarted" 120 { head: Head = 0, refusal: u8 = 112 }
-    Took "took" 120 { head: Head = 0, refusal: u8 = 112 }
-    TableTook "table_took" 128 { taken: usize = 0, head: Head = 8, refusal: u8 = 120 }
+    Restarted "restarted" 112 { head: Head = 0, refusal: u8 = 104 }
+    Took "took" 112 { head: Head = 0, refusal: u8 = 104 }
+    TableTook "table_took" 120 { taken: usize = 0, head: Head = 8, refusal: u8 = 112 }
     Crob "crob" 16 {
         on_time: u32 = 0,
         off_time: u32 = 4,
@@ -183,7 +176,7 @@ structs! {
     AnalogCommands "analog_commands" 72 { items: [AnalogCommand; CONTROLS] = 0, count: usize = 64 }
     Operated "operated" 208 { crobs: Crobs = 0, analog_commands: AnalogCommands = 136 }
     FragmentAnswer "fragment_answer" 16 { length: usize = 0, kind: u8 = 8, refusal: u8 = 9 }
-    Answer "answer" 336 { head: Head = 0, operated: Operated = 112, answer: FragmentAnswer = 320 }
+    Answer "answer" 328 { head: Head = 0, operated: Operated = 104, answer: FragmentAnswer = 312 }
     Station "station" 4 { own: u16 = 0, master: u16 = 2 }
     Wrote "wrote" 16 { size: usize = 0, refusal: u8 = 8 }
     Frame "frame" 16 {
@@ -247,14 +240,12 @@ calls! {
         setup_count: usize,
         binaries: *mut u32,
         analogs: *mut u32,
-        counters: *mut u32,
         analog_outputs: *mut u32,
     ) -> Restarted;
     fn pomarisco_lent_reading(
         head: Head,
         binaries: *mut u32,
         analogs: *mut u32,
-        counters: *mut u32,
         events: *mut u64,
         reading: Reading,
     ) -> Took;
@@ -262,7 +253,6 @@ calls! {
         head: Head,
         binaries: *mut u32,
         analogs: *mut u32,
-        counters: *mut u32,
         events: *mut u64,
         readings: *const Reading,
         count: usize,
@@ -271,7 +261,6 @@ calls! {
         head: Head,
         binaries: *const u32,
         analogs: *const u32,
-        counters: *mut u32,
         events: *mut u64,
         request: *mut u8,
         answer: *mut u8,
@@ -376,7 +365,6 @@ pub fn restart(
     setups: &[AnalogSetup],
     binaries: &mut [u32; BINARY_WORDS],
     analogs: &mut [u32; ANALOG_WORDS],
-    counters: &mut [u32; COUNTER_WORDS],
     analog_outputs: &mut [u32; OUTPUT_WORDS],
 ) -> Restarted {
     unsafe {
@@ -388,7 +376,6 @@ pub fn restart(
             setups.len(),
             binaries.as_mut_ptr(),
             analogs.as_mut_ptr(),
-            counters.as_mut_ptr(),
             analog_outputs.as_mut_ptr(),
         )
     }
@@ -398,7 +385,6 @@ pub fn reading(
     head: Head,
     binaries: &mut [u32; BINARY_WORDS],
     analogs: &mut [u32; ANALOG_WORDS],
-    counters: &mut [u32; COUNTER_WORDS],
     events: &mut [u64; EVENT_WORDS],
     reading: Reading,
 ) -> Took {
@@ -407,7 +393,6 @@ pub fn reading(
             head,
             binaries.as_mut_ptr(),
             analogs.as_mut_ptr(),
-            counters.as_mut_ptr(),
             events.as_mut_ptr(),
             reading,
         )
@@ -418,7 +403,6 @@ pub fn table(
     head: Head,
     binaries: &mut [u32; BINARY_WORDS],
     analogs: &mut [u32; ANALOG_WORDS],
-    counters: &mut [u32; COUNTER_WORDS],
     events: &mut [u64; EVENT_WORDS],
     readings: &[Reading],
 ) -> TableTook {
@@ -427,7 +411,6 @@ pub fn table(
             head,
             binaries.as_mut_ptr(),
             analogs.as_mut_ptr(),
-            counters.as_mut_ptr(),
             events.as_mut_ptr(),
             readings.as_ptr(),
             readings.len(),
@@ -439,7 +422,6 @@ pub fn table(
 pub struct FragmentLent<'a> {
     pub binaries: &'a [u32; BINARY_WORDS],
     pub analogs: &'a [u32; ANALOG_WORDS],
-    pub counters: &'a mut [u32; COUNTER_WORDS],
     pub events: &'a mut [u64; EVENT_WORDS],
     pub request: &'a mut [u8; FRAGMENT],
     pub answer: &'a mut [u8; KEPT_ANSWER],
@@ -459,7 +441,6 @@ pub fn fragment(
             head,
             lent.binaries.as_ptr(),
             lent.analogs.as_ptr(),
-            lent.counters.as_mut_ptr(),
             lent.events.as_mut_ptr(),
             lent.request.as_mut_ptr(),
             lent.answer.as_mut_ptr(),

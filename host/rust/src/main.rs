@@ -11,8 +11,7 @@
 //!                              print over the library
 //!
 //! A case is: the layout; a fixed script of `tests/`; a random script of one seed; the lent lengths
-//! of one call; segments heard twice; counters and freezes; garbage of one seed; a random run; what has
-//! to be reached. In
+//! of one call; segments heard twice; garbage of one seed; a random run; what has to be reached. In
 //! every second random script the library is given other numbers of the same meaning (`meaning.rs`).
 //! `REFERENCE_FAULT` turns a fault on, after the scripts are made.
 
@@ -69,8 +68,6 @@ enum Case {
     Script { name: String, text: Vec<u8>, other: bool },
     Lengths(&'static str),
     Repeats,
-    Counters,
-    Freezes,
     Past,
     Garbage(u64),
     Random { calls: u64, seed: u64 },
@@ -83,8 +80,6 @@ impl Case {
             Case::Script { name, .. } => name.clone(),
             Case::Lengths(call) => format!("lent lengths of {call}"),
             Case::Repeats => "segments heard twice".into(),
-            Case::Counters => "counters at their limits".into(),
-            Case::Freezes => "freezes".into(),
             Case::Past => "counts past what a script can say".into(),
             Case::Garbage(seed) => format!("garbage {seed}"),
             Case::Random { calls, seed } => format!("random run of {calls} calls, seed {seed}"),
@@ -101,8 +96,6 @@ impl Case {
             }
             Case::Lengths(call) => lengths(&mut pair, call),
             Case::Repeats => repeats(&mut pair),
-            Case::Counters => counters(&mut pair),
-            Case::Freezes => freezes(&mut pair),
             Case::Past => past(&mut pair),
             Case::Garbage(seed) => garbage(&mut pair, *seed),
             Case::Random { calls, seed } => {
@@ -197,7 +190,7 @@ fn both_sides(limit: usize) -> [usize; 6] {
     [0, 1, limit - 1, limit, limit + 1, 2 * limit]
 }
 
-/// 64 points of each kind and 32 counters with some readings, 16 outputs of each, and held events.
+/// 64 points of each kind with some readings, 16 outputs of each, and a held event.
 fn live(pair: &mut Pair) -> Result<(), String> {
     let binaries = vec!["1"; 64].join(" ");
     let analogs = [
@@ -209,10 +202,8 @@ fn live(pair: &mut Pair) -> Result<(), String> {
     let analogs = [analogs; 16].concat().join(" ");
     let outputs = ["1,-5,70000", "2,-300,-256", "3,BF800000,3F800000", "3,00000000,80000000"];
     let outputs = [outputs; 4].concat().join(" ");
-    let counters = ["1,0", "2,10", "3,4294967295", "0,5"];
-    let counters = [counters; 8].concat().join(" ");
     let script = format!(
-        "setup 1 2 5000 5000 64 64 16 {binaries} {analogs} c 32 {counters} s 16 {outputs}\nbin 5 3 0 1\nana 6 0 100 1\nana 6 1 40000 1\nflt 7 2 3F800000 1\nflt 7 3 40400000 1\nbin 9 3 1 1\nana 9 0 -7 1\nflt 9 2 BF800000 1\ncnt 9 0 4294967295 1\ncnt 9 1 7 1\ncnt 9 0 2 1\n"
+        "setup 1 2 5000 5000 64 64 16 {binaries} {analogs} s 16 {outputs}\nbin 5 3 0 1\nana 6 0 100 1\nana 6 1 40000 1\nflt 7 2 3F800000 1\nflt 7 3 40400000 1\nbin 9 3 1 1\nana 9 0 -7 1\nflt 9 2 BF800000 1\n"
     );
     run_script(pair, script.as_bytes())
 }
@@ -231,13 +222,6 @@ fn lengths(pair: &mut Pair, call: &str) -> Result<(), String> {
                 vec![0xC2, 0],
                 vec![0xC3, 0],
             ];
-            // Freezes: right, with a fault, repeated, with no header.
-            for (sequence, function) in [(0xC3, 7), (0xC4, 8), (0xC5, 9), (0xC6, 10)] {
-                fragments.push(vec![sequence, function, 20, 0, 6]);
-                fragments.push(vec![sequence, function, 20, 0, 6]);
-                fragments.push(vec![sequence, function, 20, 0, 0, 0, 32]);
-                fragments.push(vec![sequence, function]);
-            }
             // Set points: a SELECT, its OPERATE, direct operation; then eight, minus zero but for one.
             for (sequence, function) in [(0xC5, 3), (0xC6, 4), (0xC7, 5), (0xC8, 6)] {
                 fragments.push(vec![sequence, function, 41, 2, 0x17, 1, 5, 0xD4, 0xFE, 0]);
@@ -514,155 +498,6 @@ fn repeats_of_the_first(pair: &mut Pair, len: usize, bytes: &mut Random) -> Resu
     Ok(())
 }
 
-// ---- counters
-
-/// A reading of counter 0, then how many events are held.
-fn count(pair: &mut Pair, counts: u32, flags: u8, held: usize) -> Result<(), String> {
-    let reading = Reading { time: 10, index: 0, value: Taken::Counts(counts), flags };
-    calls(pair, [Call::Reading(reading)])?;
-    state::equal("events held", pair.image.head.event_count, held)
-}
-
-/// Readings up to each limit and past it, from counts that wrap and that do not.
-fn counters(pair: &mut Pair) -> Result<(), String> {
-    const MAX: u32 = u32::MAX;
-    for limit in [0, 1, 10, 0x7FFF_FFFF, 0x8000_0000, MAX - 1, MAX] {
-        for class in 0..=3 {
-            let setup = format!("setup 1 2 5000 5000 0 0 0 c 1 {class},{limit}\n");
-            let event = usize::from(class != 0);
-            let past = if limit == MAX { 0 } else { event };
-            for first in [0, 1, 5, MAX - 5, MAX - limit, MAX] {
-                pair.other = first % 2 == 1;
-                run_script(pair, setup.as_bytes())?;
-                // The first raises nothing, whatever it brings.
-                count(pair, first, 1, 0)?;
-                count(pair, 0, 1, 0)?;
-                count(pair, limit, 1, 0)?;
-                count(pair, 0, 1, 0)?;
-                count(pair, 1, 1, past)?;
-                // Flags alone; then one back, which is nearly 2^32 forward.
-                count(pair, 0, 2, past + event)?;
-                count(pair, MAX, 2, 2 * past + event)?;
-                // On to the limit in two steps: the path does not matter.
-                let held = 2 * past + event;
-                count(pair, limit / 2, 2, held)?;
-                count(pair, limit - limit / 2, 2, held)?;
-                calls(pair, [Call::Frag(10, 2048, vec![0xC1, 1, 60, 2, 6, 60, 3, 6, 60, 4, 6])])?;
-                calls(pair, [Call::Frag(10, 2048, vec![0xC2, 1, 60, 1, 6])])?;
-            }
-        }
-    }
-    pair.other = false;
-    // 32 counters and 33, class 3 and 4, limits below 0 and past 2^32 - 1.
-    let many = ["1,5"; 32].join(" ");
-    for (words, refusal) in [
-        (format!("c 32 {many}"), 0),
-        (format!("c 33 {many}"), 5),
-        (format!("c 255 {many}"), 5),
-        ("c 1 3,0".into(), 0),
-        ("c 1 4,0".into(), 5),
-        ("c 1 1,-1".into(), 5),
-        ("c 1 1,4294967295".into(), 0),
-        ("c 1 1,4294967296".into(), 5),
-        ("c 0".into(), 0),
-    ] {
-        let setup = format!("setup 1 2 5000 5000 1 1 1 1 1,1,-,-,1,- {words}\n");
-        run_script(pair, setup.as_bytes())?;
-        state::equal(&words, pair.second.is_none(), refusal != 0)?;
-    }
-    Ok(())
-}
-
-/// Objects of a freeze where there are so many counters.
-fn freeze_objects(counters: u8) -> Vec<Vec<u8>> {
-    let last = counters.saturating_sub(1);
-    let all: &[u8] = &[20, 0, 6];
-    let mut objects: Vec<Vec<u8>> = vec![
-        vec![],
-        all.to_vec(),
-        vec![20, 0, 0, 0, last],
-        vec![20, 0, 0, last, last],
-        vec![20, 0, 0, 0, 0],
-        vec![20, 0, 1, 0, 0, last, 0],
-        // Past the last; the first above the last; past 255.
-        vec![20, 0, 0, 0, counters],
-        vec![20, 0, 0, counters, counters],
-        vec![20, 0, 1, 0, 0, counters, 0],
-        vec![20, 0, 0, 1, 0],
-        vec![20, 0, 1, 1, 0, 0, 0],
-        vec![20, 0, 1, 0, 1, 0, 1],
-        vec![20, 0, 1, 0, 0, last, 1],
-        // Cut short.
-        vec![20],
-        vec![20, 0],
-        vec![20, 0, 0],
-        vec![20, 0, 0, 0],
-        vec![20, 0, 1, 0, 0, 0],
-        // Twice, side by side and apart; 15 to 17 headers; a byte more.
-        [all, all].concat(),
-        [all, &[20, 0, 0, 0, 0], all].concat(),
-        vec![20, 0, 0, 0, 0, 20, 0, 0, last, last, 20, 0, 0, 0, 0],
-        all.repeat(15),
-        all.repeat(16),
-        [&all.repeat(16)[..], &[0]].concat(),
-        all.repeat(17),
-        // A right header, then a wrong one; the object is tested before the qualifier.
-        [all, &[20]].concat(),
-        [all, &[20, 0, 0, 0, counters]].concat(),
-        [all, &[21, 0, 6]].concat(),
-        [all, &[60, 1, 6]].concat(),
-    ];
-    for other in [[20, 1], [20, 5], [21, 0], [21, 1], [22, 0], [22, 5], [60, 1], [60, 2], [30, 0]] {
-        for qualifier in [6, 7] {
-            objects.push([&other[..], &[qualifier]].concat());
-        }
-    }
-    for qualifier in [2, 7, 8, 0x17, 0x28, 0xFF] {
-        objects.push(vec![20, 0, qualifier, 0, 0, 0, 0]);
-    }
-    objects
-}
-
-/// Each freeze of each of these objects, and the same again; then what was frozen is read.
-fn freezes(pair: &mut Pair) -> Result<(), String> {
-    let installed = [(0, 0), (0, 3), (1, 0), (1, 5), (31, 0), (32, 0), (32, 5), (32, 64)];
-    for (counters, analogs) in installed {
-        let analog_words = " 1,1,-,-,1,-".repeat(analogs);
-        let counter_words = " 1,4".repeat(usize::from(counters));
-        let counter_words = format!("c {counters}{counter_words}");
-        let setup = format!("setup 1 2 5000 5000 0 {analogs} 0{analog_words} {counter_words}\n");
-        run_script(pair, setup.as_bytes())?;
-        for function in 7..=10 {
-            for (place, objects) in freeze_objects(counters).into_iter().enumerate() {
-                pair.other = place % 2 == 1;
-                let sequence = 0xC0 | (place % 16) as u8;
-                let fragment = [vec![sequence, function], objects].concat();
-                frozen(pair, counters, &fragment)?;
-            }
-        }
-    }
-    Ok(())
-}
-
-/// Counts of every counter, a freeze, counts again, and the freeze repeated: it is done once.
-fn frozen(pair: &mut Pair, counters: u8, fragment: &[u8]) -> Result<(), String> {
-    let reading = |index| Reading { time: 10, index, value: Taken::Counts(3), flags: 1 };
-    let table = || Call::Table((0..counters).map(reading).collect());
-    let freeze = || Call::Frag(10, 2048, fragment.to_vec());
-    let named = reached::named(&fragment[2..], usize::from(counters)).unwrap_or_default();
-    for (what, done) in [("freeze", named.contains(&true)), ("repeated freeze", false)] {
-        calls(pair, [table()])?;
-        let before = meaning::plain(&pair.image).counters;
-        calls(pair, [freeze()])?;
-        let changed = meaning::plain(&pair.image).counters != before;
-        state::equal(what, changed, done)?;
-    }
-    let read = |bytes: &[u8]| Call::Frag(10, 2048, bytes.to_vec());
-    calls(pair, [read(&[0xC1, 1, 20, 0, 6, 21, 0, 6]), read(&[0xC2, 1, 60, 1, 6])])?;
-    // Room for the next events.
-    calls(pair, [read(&[0xC3, 1, 60, 2, 6]), read(&[0xC3, 0])])
-}
-
 // ---- counts
 
 /// Numbers that a script cannot give: a setup of more points or outputs than there may be is refused,
@@ -681,14 +516,12 @@ fn past(pair: &mut Pair) -> Result<(), String> {
         outputs.setup.outputs = past as u16;
         let mut analog_outputs = setup.clone();
         analog_outputs.setup.analog_output_count = past as u16;
-        let mut counters = setup.clone();
-        counters.setup.counter_count = past as u16;
-        for given in [binaries, analogs, counters, outputs, analog_outputs] {
+        for given in [binaries, analogs, outputs, analog_outputs] {
             let mut left = image;
             let refusal =
                 pair.memory.restart(&mut left, given.setup, &given.classes, &given.analogs)?;
             state::equal("refusal", refusal, 5)?;
-            state::equal("points and outputs", pair::installed(&left.head), pair::NOTHING)?;
+            state::equal("points and outputs", pair::installed(&left.head), (0, 0, 0, 0))?;
         }
     }
     for count in [0, 128, 129, 1000, 70_000_usize] {
@@ -698,10 +531,7 @@ fn past(pair: &mut Pair) -> Result<(), String> {
                 .map(|place| Reading {
                     time: 10,
                     index: (place % 64) as u8,
-                    value: match place % 64 {
-                        point @ 0..32 if place % 128 >= 64 => Taken::Counts(point as u32),
-                        _ => Taken::Binary(place / 64 % 2 == 0),
-                    },
+                    value: Taken::Binary(place / 64 % 2 == 0),
                     flags: 1,
                 })
                 .collect();
@@ -790,7 +620,7 @@ fn own_cases(short: bool) -> Vec<Case> {
         "segment_send",
     ];
     cases.extend(lent.map(Case::Lengths));
-    cases.extend([Case::Repeats, Case::Counters, Case::Freezes, Case::Past]);
+    cases.extend([Case::Repeats, Case::Past]);
     cases.extend((1..=if short { 1 } else { GARBAGE }).map(Case::Garbage));
     cases.push(Case::Random { calls: if short { 30_000 } else { RANDOM }, seed: 12 });
     cases

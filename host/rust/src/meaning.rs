@@ -5,10 +5,7 @@ use reference::frame::{look_over, FrameRefusal};
 use reference::generate::Random;
 
 use crate::header::*;
-use crate::words::{
-    self, is_nan, Analog, Binary, Counter, Event, Output, Shown, COUNTER_RECORD, OUTPUT_RECORD,
-    RECORD,
-};
+use crate::words::{self, is_nan, Analog, Binary, Event, Output, Shown, OUTPUT_RECORD, RECORD};
 
 fn truth(number: u8) -> u8 {
     u8::from(number != 0)
@@ -19,21 +16,12 @@ fn kind(number: u8, last: u8) -> u8 {
     number.min(last)
 }
 
-/// A reading's kind: every number that is no other's is a float's.
-fn reading_kind(number: u8) -> u8 {
-    match number {
-        0 | 1 | 3 => number,
-        _ => 2,
-    }
-}
-
 // ---- the plain image
 
 pub fn plain_head(head: &Head) -> Head {
     let mut head = *head;
     head.binary_count = head.binary_count.min(BINARIES);
     head.analog_count = head.analog_count.min(ANALOGS);
-    head.counter_count = head.counter_count.min(COUNTERS);
     head.event_count = head.event_count.min(EVENTS);
     head.analog_outputs = head.analog_outputs.min(ANALOG_OUTPUTS as u16);
     head.overflow = truth(head.overflow);
@@ -72,11 +60,6 @@ pub fn plain(image: &Outstation) -> Outstation {
         words.copy_from_slice(&Analog::of(words).words());
     }
     rest.fill(0);
-    let (counters, rest) = image.counters.split_at_mut(COUNTER_RECORD * head.counter_count);
-    for words in counters.chunks_exact_mut(COUNTER_RECORD) {
-        words.copy_from_slice(&Counter::of(words).words());
-    }
-    rest.fill(0);
     let installed = OUTPUT_RECORD * usize::from(head.analog_outputs);
     let (outputs, rest) = image.analog_outputs.split_at_mut(installed);
     for words in outputs.chunks_exact_mut(OUTPUT_RECORD) {
@@ -95,10 +78,10 @@ pub fn plain(image: &Outstation) -> Outstation {
 }
 
 pub fn plain_reading(reading: &Reading) -> Reading {
-    let kind = reading_kind(reading.kind);
+    let kind = kind(reading.kind, 2);
     let bits = match kind {
         0 => u32::from(reading.bits != 0),
-        1 | 3 => reading.bits,
+        1 => reading.bits,
         _ => words::float(reading.bits),
     };
     Reading { kind, bits, ..*reading }
@@ -121,7 +104,7 @@ pub fn plain_analog_setup(analog: &AnalogSetup) -> AnalogSetup {
     plain
 }
 
-/// What is past a count does not count; over 16 outputs or 32 counters are refused.
+/// What is past the count does not count; a count above 16 is refused.
 pub fn plain_setup(setup: &Setup) -> Setup {
     let mut plain = *setup;
     let count = usize::from(setup.analog_output_count).min(ANALOG_OUTPUTS);
@@ -133,8 +116,6 @@ pub fn plain_setup(setup: &Setup) -> Setup {
         }
     }
     rest.fill(AnalogOutput::zero());
-    let count = usize::from(setup.counter_count).min(COUNTERS);
-    plain.counters[count..].fill(CounterSetup::zero());
     plain
 }
 
@@ -212,7 +193,6 @@ fn other_shown(shown: Shown, random: &mut Random) -> u32 {
         Shown::State(false) => 0,
         Shown::State(true) => true_bits(random),
         Shown::Long(value) => value as u32,
-        Shown::Count(count) => count,
         Shown::Short(i16::MAX) => random.pick(&[32_767, 32_768, i32::MAX]) as u32,
         Shown::Short(i16::MIN) => random.pick(&[-32_768, -32_769, i32::MIN]) as u32,
         Shown::Short(value) => i32::from(value) as u32,
@@ -246,12 +226,6 @@ fn other_analog(words: &mut [u32], random: &mut Random) {
     }
 }
 
-fn other_counter(words: &mut [u32], random: &mut Random) {
-    words.copy_from_slice(&Counter::of(words).words());
-    words[0] |= random_bits(random) << 25;
-    words[5] |= random_bits(random) << 8;
-}
-
 /// Every kind above 1 is a float.
 fn other_output(words: &mut [u32], random: &mut Random) {
     let output = Output::of(words);
@@ -268,7 +242,7 @@ fn other_event(words: &mut [u64], random: &mut Random) {
     let bits = other_shown(event.shown, random);
     let mut kind = event.shown.coded().0 as u8;
     if kind == 2 {
-        kind = random.pick(&[2, 5, 6, 128, 255]);
+        kind = random.pick(&[2, 4, 5, 128, 255]);
     }
     let mut mark = u8::from(event.carried);
     other_truth(&mut mark, random);
@@ -286,10 +260,6 @@ pub fn other(image: &Outstation, random: &mut Random) -> Outstation {
     analogs.chunks_exact_mut(RECORD).for_each(|words| other_analog(words, random));
     // Only some: the whole array each time would take long.
     rest.iter_mut().take(3 * RECORD).for_each(|word| *word = random_bits(random));
-    let installed = COUNTER_RECORD * head.counter_count.min(COUNTERS);
-    let (counters, rest) = image.counters.split_at_mut(installed);
-    counters.chunks_exact_mut(COUNTER_RECORD).for_each(|words| other_counter(words, random));
-    rest.iter_mut().take(3 * COUNTER_RECORD).for_each(|word| *word = random_bits(random));
     let installed = usize::from(head.analog_outputs).min(ANALOG_OUTPUTS);
     let (outputs, rest) = image.analog_outputs.split_at_mut(OUTPUT_RECORD * installed);
     outputs.chunks_exact_mut(OUTPUT_RECORD).for_each(|words| other_output(words, random));
@@ -328,7 +298,6 @@ pub fn other(image: &Outstation, random: &mut Random) -> Outstation {
     }
     other_count(&mut head.binary_count, BINARIES, random);
     other_count(&mut head.analog_count, ANALOGS, random);
-    other_count(&mut head.counter_count, COUNTERS, random);
     other_count(&mut head.event_count, EVENTS, random);
     if usize::from(head.analog_outputs) >= ANALOG_OUTPUTS {
         head.analog_outputs = random.pick(&[16, 17, 18, 255, 256, 257, 65_535]);
@@ -351,12 +320,10 @@ pub fn other_reading(reading: &Reading, random: &mut Random) -> Reading {
     let mut reading = *reading;
     match reading.kind {
         0 if reading.bits != 0 => reading.bits = true_bits(random),
-        0 | 1 | 3 => {}
-        _ => {
-            reading.bits = other_float(reading.bits, random);
-            reading.kind = random.pick(&[2, 4, 5, 128, 255]);
-        }
+        0 | 1 => {}
+        _ => reading.bits = other_float(reading.bits, random),
     }
+    other_kind(&mut reading.kind, 2, random);
     reading
 }
 
@@ -379,10 +346,6 @@ pub fn other_setup(setup: &Setup, random: &mut Random) -> Setup {
     let (outputs, rest) = other.analog_outputs.split_at_mut(count);
     outputs.iter_mut().for_each(|output| other_kind(&mut output.kind, 2, random));
     rest.iter_mut().for_each(|output| *output = AnalogOutput::random(random));
-    let count = usize::from(setup.counter_count).min(COUNTERS);
-    for counter in &mut other.counters[count..] {
-        *counter = CounterSetup::random(random);
-    }
     other
 }
 

@@ -36,7 +36,6 @@ pub struct Memory {
     events: Block<u64, EVENT_WORDS>,
     binaries: Block<u32, BINARY_WORDS>,
     analogs: Block<u32, ANALOG_WORDS>,
-    counters: Block<u32, COUNTER_WORDS>,
     analog_outputs: Block<u32, OUTPUT_WORDS>,
     request: Block<u8, FRAGMENT>,
     answer: Block<u8, KEPT_ANSWER>,
@@ -48,14 +47,10 @@ pub struct Memory {
 #[derive(Clone, Copy)]
 struct Writes {
     points: bool,
-    counters: bool,
     outputs: bool,
     events: bool,
     session: bool,
 }
-
-const BY_READINGS: Writes =
-    Writes { points: true, counters: true, outputs: false, events: true, session: false };
 
 impl Memory {
     pub fn new(exact: bool) -> Memory {
@@ -64,7 +59,6 @@ impl Memory {
             events: Block::new(border, 0xE7E6_E5E4_E3E2_E1E0),
             binaries: Block::new(border, 0xB3B2_B1B0),
             analogs: Block::new(border, 0xA3A2_A1A0),
-            counters: Block::new(border, 0xD3D2_D1D0),
             analog_outputs: Block::new(border, 0xC3C2_C1C0),
             request: Block::new(border, 0x51),
             answer: Block::new(border, 0x52),
@@ -77,7 +71,6 @@ impl Memory {
         *self.events.get_mut() = image.events;
         *self.binaries.get_mut() = image.binaries;
         *self.analogs.get_mut() = image.analogs;
-        *self.counters.get_mut() = image.counters;
         *self.analog_outputs.get_mut() = image.analog_outputs;
         *self.request.get_mut() = image.request;
         *self.answer.get_mut() = image.answer;
@@ -87,7 +80,6 @@ impl Memory {
     /// What the call left, where it wrote no other array and no border.
     fn take(&self, image: &mut Outstation, head: Head, writes: Writes) -> Result<(), String> {
         let points = *self.binaries.get() == image.binaries && *self.analogs.get() == image.analogs;
-        let counters = *self.counters.get() == image.counters;
         let outputs = *self.analog_outputs.get() == image.analog_outputs;
         let events = *self.events.get() == image.events;
         let session = *self.request.get() == image.request
@@ -95,14 +87,12 @@ impl Memory {
             && *self.latch_objects.get() == image.latch_objects;
         for (what, kept) in [
             ("points", writes.points || points),
-            ("counters", writes.counters || counters),
             ("analog outputs", writes.outputs || outputs),
             ("events", writes.events || events),
             ("request, answer or objects", writes.session || session),
             ("border of the events", self.events.kept()),
             ("border of the binaries", self.binaries.kept()),
             ("border of the analogs", self.analogs.kept()),
-            ("border of the counters", self.counters.kept()),
             ("border of the analog outputs", self.analog_outputs.kept()),
             ("border of the request", self.request.kept()),
             ("border of the answer", self.answer.kept()),
@@ -116,9 +106,6 @@ impl Memory {
         if !points {
             image.binaries = *self.binaries.get();
             image.analogs = *self.analogs.get();
-        }
-        if !counters {
-            image.counters = *self.counters.get();
         }
         if !outputs {
             image.analog_outputs = *self.analog_outputs.get();
@@ -149,11 +136,9 @@ impl Memory {
             setups,
             self.binaries.get_mut(),
             self.analogs.get_mut(),
-            self.counters.get_mut(),
             self.analog_outputs.get_mut(),
         );
-        let writes =
-            Writes { points: true, counters: true, outputs: true, events: false, session: false };
+        let writes = Writes { points: true, outputs: true, events: false, session: false };
         self.take(image, restarted.head, writes)?;
         Ok(restarted.refusal)
     }
@@ -165,11 +150,11 @@ impl Memory {
             image.head,
             self.binaries.get_mut(),
             self.analogs.get_mut(),
-            self.counters.get_mut(),
             self.events.get_mut(),
             reading,
         );
-        self.take(image, took.head, BY_READINGS)?;
+        let writes = Writes { points: true, outputs: false, events: true, session: false };
+        self.take(image, took.head, writes)?;
         Ok(took.refusal)
     }
 
@@ -184,11 +169,11 @@ impl Memory {
             image.head,
             self.binaries.get_mut(),
             self.analogs.get_mut(),
-            self.counters.get_mut(),
             self.events.get_mut(),
             readings,
         );
-        self.take(image, took.head, BY_READINGS)?;
+        let writes = Writes { points: true, outputs: false, events: true, session: false };
+        self.take(image, took.head, writes)?;
         Ok((took.taken, took.refusal))
     }
 
@@ -203,7 +188,6 @@ impl Memory {
         let lent = FragmentLent {
             binaries: self.binaries.get(),
             analogs: self.analogs.get(),
-            counters: self.counters.get_mut(),
             events: self.events.get_mut(),
             request: self.request.get_mut(),
             answer: self.answer.get_mut(),
@@ -211,10 +195,7 @@ impl Memory {
             analog_outputs: self.analog_outputs.get(),
         };
         let answer = header::fragment(image.head, lent, time, fragment, out);
-        // Only a freeze writes counters.
-        let freeze = matches!(fragment.get(1), Some(7..=10));
-        let writes =
-            Writes { points: false, counters: freeze, outputs: false, events: true, session: true };
+        let writes = Writes { points: false, outputs: false, events: true, session: true };
         self.take(image, answer.head, writes)?;
         Ok((answer.answer, answer.operated))
     }

@@ -11,16 +11,16 @@ use reference::frame::{self, Frame, FrameRefusal};
 use reference::generate::Random;
 use reference::link::{self, Heard, LineRecord};
 use reference::outstation::Outstation;
-use reference::points::{Form, Reading, Taken, Value};
+use reference::points::{Form, Reading, Taken};
 use reference::receiver::Receiver;
 use reference::script::{Call, LENT};
 use reference::set_points::{SetPoint, SetValue};
 use reference::transport::{Assembled, Unfinished};
 
-use crate::header::{self, Head, Same};
+use crate::header::{self, Same};
 use crate::meaning;
 use crate::memory::Memory;
-use crate::reached::{self, Accepted, Freeze};
+use crate::reached::{self, Accepted};
 use crate::run::block;
 use crate::state::{self, equal, gate_parts};
 
@@ -282,7 +282,7 @@ impl Pair {
         }
         match &self.second {
             Some(second) => state::compare(&self.image, second),
-            None => equal("what a refused setup leaves", installed(&self.image.head), NOTHING),
+            None => equal("what a refused setup leaves", installed(&self.image.head), (0, 0, 0, 0)),
         }
     }
 
@@ -311,7 +311,7 @@ impl Pair {
     fn reading(&mut self, second: &mut Outstation, reading: Reading) -> Result<(), String> {
         let mut given = reading_image(&reading);
         self.give();
-        // The second program knows points to 255 only; there are none from 64 on, counters from 32.
+        // The second program knows points to 255 only; there are none from 64 on.
         let past = header::Reading { point: given.point + 256, ..given };
         let expected = if second.test_time(reading.time).is_err() { 1 } else { 2 };
         let before = self.image;
@@ -322,13 +322,6 @@ impl Pair {
 
         let full = second.events.held.len() == header::EVENTS;
         let overflow = second.events.warning;
-        let counter = match reading.value {
-            Taken::Counts(counts) => {
-                let counter = second.counters.get(usize::from(reading.index)).cloned();
-                counter.map(|before| (before, counts))
-            }
-            _ => None,
-        };
         let expected = code(&second.reading(reading));
         if self.other {
             given = meaning::other_reading(&given, &mut self.random);
@@ -338,15 +331,6 @@ impl Pair {
         self.keep();
         self.seen.refusal(refusal);
         self.seen.note("event dropped", full && second.events.warning && !overflow);
-        if matches!(reading.value, Taken::Counts(_)) {
-            self.seen.note("counter reading refused 1", refusal == 1);
-            self.seen.note("counter reading refused 2", refusal == 2);
-            self.seen.note("counter reading refused 4", refusal == 4);
-        }
-        if let (0, Some((before, counts))) = (refusal, &counter) {
-            let after = &second.counters[usize::from(reading.index)];
-            reached::counter_reading(&mut self.seen, before, after, *counts, full);
-        }
         equal("refusal", refusal, expected)
     }
 
@@ -385,9 +369,6 @@ impl Pair {
         let input = Input::new(bytes, &mut self.random);
         let mut lent = Lent::new(len, &mut self.random);
         let (wait, latch) = (second.wait.clone(), second.latch.clone());
-        let last = second.last_request.as_ref();
-        let repeat = last.is_some_and(|last| last.bytes == bytes);
-        let counters = second.counters.clone();
         let overflow = second.events.warning;
         let (answer, handed) =
             self.memory.fragment(&mut self.image, time, &input, lent.library())?;
@@ -450,26 +431,7 @@ impl Pair {
             let answer = &lent.library()[..length];
             let call = Accepted { setup, latch, time, bytes, answer, operated };
             reached::set_points(seen, &call);
-            if matches!(function, 7..=10) {
-                let (before, after) = (&counters[..], &second.counters[..]);
-                let (waited, armed) = (wait.is_some(), latch.is_some());
-                reached::freeze(
-                    seen,
-                    &Freeze { bytes, answer, before, after, repeat, waited, armed },
-                );
-            }
         }
-        let all = function == 1 && bytes[2..] == [60, 1, 6] && length > 4;
-        let kinds = [second.binaries.len(), second.analogs.len(), second.counters.len()];
-        seen.note("READ of class 0 with counters after analogs", all && !kinds.contains(&0));
-        let full = kinds == [header::BINARIES, header::ANALOGS, header::COUNTERS];
-        seen.note("READ of class 0 with all points that there can be", all && full);
-        let carried = second.wait.as_ref().filter(|_| function == 1 && accepted);
-        let counts = second.events.held.iter().any(|event| {
-            matches!(event.value, Value::Count(_))
-                && carried.is_some_and(|wait| wait.carried.contains(&event.number))
-        });
-        seen.note("READ with counters' events", counts);
         Ok(())
     }
 
@@ -777,14 +739,9 @@ fn same_operated(library: &header::Operated, second: &[Control]) -> Result<(), S
     }
 }
 
-/// How many binaries, analogs, counters, relays and analog outputs a head has.
-type Installed = (usize, usize, usize, u16, u16);
-
-pub const NOTHING: Installed = (0, 0, 0, 0, 0);
-
-pub fn installed(head: &header::Head) -> Installed {
-    let Head { binary_count, analog_count, counter_count, outputs, analog_outputs, .. } = *head;
-    (binary_count, analog_count, counter_count, outputs, analog_outputs)
+/// How many points and outputs of each kind a head has.
+pub fn installed(head: &header::Head) -> (usize, usize, u16, u16) {
+    (head.binary_count, head.analog_count, head.outputs, head.analog_outputs)
 }
 
 /// What the second program hands over, as the header's structs.
@@ -864,7 +821,6 @@ pub fn reading_image(reading: &Reading) -> header::Reading {
         Taken::Binary(state) => (0, u32::from(state)),
         Taken::Whole(whole) => (1, whole as u32),
         Taken::Float(real) => (2, real.to_bits()),
-        Taken::Counts(counts) => (3, counts),
     };
     let point = u16::from(reading.index);
     header::Reading { time: reading.time, bits, point, kind, flags: reading.flags }
@@ -907,11 +863,6 @@ pub fn setup_image(setup: &reference::outstation::Setup) -> Option<SetupImage> {
     for (output, point) in analog_outputs.iter_mut().zip(&setup.set_points) {
         *output = output_image(point)?;
     }
-    let mut counters = [header::CounterSetup::zero(); header::COUNTERS];
-    for (counter, two) in counters.iter_mut().zip(&setup.counters) {
-        let limit = u32::try_from(two.limit).ok()?;
-        *counter = header::CounterSetup { limit, class_: two.class };
-    }
     let mut image = SetupImage {
         setup: header::Setup {
             arm_time: setup.arm_time,
@@ -921,8 +872,6 @@ pub fn setup_image(setup: &reference::outstation::Setup) -> Option<SetupImage> {
             outputs: u16::from(setup.outputs),
             analog_output_count: u16::from(setup.set_point_count),
             analog_outputs,
-            counter_count: u16::from(setup.counter_count),
-            counters,
         },
         classes: setup.binaries.clone(),
         analogs: Vec::new(),

@@ -1,12 +1,10 @@
-//! Which cases of set points, freezes and counters a call came to, for the list of what has to be
-//! reached.
+//! Which cases of set points a fragment came to, for the list of what has to be reached.
 
 use reference::control::{self, Control, Group, Latch, Object};
-use reference::counters::Counter;
 use reference::outstation::Setup;
 use reference::set_points::{SetPoint, SetValue};
 
-use crate::header::{CONTROLS, COUNTERS};
+use crate::header::CONTROLS;
 use crate::pair::Seen;
 
 /// A fragment that was accepted, and what it came to.
@@ -123,121 +121,4 @@ fn operate(seen: &mut Seen, call: &Accepted, objects: &[u8], status: u8) {
         && latch.objects != objects
         && control::parse(&latch.objects) == control::parse(objects);
     seen.note("OPERATE with a zero of the other sign: status 2", sets && zeros);
-}
-
-// ---- counters
-
-/// A reading that was taken: the counter before and after it, its counts, and whether all places of
-/// events were used.
-pub fn counter_reading(
-    seen: &mut Seen,
-    before: &Counter,
-    after: &Counter,
-    counts: u32,
-    full: bool,
-) {
-    let flagged = before.flags != after.flags;
-    let distance = i64::from(after.count.wrapping_sub(before.reported));
-    let (passes, later) = (distance > after.limit, before.seen);
-    let event = later && (passes || flagged) && after.class != 0;
-    let quiet = later && !flagged;
-    for (what, happened) in [
-        ("counter: a first reading", !later),
-        ("counter: a count that wraps", after.count < before.count),
-        ("counter: 2^32 - 1 counts at once", counts == u32::MAX),
-        ("counter: no counts", later && counts == 0),
-        ("counter: at its limit, no event", quiet && distance == after.limit),
-        ("counter: one past its limit, an event", later && distance == after.limit + 1),
-        ("counter: any change with limit 0", quiet && after.limit == 0 && passes),
-        ("counter: no event with limit 2^32 - 1", {
-            quiet && after.limit == i64::from(u32::MAX) && counts != 0
-        }),
-        ("counter: an event by flags alone", event && !passes),
-        ("counter: class 0 reports without an event", {
-            later && (passes || flagged) && after.class == 0
-        }),
-        ("counter: an event held", event && !full),
-        ("counter: an event dropped", event && full),
-    ] {
-        seen.note(what, happened);
-    }
-}
-
-/// The counters that a freeze of these objects names; none where it has a fault.
-pub fn named(objects: &[u8], installed: usize) -> Option<Vec<bool>> {
-    let mut named = vec![false; installed];
-    let mut rest = objects;
-    for headers in 0.. {
-        let (range, size) = match rest {
-            [] => break,
-            _ if headers == 16 => return None,
-            [20, 0, 6, ..] => (0..installed, 3),
-            [20, 0, 0, start, stop, ..] => (usize::from(*start)..usize::from(*stop) + 1, 5),
-            [20, 0, 1, a, b, c, d, ..] => {
-                let number = |low, high| usize::from(u16::from_le_bytes([low, high]));
-                (number(*a, *b)..number(*c, *d) + 1, 7)
-            }
-            _ => return None,
-        };
-        if rest[2] != 6 && (range.is_empty() || range.end > installed) {
-            return None;
-        }
-        named[range].fill(true);
-        rest = &rest[size..];
-    }
-    Some(named)
-}
-
-/// A freeze that was accepted, the counters before and after it, and what stood before it.
-pub struct Freeze<'a> {
-    pub bytes: &'a [u8],
-    /// Empty where it was not answered.
-    pub answer: &'a [u8],
-    pub before: &'a [Counter],
-    pub after: &'a [Counter],
-    pub repeat: bool,
-    pub waited: bool,
-    pub armed: bool,
-}
-
-pub fn freeze(seen: &mut Seen, call: &Freeze) {
-    let &Freeze { bytes, answer, before, after, .. } = call;
-    let (function, objects, answered) = (bytes[1], &bytes[2..], !answer.is_empty());
-    let asked = named(objects, before.len());
-    let would_freeze = before.iter().any(|counter| counter.count != counter.frozen);
-    let again = call.repeat && asked.is_some() && would_freeze;
-    seen.note("freeze repeated, not done again", again && answered);
-    seen.note("unanswered freeze repeated, not done again", again && !answered);
-    if call.repeat {
-        return;
-    }
-    for (what, number) in [
-        ("function 7 freezes", 7),
-        ("function 8 freezes, unanswered", 8),
-        ("function 9 freezes and clears", 9),
-        ("function 10 freezes and clears, unanswered", 10),
-    ] {
-        seen.note(what, function == number && before != after);
-    }
-    let iin2 = answer.get(3).copied().unwrap_or(0);
-    seen.note("freeze: IIN2.1", iin2 & 2 != 0);
-    seen.note("freeze: IIN2.2", iin2 & 4 != 0);
-    seen.note("freeze with a fault, unanswered", asked.is_none() && !answered);
-    seen.note("freeze that ends a wait", call.waited);
-    seen.note("freeze that empties the latch", call.armed);
-    seen.note("freeze with no header", objects.is_empty());
-    seen.note("freeze where there are no counters", before.is_empty() && asked.is_some());
-    let all = objects.chunks(3).all(|header| header == [20, 0, 6]);
-    seen.note("freeze of 16 headers", all && objects.len() == 48);
-    seen.note("freeze of 17 headers: IIN2.2", all && objects.len() == 51 && iin2 & 4 != 0);
-    let twice = objects.len() == 6 && all && function >= 9;
-    seen.note("freeze with clear of counters named twice", twice && before != after);
-    let asked = asked.unwrap_or_default();
-    seen.note("freeze of all 32 counters", {
-        asked.len() == COUNTERS && asked.iter().all(|&named| named)
-    });
-    let some = asked.contains(&true) && asked.contains(&false);
-    seen.note("freeze of some counters, not of all", some);
-    let unseen = asked.iter().zip(before).any(|(&named, counter)| named && !counter.seen);
-    seen.note("freeze of a counter without a reading", unseen);
 }

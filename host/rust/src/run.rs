@@ -1,7 +1,6 @@
 //! The long run of `stress.rs`: both sides beside each other, or the second program alone.
 
 use reference::application::Outcome;
-use reference::counters;
 use reference::frame::{self, FrameRefusal};
 use reference::link::{self, Heard, LineRecord};
 use reference::outstation;
@@ -13,7 +12,7 @@ use reference::transport::{Assembled, Transport};
 use crate::header::*;
 use crate::meaning;
 use crate::memory::Memory;
-use crate::pair::{assembly_image, installed, keep, operated_image, NOTHING};
+use crate::pair::{assembly_image, installed, keep, operated_image};
 use crate::state::{self, equal};
 use crate::stress::{Answered, Call, Generator, Kind, Sum, COUNTS, FILL, LENGTHS, LINE, WHOLE};
 
@@ -60,17 +59,11 @@ fn set_point(output: &AnalogOutput) -> SetPoint {
     }
 }
 
-fn counter(counter: &CounterSetup) -> counters::CounterSetup {
-    counters::CounterSetup { class: counter.class_, limit: i64::from(counter.limit) }
-}
-
-/// Its numbers of points and outputs are bytes; its lists have at most 64 points, 32 counters and 16
-/// set points.
+/// Its numbers of points and outputs are bytes; its lists have at most 64 points and 16 set points.
 fn setup(call: &Call) -> outstation::Setup {
     let byte = |count: usize| count.min(255) as u8;
     let setup = &call.setup;
     let analogs = call.setups.iter().take(ANALOGS);
-    let counters = usize::from(setup.counter_count);
     let set_points = usize::from(setup.analog_output_count);
     outstation::Setup {
         own: setup.own,
@@ -80,21 +73,18 @@ fn setup(call: &Call) -> outstation::Setup {
         binary_count: byte(call.classes.len()),
         analog_count: byte(call.setups.len()),
         outputs: byte(usize::from(setup.outputs)),
-        counter_count: byte(counters),
         set_point_count: byte(set_points),
         binaries: call.classes.iter().take(BINARIES).copied().collect(),
         analogs: analogs.map(|analog| (analog.class_, form(analog))).collect(),
-        counters: setup.counters.iter().take(counters).map(counter).collect(),
         set_points: setup.analog_outputs.iter().take(set_points).map(set_point).collect(),
     }
 }
 
-/// It knows points to 255; there are none from 64 on, and no counters from 32 on.
+/// It knows points to 255; there are none from 64 on.
 fn reading(reading: &Reading) -> points::Reading {
     let value = match reading.kind {
         0 => Taken::Binary(reading.bits != 0),
         1 => Taken::Whole(reading.bits as i32),
-        3 => Taken::Counts(reading.bits),
         _ => Taken::Float(f32::from_bits(reading.bits)),
     };
     let index = reading.point.min(255) as u8;
@@ -520,7 +510,7 @@ fn both(library: &mut Library, second: &mut Second, call: &Call) -> Result<Answe
         Some(second) => state::compare(&library.image, second)?,
         None => {
             let left = installed(&library.image.head);
-            equal("what a refused setup leaves", left, NOTHING)?;
+            equal("what a refused setup leaves", left, (0, 0, 0, 0))?;
         }
     }
     Ok(result)
@@ -557,11 +547,8 @@ fn told(call: &Call) -> String {
     let mut text = match call.kind {
         Kind::Restart => {
             let (points, analogs) = (call.classes.len(), call.setups.len());
-            let Setup { counter_count, analog_output_count, .. } = call.setup;
-            format!(
-                "restart of {points} and {analogs} points, {counter_count} counters, \
-                 {analog_output_count} analog outputs"
-            )
+            let outputs = call.setup.analog_output_count;
+            format!("restart of {points} and {analogs} points, {outputs} analog outputs")
         }
         Kind::Reading | Kind::Table => {
             let readings: Vec<String> = call

@@ -1,15 +1,12 @@
 //! The library's state, head and lent words, against the second program's, field by field.
 
 use reference::control::Group;
-use reference::counters;
 use reference::outstation::Outstation;
 use reference::points::{Form, Gate, Past, Value};
 use reference::set_points::SetPoint;
 
 use crate::header::{self, Head, FRAGMENT, KEPT_ANSWER, OBJECTS};
-use crate::words::{
-    Analog, Binary, Counter, Event, Output, Shown, COUNTER_RECORD, OUTPUT_RECORD, RECORD,
-};
+use crate::words::{Analog, Binary, Event, Output, Shown, OUTPUT_RECORD, RECORD};
 
 /// An error that names both sides.
 pub fn equal<T: PartialEq + std::fmt::Debug>(
@@ -90,21 +87,6 @@ fn analog_of(two: &reference::points::Analog, reported: u8) -> Analog {
     }
 }
 
-/// The limit of a counter in a setup that was taken fits 32 bits. Every change of flags is reported.
-fn counter_of(two: &counters::Counter, reported: u8) -> Counter {
-    Counter {
-        class: two.class,
-        flags: two.flags,
-        reported_flags: if two.seen { two.flags } else { reported },
-        seen: two.seen,
-        count: two.count,
-        limit: two.limit as u32,
-        reported: two.reported,
-        frozen: two.frozen,
-        frozen_flags: two.frozen_flags,
-    }
-}
-
 /// The ends of whole set points in a setup that was taken fit 32 bits.
 fn output_of(two: &SetPoint) -> Output {
     let (kind, low, high) = match *two {
@@ -163,15 +145,6 @@ fn points(image: &header::Outstation, second: &Outstation) -> Result<(), String>
         let expected = analog_of(two, one.reported_flags);
         if one != expected {
             return equal(&format!("analog {place}"), one, expected);
-        }
-    }
-    equal("counters", image.head.counter_count, second.counters.len())?;
-    let words = image.counters.chunks_exact(COUNTER_RECORD);
-    for (place, (words, two)) in words.zip(&second.counters).enumerate() {
-        let one = Counter::of(words);
-        let expected = counter_of(two, one.reported_flags);
-        if one != expected {
-            return equal(&format!("counter {place}"), one, expected);
         }
     }
     Ok(())
@@ -249,7 +222,6 @@ pub fn head_of(second: &Outstation) -> Head {
     head.clock = second.clock;
     head.binary_count = second.binaries.len();
     head.analog_count = second.analogs.len();
-    head.counter_count = second.counters.len();
     head.event_count = second.events.held.len();
     head.outputs = u16::from(second.setup.outputs);
     head.analog_outputs = second.setup.set_points.len() as u16;
@@ -281,9 +253,6 @@ pub fn image_of(second: &Outstation) -> header::Outstation {
     for (words, two) in image.analogs.chunks_exact_mut(RECORD).zip(&second.analogs) {
         words.copy_from_slice(&analog_of(two, 0).words());
     }
-    for (words, two) in image.counters.chunks_exact_mut(COUNTER_RECORD).zip(&second.counters) {
-        words.copy_from_slice(&counter_of(two, 0).words());
-    }
     let words = image.analog_outputs.chunks_exact_mut(OUTPUT_RECORD);
     for (words, two) in words.zip(&second.setup.set_points) {
         words.copy_from_slice(&output_of(two).words());
@@ -307,6 +276,5 @@ fn shown(value: Value) -> Shown {
         Value::Whole32(value) => Shown::Long(value),
         Value::Whole16(value) => Shown::Short(value),
         Value::Float(value) => Shown::Real(value.to_bits()),
-        Value::Count(count) => Shown::Count(count),
     }
 }

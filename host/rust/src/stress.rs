@@ -26,11 +26,9 @@ pub const FILL: u8 = 0xA5;
 pub const WHOLE: u64 = 1_000;
 pub const LINE: u64 = 100_000;
 
-/// Where a fragment's kinds begin, and how many parts they share.
+/// Where a fragment's kinds begin, of 100.
 const CONFIRM: u32 = 38;
 const OPERATE: u32 = 67;
-const FREEZE: u32 = 100;
-const KINDS: u32 = 110;
 
 const TIME_END: u64 = 1 << 48;
 const MOST_POINTS: u32 = 264;
@@ -98,7 +96,6 @@ impl Sum {
         for number in [
             head.binary_count,
             head.analog_count,
-            head.counter_count,
             head.event_count,
             head.request_len,
             head.answer_len,
@@ -130,10 +127,6 @@ impl Sum {
             self.fold(u64::from(unseen_reported(word)));
         }
         for words in image.analogs.chunks_exact(8).take(head.analog_count) {
-            self.fold(u64::from(unseen_reported(words[0])));
-            words[1..].iter().for_each(|&word| self.fold(u64::from(word)));
-        }
-        for words in image.counters.chunks_exact(6).take(head.counter_count) {
             self.fold(u64::from(unseen_reported(words[0])));
             words[1..].iter().for_each(|&word| self.fold(u64::from(word)));
         }
@@ -252,7 +245,6 @@ enum Count {
     RestartTaken,
     RestartRefused,
     ReadingTaken,
-    CounterTaken,
     ReadingTime,
     ReadingPoint,
     ReadingFinite,
@@ -266,7 +258,6 @@ enum Count {
     FragmentLent,
     ConfirmAccepted,
     Repeat,
-    RepeatFreeze,
     ReadCon,
     ReadPlain,
     ReadFault,
@@ -284,11 +275,6 @@ enum Count {
     DirectSets,
     DirectOther,
     NoResponse,
-    FreezeAnswered,
-    ClearAnswered,
-    FreezeFault,
-    FreezeNoResponse,
-    ClearNoResponse,
     OtherFunction,
     Relays,
     Sets32,
@@ -318,11 +304,10 @@ enum Count {
     PieceLent,
 }
 
-pub const COUNTS: [&str; 67] = [
+pub const COUNTS: [&str; 60] = [
     "restart taken",
     "restart refused 5",
     "reading taken",
-    "counter reading taken",
     "reading refused 1",
     "reading refused 2",
     "reading refused 3",
@@ -336,7 +321,6 @@ pub const COUNTS: [&str; 67] = [
     "fragment refused 33",
     "CONFIRM accepted",
     "repeat",
-    "repeat of a freeze",
     "READ that awaits a CONFIRM",
     "READ without CON",
     "READ with a fault",
@@ -354,11 +338,6 @@ pub const COUNTS: [&str; 67] = [
     "DIRECT OPERATE of analog outputs carried out",
     "DIRECT OPERATE not carried out",
     "DIRECT OPERATE NO RESPONSE",
-    "freeze answered",
-    "freeze with clear answered",
-    "freeze with a fault",
-    "freeze NO RESPONSE",
-    "freeze with clear NO RESPONSE",
     "another function",
     "relays' objects handed to the host",
     "32-bit set points handed to the host",
@@ -401,7 +380,6 @@ pub struct Generator {
     setups: Vec<AnalogSetup>,
     binaries: u32,
     analogs: u32,
-    counters: u32,
     outputs: u32,
     analog_outputs: u32,
     arm_time: u64,
@@ -410,8 +388,6 @@ pub struct Generator {
     kinds: [u8; 64],
     limits: [u32; 64],
     given: [u32; 64],
-    /// Counts given of each counter since it may have reported.
-    counted: [u32; COUNTERS],
     sequence: u8,
     waiting: bool,
     wait_sequence: u8,
@@ -457,8 +433,6 @@ const WHOLES: [u32; 9] =
 const WHOLE_LIMITS: [u32; 6] = [0, 1, 5, 100, 0x7FFF_FFFF, 0xFFFF_FFFF];
 const FLOAT_LIMITS: [u32; 7] =
     [0, 0x8000_0000, 0x3F00_0000, 0x3F80_0000, 0x4120_0000, 0x0000_0001, 0x7F7F_FFFF];
-const COUNTER_LIMITS: [u32; 10] =
-    [0, 0, 1, 5, 20, 100, 0x7FFF_FFFF, 0x8000_0000, 0xFFFF_FFFE, 0xFFFF_FFFF];
 const GAINS: [u32; 8] =
     [0x3F80_0000, 0x3F80_0000, 0x4000_0000, 0x3DCC_CCCD, 0xBF80_0000, 0x7F7F_FFFF, 0x3F80_0001, 0];
 const OFFSETS: [u32; 6] = [0, 0, 0x8000_0000, 0x3F80_0000, 0xBF80_0002, 0x3DCC_CCCD];
@@ -511,7 +485,6 @@ impl Generator {
             setups: Vec::new(),
             binaries: 0,
             analogs: 0,
-            counters: 0,
             outputs: 0,
             analog_outputs: 0,
             arm_time: 0,
@@ -520,7 +493,6 @@ impl Generator {
             kinds: [0; 64],
             limits: [0; 64],
             given: [0; 64],
-            counted: [0; COUNTERS],
             sequence: 0,
             waiting: false,
             wait_sequence: 0,
@@ -613,7 +585,6 @@ impl Generator {
         let master = (own + 1 + self.source.below(100)) % 65_520;
         let outputs = self.source.pick(&[0, 1, 8, 16, 16]);
         let analog_output_count = self.source.pick(&[0, 1, 8, 16, 16]);
-        let counter_count = self.source.pick(&[0, 1, 8, 32, 32]);
         call.setup = Setup {
             arm_time,
             confirm_time,
@@ -622,12 +593,10 @@ impl Generator {
             outputs: outputs as u16,
             analog_output_count: analog_output_count as u16,
             analog_outputs: [AnalogOutput::zero(); ANALOG_OUTPUTS],
-            counter_count: counter_count as u16,
-            counters: [CounterSetup::zero(); COUNTERS],
         };
         let mut binaries = self.points();
         let mut analogs = self.points();
-        let fault = if broken { 1 + self.source.below(19) } else { 0 };
+        let fault = if broken { 1 + self.source.below(17) } else { 0 };
         match fault {
             1 => binaries = 65 + self.source.below(MOST_POINTS - 64),
             2 => analogs = 65 + self.source.below(MOST_POINTS - 64),
@@ -639,11 +608,6 @@ impl Generator {
             8 => call.setup.confirm_time = 0,
             9 => call.setup.confirm_time = 60_001 + self.source.below(1000),
             14 => call.setup.analog_output_count = 17 + self.source.below(65_519) as u16,
-            18 => {
-                let one = self.source.chance(50);
-                let more = if one { 0 } else { self.source.below(65_503) };
-                call.setup.counter_count = 33 + more as u16;
-            }
             _ => {}
         }
         for _ in 0..binaries {
@@ -655,7 +619,6 @@ impl Generator {
             call.setups.push(analog);
         }
         self.analog_outputs(&mut call.setup);
-        self.counter_setups(&mut call.setup);
         if fault == 10 && binaries > 0 {
             let place = self.source.below(binaries) as usize;
             call.classes[place] = 4 + self.source.below(252) as u8;
@@ -669,13 +632,9 @@ impl Generator {
                 _ => analog.limit = 0x8000_0001 + self.source.below(0x7FFF_FFFF),
             }
         }
-        if fault > 14 && fault < 18 && analog_output_count > 0 {
+        if fault > 14 && analog_output_count > 0 {
             let place = self.source.below(analog_output_count) as usize;
             call.setup.analog_outputs[place] = self.wrong_output(fault);
-        }
-        if fault == 19 && counter_count > 0 {
-            let place = self.source.below(counter_count) as usize;
-            call.setup.counters[place].class_ = 4 + self.source.below(252) as u8;
         }
     }
 
@@ -704,19 +663,6 @@ impl Generator {
             gate = 3 + self.source.below(253);
         }
         AnalogSetup { limit, gain, offset, class_, kind: kind as u8, gate: gate as u8 }
-    }
-
-    /// Those past the count are anything.
-    fn counter_setups(&mut self, setup: &mut Setup) {
-        for place in 0..COUNTERS {
-            setup.counters[place] = if place < usize::from(setup.counter_count) {
-                let class_ = self.class();
-                CounterSetup { limit: self.source.pick(&COUNTER_LIMITS), class_ }
-            } else {
-                let class_ = self.source.below(256) as u8;
-                CounterSetup { limit: self.source.next(), class_ }
-            };
-        }
     }
 
     fn analog_output(&mut self, kind: u32) -> AnalogOutput {
@@ -767,7 +713,6 @@ impl Generator {
         self.setups.clone_from(&call.setups);
         self.binaries = call.classes.len() as u32;
         self.analogs = call.setups.len() as u32;
-        self.counters = u32::from(call.setup.counter_count);
         self.outputs = u32::from(call.setup.outputs);
         self.analog_outputs = u32::from(call.setup.analog_output_count);
         self.arm_time = u64::from(call.setup.arm_time);
@@ -778,7 +723,6 @@ impl Generator {
         }
         self.states = [false; 64];
         self.given = [0; 64];
-        self.counted = [0; COUNTERS];
         self.waiting = false;
         self.selected = false;
         self.request.clear();
@@ -841,31 +785,13 @@ impl Generator {
         }
     }
 
-    /// Often what is left to the limit, or next to that; else round 2^32.
-    fn counts_to_add(&mut self, place: usize) -> u32 {
-        let (limit, counted) = (self.setup.counters[place].limit, self.counted[place]);
-        let left = limit.wrapping_sub(counted);
-        match self.source.below(12) {
-            0 | 1 => left,
-            2 | 3 => left.wrapping_add(1),
-            4 => left.wrapping_sub(1),
-            5 => limit / 2,
-            6 => 0,
-            7 => self.source.pick(&[0xFFFF_FFFF, 0x7FFF_FFFF, 0x8000_0000, 0x8000_0001]),
-            8 => counted.wrapping_neg(),
-            9 => self.source.next(),
-            _ => self.source.below(30),
-        }
-    }
-
     fn reading(&mut self, time: u64) -> Reading {
-        let inputs = self.binaries + self.analogs;
-        let points = inputs + self.counters;
+        let points = self.binaries + self.analogs;
         let (point, mut kind, bits);
         if points == 0 || self.source.chance(1) {
             let any = self.source.below(70);
-            point = self.source.pick(&[any, any, 32, 64, 255, 256, 65_535]);
-            kind = self.source.below(5);
+            point = self.source.pick(&[any, any, 64, 255, 256, 65_535]);
+            kind = self.source.below(4);
             bits = self.source.next();
         } else {
             let place = self.source.below(points);
@@ -875,13 +801,6 @@ impl Generator {
                 (point, kind) = (place, 0);
                 let any = self.source.pick(&[1, 1, 2, 0x8000_0000]);
                 bits = if *state { any } else { 0 };
-            } else if place >= inputs {
-                (point, kind) = (place - inputs, 3);
-                let place = point as usize;
-                bits = self.counts_to_add(place);
-                let counted = self.counted[place].wrapping_add(bits);
-                let reported = counted > self.setup.counters[place].limit;
-                self.counted[place] = if reported { 0 } else { counted };
             } else {
                 point = place - self.binaries;
                 let place = point as usize;
@@ -889,14 +808,14 @@ impl Generator {
                     kind = 1;
                     bits = self.whole(place);
                 } else {
-                    kind = if self.source.chance(10) { 4 + self.source.below(252) } else { 2 };
+                    kind = if self.source.chance(10) { 2 + self.source.below(254) } else { 2 };
                     bits = self.float(place);
                 }
                 self.given[place] = bits;
             }
         }
         if self.source.chance(1) {
-            kind = self.source.below(5);
+            kind = self.source.below(4);
         }
         let flags = match self.source.below(100) {
             0..=89 => 1,
@@ -932,7 +851,6 @@ impl Generator {
     fn took(&mut self, call: &Call, result: &Answered) {
         if call.kind == Kind::Reading {
             self.count(match result.refusal {
-                0 if call.readings[0].kind == 3 => Count::CounterTaken,
                 0 => Count::ReadingTaken,
                 1 => Count::ReadingTime,
                 2 => Count::ReadingPoint,
@@ -958,8 +876,31 @@ impl Generator {
         call.fragment.extend_from_slice(&[0xC0 | self.sequence, function]);
     }
 
-    /// A range of so many points, mostly of those that there are.
-    fn range(&mut self, points: u32, bytes: &mut Vec<u8>) {
+    fn header(&mut self, bytes: &mut Vec<u8>) {
+        let which = self.source.below(12);
+        match which {
+            0 | 1 => return bytes.extend_from_slice(&[60, 1, 6]),
+            2 | 3 => return bytes.extend_from_slice(&[60, 2, 6]),
+            4 | 5 => return bytes.extend_from_slice(&[60, 3, 6]),
+            6 => return bytes.extend_from_slice(&[60, 4, 6]),
+            11 => {
+                if self.source.chance(80) {
+                    return bytes.extend_from_slice(&[60, 2, 6]);
+                }
+                let group = self.source.pick(&[1, 2, 30, 32, 60, 80, 0]) as u8;
+                let variation = self.source.below(6) as u8;
+                let qualifier = self.source.pick(&[0, 1, 6, 7, 8, 0x17, 0x28]) as u8;
+                return bytes.extend_from_slice(&[group, variation, qualifier]);
+            }
+            _ => {}
+        }
+        let analog = which == 8 || which == 10;
+        let points = if analog { self.analogs } else { self.binaries };
+        let two = if self.source.chance(50) { 2 } else { 0 };
+        bytes.extend_from_slice(&if analog { [30, 0] } else { [1, two] });
+        if which < 9 {
+            return bytes.push(6);
+        }
         let mut start = 0;
         let mut stop = 0;
         if points > 0 {
@@ -976,72 +917,6 @@ impl Generator {
             bytes.extend_from_slice(&[0, start as u8, stop as u8]);
         } else {
             bytes.extend_from_slice(&[1, start as u8, 0, stop as u8, 0]);
-        }
-    }
-
-    /// Counters, all or some: running or frozen ones.
-    fn counter_header(&mut self, group: u8, bytes: &mut Vec<u8>) {
-        bytes.extend_from_slice(&[group, 0]);
-        if self.source.chance(40) {
-            bytes.push(6);
-        } else {
-            self.range(self.counters, bytes);
-        }
-    }
-
-    fn header(&mut self, bytes: &mut Vec<u8>) {
-        let which = self.source.below(14);
-        match which {
-            12 => return self.counter_header(20, bytes),
-            13 => return self.counter_header(21, bytes),
-            0 | 1 => return bytes.extend_from_slice(&[60, 1, 6]),
-            2 | 3 => return bytes.extend_from_slice(&[60, 2, 6]),
-            4 | 5 => return bytes.extend_from_slice(&[60, 3, 6]),
-            6 => return bytes.extend_from_slice(&[60, 4, 6]),
-            11 => {
-                if self.source.chance(80) {
-                    return bytes.extend_from_slice(&[60, 2, 6]);
-                }
-                let group = self.source.pick(&[1, 2, 20, 21, 22, 30, 32, 60, 80, 0]) as u8;
-                let variation = self.source.below(6) as u8;
-                let qualifier = self.source.pick(&[0, 1, 6, 7, 8, 0x17, 0x28]) as u8;
-                return bytes.extend_from_slice(&[group, variation, qualifier]);
-            }
-            _ => {}
-        }
-        let analog = which == 8 || which == 10;
-        let points = if analog { self.analogs } else { self.binaries };
-        let two = if self.source.chance(50) { 2 } else { 0 };
-        bytes.extend_from_slice(&if analog { [30, 0] } else { [1, two] });
-        if which < 9 {
-            return bytes.push(6);
-        }
-        self.range(points, bytes);
-    }
-
-    /// The headers of a freeze: mostly one or a few right ones, or about as many as there may be;
-    /// then and again another object, or a byte too many.
-    fn freeze(&mut self, bytes: &mut Vec<u8>) {
-        let which = self.source.below(10);
-        let headers = match which {
-            0 => self.source.below(18),
-            1 => 15 + self.source.below(3),
-            _ => 1 + self.source.below(3),
-        };
-        for _ in 0..headers {
-            if which == 1 {
-                bytes.extend_from_slice(&[20, 0, 6]);
-            } else if self.source.chance(95) {
-                self.counter_header(20, bytes);
-            } else {
-                let group = self.source.pick(&[20, 21, 22, 30, 60]) as u8;
-                let variation = self.source.below(3) as u8;
-                let qualifier = self.source.pick(&[0, 1, 6, 7]) as u8;
-                bytes.extend_from_slice(&[group, variation, qualifier]);
-            }
-        }
-        if self.source.chance(4) {
-            bytes.push(self.source.below(256) as u8);
         }
     }
 
@@ -1282,7 +1157,7 @@ impl Generator {
         call.kind = Kind::Fragment;
         call.time = self.time();
         self.other = None;
-        let mut which = self.source.below(KINDS);
+        let mut which = self.source.below(100);
         // What is awaited comes soon, as a master would send it.
         if self.waiting && self.source.chance(30) {
             which = CONFIRM;
@@ -1342,7 +1217,7 @@ impl Generator {
             }
             81..=90 => call.fragment.extend_from_slice(&self.request),
             91..=93 => {
-                let function = 11 + self.source.below(117) as u8;
+                let function = 7 + self.source.below(121) as u8;
                 self.begin(call, function);
                 for _ in 0..self.source.below(20) {
                     call.fragment.push(self.source.below(256) as u8);
@@ -1350,7 +1225,7 @@ impl Generator {
             }
             94..=95 => {
                 let length = self.source.pick(&[0, 1, 2, 2047, 2048, 2049, 3000]);
-                let function = self.source.below(11) as u8;
+                let function = self.source.below(8) as u8;
                 self.begin(call, function);
                 while call.fragment.len() < length as usize {
                     call.fragment.push(self.source.below(256) as u8);
@@ -1363,11 +1238,6 @@ impl Generator {
                 for _ in 0..self.source.below(30) {
                     call.fragment.push(self.source.below(256) as u8);
                 }
-            }
-            FREEZE.. => {
-                let function = 7 + self.source.below(4) as u8;
-                self.begin(call, function);
-                self.freeze(&mut call.fragment);
             }
             _ => {
                 // The last request with one byte changed, or cut.
@@ -1416,9 +1286,6 @@ impl Generator {
         }
         let (sequence, function) = (call.fragment[0] % 16, call.fragment[1]);
         if function != 1 && call.fragment == self.request {
-            if (7..=10).contains(&function) {
-                self.count(Count::RepeatFreeze);
-            }
             return self.count(Count::Repeat);
         }
         self.request.clear();
@@ -1465,11 +1332,6 @@ impl Generator {
             5 if relays => self.count(Count::DirectRelays),
             5 => self.count(if done { Count::DirectSets } else { Count::DirectOther }),
             6 => self.count(Count::NoResponse),
-            8 => self.count(Count::FreezeNoResponse),
-            10 => self.count(Count::ClearNoResponse),
-            7 | 9 if out[3] & 7 != 0 => self.count(Count::FreezeFault),
-            7 => self.count(Count::FreezeAnswered),
-            9 => self.count(Count::ClearAnswered),
             _ => self.count(Count::OtherFunction),
         }
     }

@@ -25,7 +25,6 @@ pub enum Shown {
     Long(i32),
     Short(i16),
     Real(u32),
-    Count(u32),
 }
 
 impl Shown {
@@ -38,11 +37,10 @@ impl Shown {
         }
     }
 
-    /// As `value`, but kind 3 is a state and kind 4 a count.
+    /// As `value`, but kind 3 is a state.
     fn event(kind: u32, bits: u32) -> Shown {
         match kind {
             3 => Shown::State(bits != 0),
-            4 => Shown::Count(bits),
             _ => Shown::value(kind, bits),
         }
     }
@@ -54,7 +52,6 @@ impl Shown {
             Shown::Short(value) => (1, i32::from(value) as u32),
             Shown::Real(bits) => (2, bits),
             Shown::State(state) => (3, u32::from(state)),
-            Shown::Count(count) => (4, count),
         }
     }
 }
@@ -140,46 +137,6 @@ impl Analog {
             self.sum,
             self.gain,
             self.offset,
-        ]
-    }
-}
-
-#[derive(Clone, Copy, Debug, PartialEq)]
-pub struct Counter {
-    pub class: u8,
-    pub flags: u8,
-    pub reported_flags: u8,
-    pub seen: bool,
-    pub count: u32,
-    pub limit: u32,
-    pub reported: u32,
-    pub frozen: u32,
-    pub frozen_flags: u8,
-}
-
-/// Words of one counter.
-pub const COUNTER_RECORD: usize = 6;
-
-impl Counter {
-    pub fn of(words: &[u32]) -> Counter {
-        let [head, count, limit, reported, frozen, frozen_flags] = words[..COUNTER_RECORD] else {
-            unreachable!("six words")
-        };
-        let [class, flags, reported_flags, truths] = head.to_le_bytes();
-        let [frozen_flags, ..] = frozen_flags.to_le_bytes();
-        let seen = truths & 1 != 0;
-        Counter { class, flags, reported_flags, seen, count, limit, reported, frozen, frozen_flags }
-    }
-
-    pub fn words(&self) -> [u32; COUNTER_RECORD] {
-        let head = [self.class, self.flags, self.reported_flags, u8::from(self.seen)];
-        [
-            u32::from_le_bytes(head),
-            self.count,
-            self.limit,
-            self.reported,
-            self.frozen,
-            u32::from(self.frozen_flags),
         ]
     }
 }

@@ -53,7 +53,7 @@ impl Generator {
         if armed && self.random.chance(50) {
             return self.operate_step();
         }
-        match self.random.below(225) {
+        match self.random.below(200) {
             0 => self.setup_call(),
             1 => self.call("restart".into()),
             2..=5 => self.call("held".into()),
@@ -73,12 +73,11 @@ impl Generator {
             }
             156..=175 => self.repeat_call(),
             176..=180 => {
-                let (function, n) = (self.random.between(11, 127) as u8, self.random.below(5));
+                let (function, n) = (self.random.between(7, 127) as u8, self.random.below(5));
                 let objects = self.random.bytes(n);
                 self.request(function, &objects);
             }
             181..=192 => self.odd_fragment(),
-            200..=224 => self.freeze_step(),
             193 => {
                 // Long requests, to be kept whole.
                 let n = self.random.pick(&[2045, 2046, 2047]);
@@ -112,7 +111,7 @@ impl Generator {
         let Some(wait) = outstation.wait.clone() else { return };
         let (clock, end) = (outstation.clock, wait.time + u64::from(outstation.setup.confirm_time));
         let confirm = [0xC0 | wait.sequence, 0];
-        match self.random.below(21) {
+        match self.random.below(20) {
             0..=4 => self.frag(clock.max(wait.time), &confirm),
             5..=7 => self.frag(end, &confirm),
             8 | 9 => self.frag(end + 1, &confirm),
@@ -135,12 +134,6 @@ impl Generator {
             }
             16 => self.read_request(),
             17 => self.reading_call(),
-            20 => {
-                // A freeze ends the wait.
-                self.freeze_request();
-                let clock = self.station().map_or(0, |o| o.clock);
-                self.frag(clock, &confirm);
-            }
             18 => {
                 // A time inside the wait.
                 let time = clock.max(wait.time + (end - wait.time) / 2);
@@ -165,7 +158,7 @@ impl Generator {
         operate.extend_from_slice(&latch.objects);
         let mut select = vec![0xC0 | latch.sequence, 3];
         select.extend_from_slice(&latch.objects);
-        match self.random.below(24) {
+        match self.random.below(23) {
             0..=3 => self.frag(clock, &operate),
             4..=6 => self.frag(end, &operate),
             7..=9 => self.frag(end + 1, &operate),
@@ -208,12 +201,6 @@ impl Generator {
                 self.frag(clock, &operate);
             }
             17 => self.repeat_call(),
-            23 => {
-                // A freeze empties the latch.
-                self.freeze_request();
-                let clock = self.station().map_or(0, |o| o.clock);
-                self.frag(clock, &operate);
-            }
             18 | 19 => {
                 // The same bytes under another header, or a zero of the other sign.
                 let objects = match (self.random.below(3), latch.group) {
@@ -510,15 +497,11 @@ impl Generator {
 
     /// A header of a READ, often a right one.
     pub fn any_header(&mut self, setup: &Setup) -> Vec<u8> {
-        let group = self.random.pick(&[1, 1, 30, 30, 60, 20, 21]);
-        let points = match group {
-            1 => setup.binaries.len(),
-            20 | 21 => setup.counters.len(),
-            _ => setup.analogs.len(),
-        };
+        let group = self.random.pick(&[1, 1, 30, 30, 60]);
+        let points = if group == 1 { setup.binaries.len() } else { setup.analogs.len() };
         let mut variation = match group {
             1 => self.random.pick(&[0, 2]),
-            20 | 21 | 30 => 0,
+            30 => 0,
             _ => self.random.between(1, 4) as u8,
         };
         if self.random.chance(4) {
@@ -544,10 +527,6 @@ impl Generator {
             header[0] = self.random.byte();
         } else if self.random.chance(1) {
             header[0] = self.random.pick(&[12, 40, 41, 42]);
-        } else if self.random.chance(2) {
-            // What is only sent: counters and their events.
-            let (group, variation) = self.random.pick(&[(20, 1), (21, 1), (22, 5), (22, 0)]);
-            header[..2].copy_from_slice(&[group, variation]);
         }
         header
     }
@@ -560,7 +539,7 @@ impl Generator {
             3 => 2044 - self.random.between(1, 40),
             _ => self.random.between(200, 2043),
         };
-        let (nb, na, nc) = (setup.binaries.len(), setup.analogs.len(), setup.counters.len());
+        let (nb, na) = (setup.binaries.len(), setup.analogs.len());
         let mut objects = Vec::new();
         let mut headers = 0;
         for variation in 2..=4 {
@@ -572,12 +551,9 @@ impl Generator {
         let mut size = 0;
         while headers < 16 && size < target {
             let left = target - size;
-            let counters = if nc > 0 { 7 + 5 * nc } else { 0 };
-            let class0 = if nb > 0 { 7 + nb } else { 0 } + analog_size(setup, 0, na) + 2 * counters;
+            let class0 = if nb > 0 { 7 + nb } else { 0 } + analog_size(setup, 0, na);
             let (header, bytes) = if left >= 8 && left <= 7 + nb {
                 (vec![1, 2, 0, 0, (left - 8) as u8], left)
-            } else if left > counters + 71 && nc > 0 && self.random.chance(30) {
-                (vec![self.random.pick(&[20, 21]), 0, 6], counters)
             } else if left > class0 + 71 || na == 0 {
                 (vec![60, 1, 6], class0)
             } else if left > 7 + nb && nb > 1 && left < 2 * (7 + nb) && left >= 16 {

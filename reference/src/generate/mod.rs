@@ -2,8 +2,8 @@
 //!
 //! The kind says which calls occur: `line` (crc, frame-write, frame-read, piece, record), `station`
 //! (setup without points, restart, record, station, seg, send, piece), `readings` (setup, restart,
-//! bin, ana, flt, cnt, table, held), `fragments` (those and frag) or `all`. Each kind has some
-//! malformed lines of its own calls. Counts of the answers are kept with the script.
+//! bin, ana, flt, table, held), `fragments` (those and frag) or `all`. Each kind has some malformed
+//! lines of its own calls. Counts of the answers are kept with the script.
 //!
 //! The reference runs along, so that the script knows the state. It aims at these deep states:
 //! - frames right but for one flipped bit anywhere or one in each of some blocks, one cut or
@@ -13,9 +13,6 @@
 //! - assemblies that end at 2,047, 2,048 and 2,049 bytes, segments one out of sequence and 16 out;
 //! - the last segment heard again, once and more often, and with one byte or bit of it different;
 //! - distances and sums at a limit and next to it, whole and float extremes, both zeros;
-//! - counters at their limit and next to it, round 2^32, by flags alone, and after a clear;
-//! - freezes of all four functions by one header and by several that overlap, repeated with readings
-//!   in between, faulty after good headers, and while a wait or a select stands;
 //! - 256 held events and drops, then READ and CONFIRM, with drops before and after the READ, with
 //!   new events in between, at the confirm time and one later, and again on time after that;
 //! - SELECT, a repeat of it later, OPERATE at the arm time and one later, repeated, and with
@@ -26,7 +23,6 @@
 //! - repeats of every function, also with a READ in between;
 //! - static parts of 2,044 and 2,045 bytes, and such that little room is left for events.
 
-mod counters;
 mod fragments;
 mod line;
 mod pieces;
@@ -60,8 +56,6 @@ struct Generator {
     stats: BTreeMap<String, u64>,
     /// Last readings given for each analog, as bits.
     given: Vec<u32>,
-    /// Counters cleared and not reported since.
-    cleared: Vec<bool>,
     /// Bytes that the modem has still to hand over.
     wire: Vec<u8>,
     /// The last segment that was not refused for its size or the lent length.
@@ -78,14 +72,12 @@ impl Generator {
         self.left -= 1;
         let warned = self.station().is_some_and(|o| o.events.warning);
         let before = self.unfinished();
-        let stood = self.stood();
         let mut answer = Vec::new();
         self.host.line(line.as_bytes(), &mut answer);
         let warns = self.station().is_some_and(|o| o.events.warning);
         let answer = std::str::from_utf8(&answer).expect("text").trim_end();
         self.note(&line, answer, warned, warns);
         self.note_again(answer, before);
-        self.note_counters(&line, answer, stood);
         self.script.extend_from_slice(line.as_bytes());
         self.script.push(b'\n');
     }
@@ -172,7 +164,6 @@ pub fn script(kind: Kind, seed: u64, lines: usize) -> (Vec<u8>, BTreeMap<String,
         kind,
         stats: BTreeMap::new(),
         given: vec![0; 64],
-        cleared: vec![false; 32],
         wire: Vec::new(),
         heard: Vec::new(),
     };

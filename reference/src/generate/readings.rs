@@ -130,16 +130,6 @@ impl Generator {
             let word = self.analog_word(class, kind);
             words.push(word);
         }
-        let mut counters = 0;
-        if self.random.chance(75) {
-            counters = self.random.pick(&[0, 1, 2, 3, 5, 8, 31, 32, 32]);
-            words.extend(["c".into(), counters.to_string()]);
-            for _ in 0..counters {
-                let word = self.counter_word();
-                words.push(word);
-            }
-        }
-        let behind = words.len();
         let mut sets = 0;
         if self.random.chance(75) {
             sets = self.random.pick(&[0, 1, 2, 3, 8, 8, 15, 16, 16]);
@@ -151,46 +141,14 @@ impl Generator {
         }
         let odd = if self.kind == Kind::Readings { 40 } else { 12 };
         if self.random.chance(odd) {
-            self.break_limit(&mut words, nb, na, behind, sets);
-        }
-        if counters > 0 && self.random.chance(odd / 2) {
-            self.break_counter(&mut words, 7 + nb + na, counters);
+            self.break_limit(&mut words, nb, na, sets);
         }
         self.call(format!("setup {}", words.join(" ")));
         self.given = vec![0; 64];
-        self.cleared = vec![false; 32];
     }
 
-    /// A counter's limit broken, or met exactly; its words begin at `from`.
-    fn break_counter(&mut self, words: &mut [String], from: usize, counters: usize) {
-        if counters == 32 && self.random.chance(40) {
-            words[from + 1] = self.random.pick(&["32", "33", "255"]).into();
-            return;
-        }
-        words[from + 2 + self.random.below(counters)] = self
-            .random
-            .pick(&[
-                "3,0",
-                "4,0",
-                "255,5",
-                "1,4294967295",
-                "1,4294967296",
-                "2,-1",
-                "0,9223372036854775807",
-                "3,-9223372036854775808",
-            ])
-            .into();
-    }
-
-    /// One limit broken, or met exactly; the set points' words begin at `behind`.
-    pub fn break_limit(
-        &mut self,
-        words: &mut [String],
-        nb: usize,
-        na: usize,
-        behind: usize,
-        sets: usize,
-    ) {
+    /// One limit broken, or met exactly.
+    pub fn break_limit(&mut self, words: &mut [String], nb: usize, na: usize, sets: usize) {
         let any_point =
             |random: &mut Random, from: usize, n: usize| 7 + from + random.below(n.max(1));
         match self.random.below(15) {
@@ -231,10 +189,10 @@ impl Generator {
                     .into();
             }
             12 if sets == 16 => {
-                words[behind + 1] = self.random.pick(&["16", "17", "255"]).into();
+                words[7 + nb + na + 1] = self.random.pick(&["16", "17", "255"]).into();
             }
             13 if sets > 0 => {
-                let place = behind + 2 + self.random.below(sets);
+                let place = any_point(&mut self.random, nb + na + 2, sets);
                 words[place] = self
                     .random
                     .pick(&[
@@ -254,7 +212,7 @@ impl Generator {
                     .into();
             }
             14 if sets > 0 => {
-                let place = behind + 2 + self.random.below(sets);
+                let place = any_point(&mut self.random, nb + na + 2, sets);
                 let (low, high) = (self.float_word(false), self.float_word(false));
                 words[place] = format!("3,{low:08X},{high:08X}");
             }
@@ -289,24 +247,17 @@ impl Generator {
 
     /// Letter, point, value and flags of one reading of an outstation.
     pub fn reading(&mut self, setup: &Setup) -> (char, usize, String, u8) {
-        let (nb, na, nc) = (setup.binaries.len(), setup.analogs.len(), setup.counters.len());
+        let (nb, na) = (setup.binaries.len(), setup.analogs.len());
         let flags = self.flags();
         if self.random.chance(3) {
             // No such point, or a reading of another kind.
-            let index = self.random.pick(&[nb, na, nc, 31, 32, 63, 64, 255, 0]);
+            let index = self.random.pick(&[nb, na, 63, 64, 255, 0]);
             let value = self.random.pick(&FLOATS);
-            return match self.random.below(4) {
+            return match self.random.below(3) {
                 0 => ('b', index, self.random.below(2).to_string(), flags),
                 1 => ('a', index, (value as i32).to_string(), flags),
-                2 => ('c', index, value.to_string(), flags),
                 _ => ('f', index, format!("{value:08X}"), flags),
             };
-        }
-        if nc > 0 && (nb + na == 0 || self.random.chance(25)) {
-            let index = self.counter_index(nc);
-            let counter = self.station().map(|o| o.counters[index].clone());
-            let counts = counter.map_or(1, |counter| self.counts(&counter));
-            return ('c', index, counts.to_string(), flags);
         }
         if na == 0 || (nb > 0 && self.random.chance(30)) {
             let index = self.random.below(nb.clamp(1, 6));
@@ -383,7 +334,6 @@ impl Generator {
         let name = match letter {
             'b' => "bin",
             'a' => "ana",
-            'c' => "cnt",
             _ => "flt",
         };
         self.call(format!("{name} {time} {index} {value} {flags}"));
@@ -425,23 +375,15 @@ impl Generator {
             .filter(|&i| setup.analogs[i].0 > 0)
             .map(|i| (i, if matches!(setup.analogs[i].1, Form::Float { .. }) { 'f' } else { 'a' }))
             .collect();
-        let counters: Vec<usize> =
-            (0..setup.counters.len()).filter(|&i| setup.counters[i].class > 0).collect();
-        if binaries.is_empty() && analogs.is_empty() && counters.is_empty() {
+        if binaries.is_empty() && analogs.is_empty() {
             return;
         }
         let share = self.random.pick(&[0, 30, 50, 100]);
-        let counter_share = self.random.pick(&[0, 0, 30, 100]);
         let mut line = String::from("table");
         let mut flags = self.random.below(2);
         for _ in 0..events.min(128) {
             flags = (flags + 1) % 32;
-            let others = !binaries.is_empty() || !analogs.is_empty();
-            if !counters.is_empty() && (!others || self.random.chance(counter_share)) {
-                let index = self.random.pick(&counters[..counters.len().min(6)]);
-                let counts = self.random.pick(&[0, 1, 5, 4_294_967_295u32]);
-                line.push_str(&format!(" c,{clock},{index},{counts},{flags}"));
-            } else if !analogs.is_empty() && (binaries.is_empty() || self.random.chance(share)) {
+            if !analogs.is_empty() && (binaries.is_empty() || self.random.chance(share)) {
                 let (index, letter) = self.random.pick(&analogs[..analogs.len().min(6)]);
                 let value = if letter == 'f' { "3F800000" } else { "5" };
                 line.push_str(&format!(" {letter},{clock},{index},{value},{flags}"));

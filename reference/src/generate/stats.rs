@@ -1,19 +1,8 @@
 //! Counting the answers, for `--stats`.
 
-use crate::counters::Counter;
-use crate::points::{Reading, Taken};
-use crate::script::{parse, Call};
 use crate::transport::Unfinished;
 
 use super::Generator;
-
-/// What stood before a call.
-pub struct Stood {
-    counters: Vec<Counter>,
-    last: Option<Vec<u8>>,
-    wait: bool,
-    latch: bool,
-}
 
 impl Generator {
     pub fn count(&mut self, what: String) {
@@ -34,8 +23,7 @@ impl Generator {
                 let function = line.rsplit(' ').next().map_or("", |f| &f[2..4]).to_string();
                 let byte = |at: usize| u8::from_str_radix(&bytes[2 * at..2 * at + 2], 16).unwrap();
                 let (control, iin1, iin2) = (byte(0), byte(2), byte(3));
-                let known =
-                    matches!(function.as_str(), "01" | "02" | "03" | "04" | "05" | "07" | "09");
+                let known = matches!(function.as_str(), "01" | "02" | "03" | "04" | "05");
                 let group = if known { function.as_str() } else { "unknown" };
                 self.count(format!("ans function {group}"));
                 if control & 0x20 != 0 {
@@ -74,14 +62,12 @@ impl Generator {
                 }
             }
             ["mute", ops, ..] => {
-                let function = line.rsplit(' ').next().map_or("", |f| &f[2..4]);
                 let what = match ops {
-                    _ if function != "06" => format!("mute function {function}"),
-                    "-" => "mute, carried out: none".into(),
-                    _ if ops.contains('@') => "mute, carried out: set points".into(),
-                    _ => "mute, carried out: relays".into(),
+                    "-" => "none",
+                    _ if ops.contains('@') => "set points",
+                    _ => "relays",
                 };
-                self.count(what);
+                self.count(format!("mute, carried out: {what}"));
             }
             ["held", n, ..] => {
                 let held = if n == "256" { "held 256" } else { "held" };
@@ -118,72 +104,6 @@ impl Generator {
         }
         if kept.last == 63 || kept.last == 0 {
             self.count(format!("seg more, heard again with sequence {}", kept.last));
-        }
-    }
-
-    pub fn stood(&self) -> Option<Stood> {
-        self.station().map(|o| Stood {
-            counters: o.counters.clone(),
-            last: o.last_request.as_ref().map(|request| request.bytes.clone()),
-            wait: o.wait.is_some(),
-            latch: o.latch.is_some(),
-        })
-    }
-
-    /// Counter readings taken singly, and freezes.
-    pub fn note_counters(&mut self, line: &str, answer: &str, stood: Option<Stood>) {
-        let (Some(stood), Some(call)) = (stood, parse(line.as_bytes())) else { return };
-        let accepted = answer.starts_with("ans") || answer.starts_with("mute");
-        match call {
-            Call::Reading(Reading { index, value: Taken::Counts(_), .. }) if answer == "ok" => {
-                self.note_counts(usize::from(index), &stood);
-            }
-            Call::Frag(_, _, bytes) if accepted && (7..=10).contains(&bytes[1]) => {
-                self.note_freeze(&bytes, &stood);
-            }
-            _ => {}
-        }
-    }
-
-    fn note_counts(&mut self, index: usize, stood: &Stood) {
-        let before = &stood.counters[index];
-        let Some(now) = self.station().map(|o| o.counters[index].clone()) else { return };
-        if now.count < before.count {
-            self.count("cnt ok, wrapped".into());
-        }
-        if !before.seen {
-            self.cleared[index] = false;
-            return self.count("cnt ok, first".into());
-        }
-        let distance = i64::from(now.count.wrapping_sub(before.reported));
-        if distance == now.limit || distance == now.limit + 1 {
-            self.count(format!("cnt ok, limit and {}", distance - now.limit));
-        }
-        let passes = distance > now.limit;
-        if passes || now.flags != before.flags {
-            self.count(format!("cnt ok, reported by {}", if passes { "limit" } else { "flags" }));
-            if std::mem::replace(&mut self.cleared[index], false) {
-                self.count("cnt ok, reported after a clear".into());
-            }
-        }
-    }
-
-    fn note_freeze(&mut self, bytes: &[u8], stood: &Stood) {
-        let Some(outstation) = self.station() else { return };
-        let counters = outstation.counters.clone();
-        if stood.last.as_deref() == Some(bytes) {
-            return self.count(format!("freeze {:02}, repeated", bytes[1]));
-        }
-        for (place, counter) in counters.iter().enumerate() {
-            self.cleared[place] |= counter.count == 0 && stood.counters[place].count != 0;
-        }
-        let what = if counters != stood.counters { "something" } else { "nothing" };
-        self.count(format!("freeze {:02}, {what} changed", bytes[1]));
-        if stood.wait {
-            self.count("freeze, a wait stood".into());
-        }
-        if stood.latch {
-            self.count("freeze, the latch was armed".into());
         }
     }
 }

@@ -7,10 +7,10 @@ use Rattle.console.proofs.serve.Statement.{statement}
 use Rattle.console.proofs.serve.Tie as tie
 
 abbrev invariant-loop : tie.invariant-loop
-invariant-loop t₀ binaries₀ analogs₀ counters₀ held₀ request₀ answer₀ objects₀ outputs₀ setup₀ bytes₀ lent₀ gathered₀ memory₀ out₀ u₀ r₀ turns₀ t binaries analogs counters held request answer objects outputs setup bytes lent gathered memory out u r turns = length t ≡ length t₀
+invariant-loop t₀ binaries₀ analogs₀ held₀ request₀ answer₀ objects₀ outputs₀ setup₀ bytes₀ lent₀ gathered₀ memory₀ out₀ u₀ r₀ turns₀ t binaries analogs held request answer objects outputs setup bytes lent gathered memory out u r turns = length t ≡ length t₀
 
 abbrev decreases-loop : tie.decreases-loop
-decreases-loop t₀ binaries₀ analogs₀ counters₀ held₀ request₀ answer₀ objects₀ outputs₀ setup₀ bytes₀ lent₀ gathered₀ memory₀ out₀ u₀ r₀ turns₀ t binaries analogs counters held request answer objects outputs setup bytes lent gathered memory out u r turns = turns
+decreases-loop t₀ binaries₀ analogs₀ held₀ request₀ answer₀ objects₀ outputs₀ setup₀ bytes₀ lent₀ gathered₀ memory₀ out₀ u₀ r₀ turns₀ t binaries analogs held request answer objects outputs setup bytes lent gathered memory out u r turns = turns
 
 fresh-requires : tie.Need-fresh-requires invariant-loop decreases-loop
 fresh-requires c κs = tt
@@ -37,19 +37,19 @@ flush-requires : tie.Need-flush-requires invariant-loop decreases-loop
 flush-requires c κs = tt
 
 same_length : tie.Need-same-length invariant-loop decreases-loop
-same_length c = c.before.before.before.before.before.before.before.before.before.before.before.before.before.before.before.before.before.before.before.before.before.before.before.before.before.before.next-line.auto.1.1.0 ∙ c.before.before.before.before.before.before.before.before.before.before.before.before.before.before.before.before.before.before.before.before.before.before.before.before.before.before.before.before.before.before.before.loop.invariant
+same_length c = c.before.before.before.before.before.before.before.before.before.before.before.before.before.before.before.before.before.before.before.before.before.before.before.before.before.next-line.auto.1.1.0 ∙ c.before.before.before.before.before.before.before.before.before.before.before.before.before.before.before.before.before.before.before.before.before.before.before.before.before.before.before.before.before.before.loop.invariant
 
 returns : tie.Need-returns invariant-loop decreases-loop
 returns c = tt
 
 sub-turns : tie.Need-overflow-sub-turns invariant-loop decreases-loop
-sub-turns c = omega (arith, c.before.before.before.before.before.before.before.before.before.before.before.before.before.before.before.before.before.before.before.before.before.before.before.before.before.before.loop-test.true)
+sub-turns c = omega (arith, c.before.before.before.before.before.before.before.before.before.before.before.before.before.before.before.before.before.before.before.before.before.before.before.before.before.loop-test.true)
 
 loop-less : tie.Need-loop-smaller invariant-loop decreases-loop
-loop-less c = omega (arith, c.before.before.before.before.before.before.before.before.before.before.before.before.before.before.before.before.before.before.before.before.before.before.before.before.before.before.loop-test.true)
+loop-less c = omega (arith, c.before.before.before.before.before.before.before.before.before.before.before.before.before.before.before.before.before.before.before.before.before.before.before.before.before.loop-test.true)
 
 loop-again : tie.Need-loop-preserved invariant-loop decreases-loop
-loop-again c = c.before.before.before.before.before.before.before.before.before.before.before.before.before.before.before.before.before.before.before.before.before.before.next-line.auto.1.1.0 ∙ c.before.before.before.before.before.before.before.before.before.before.before.before.before.before.before.before.before.before.before.before.before.before.before.before.before.before.before.loop.invariant
+loop-again c = c.before.before.before.before.before.before.before.before.before.before.before.before.before.before.before.before.before.before.before.before.before.next-line.auto.1.1.0 ∙ c.before.before.before.before.before.before.before.before.before.before.before.before.before.before.before.before.before.before.before.before.before.before.before.before.before.before.loop.invariant
 
 same-length-2 : tie.Need-same-length-2 invariant-loop decreases-loop
 same-length-2 c = omega arith

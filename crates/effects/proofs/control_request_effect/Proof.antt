@@ -26,7 +26,7 @@ same_length c = search rules
 returns : tie.Need-returns
 returns c =
     let done = c.before.before.before.before.before.control-effect.ensures in
-    λ k cs l.
+    λ k.
     record {
       fault = done.fault;
       con = refl;

@@ -1,13 +1,8 @@
 -- `effects::effect_by` meets its contract.
 -- Assumes nothing.
-use mathlib.Core.Path.{sym, ap, subst, ◌∙◌}
-use Prim.Native.Nat.{ℕ}
 use borrow.Author.Rules.{rules}
 use borrow.Author.Tests.{eq-eqb, ne_eqb}
-use Rattle.application.specs.declared.Fault.{Fault}
-use Rattle.freeze.specs.Freeze.{freeze_fault}
-use Rattle.outstation.specs.Step.{plain_effect}
-use Rattle.effects.specs.Effects.{EffectMeets, context_view}
+use Rattle.effects.specs.Effects.{context_view}
 use Rattle.effects.proofs.effect_by.Statement.{statement}
 use Rattle.effects.proofs.effect_by.Tie as tie
 
@@ -15,7 +10,7 @@ write-effect-requires : tie.Need-write-effect-requires
 write-effect-requires c κs = search rules
 
 returns : tie.Need-returns
-returns c = λ k cs l. rw (eq-eqb _ _ c.before.if1.true) (c.write-effect.ensures (context_view c.before.before.before.before.args.seen c.before.before.before.before.args.ws.now k cs) c.before.before.before.before.args.out.now)
+returns c = λ k. rw (eq-eqb _ _ c.before.if1.true) (c.write-effect.ensures (context_view c.before.before.before.before.args.seen c.before.before.before.before.args.ws.now k) c.before.before.before.before.args.out.now)
 
 control-request-effect-requires : tie.Need-control-request-effect-requires
 control-request-effect-requires c κs = search rules
@@ -25,9 +20,9 @@ same_length c = search rules
 
 returns-2 : tie.Need-returns-2
 returns-2 c =
-    λ k cs l.
+    λ k.
     rw (ne_eqb _ _ c.before.before.before.before.before.if1.false, eq-eqb _ _ c.before.before.before.before.if2.true)
-    (c.before.before.control-request-effect.ensures k cs l)
+    (c.before.before.control-request-effect.ensures k)
 
 control-request-effect-requires-2 : tie.Need-control-request-effect-requires-2
 control-request-effect-requires-2 c κs = search rules
@@ -37,9 +32,9 @@ same-length-2 c = search rules
 
 returns-3 : tie.Need-returns-3
 returns-3 c =
-    λ k cs l.
+    λ k.
     rw (ne_eqb _ _ c.before.before.before.before.before.before.if1.false, ne_eqb _ _ c.before.before.before.before.before.if2.false, eq-eqb _ _ c.before.before.before.before.if3.true)
-    (c.before.before.control-request-effect2.ensures k cs l)
+    (c.before.before.control-request-effect2.ensures k)
 
 control-request-effect-requires-3 : tie.Need-control-request-effect-requires-3
 control-request-effect-requires-3 c κs = search rules
@@ -49,9 +44,9 @@ same-length-3 c = search rules
 
 returns-4 : tie.Need-returns-4
 returns-4 c =
-    λ k cs l.
+    λ k.
     rw (ne_eqb _ _ c.before.before.before.before.before.before.before.if1.false, ne_eqb _ _ c.before.before.before.before.before.before.if2.false, ne_eqb _ _ c.before.before.before.before.before.if3.false, eq-eqb _ _ c.before.before.before.before.if4.true)
-    (c.before.before.control-request-effect3.ensures k cs l)
+    (c.before.before.control-request-effect3.ensures k)
 
 control-request-effect-requires-4 : tie.Need-control-request-effect-requires-4
 control-request-effect-requires-4 c κs = search rules
@@ -61,37 +56,18 @@ same-length-4 c = search rules
 
 returns-5 : tie.Need-returns-5
 returns-5 c =
-    λ k cs l.
+    λ k.
     rw (ne_eqb _ _ c.before.before.before.before.before.before.before.before.if1.false, ne_eqb _ _ c.before.before.before.before.before.before.before.if2.false, ne_eqb _ _ c.before.before.before.before.before.before.if3.false, ne_eqb _ _ c.before.before.before.before.before.if4.false, eq-eqb _ _ c.before.before.before.before.if5.true)
-    (c.before.before.control-request-effect4.ensures k cs l)
-
-is-freeze-requires : tie.Need-is-freeze-requires
-is-freeze-requires c κs = search rules
-
-freeze-fault-requires : tie.Need-freeze-fault-requires
-freeze-fault-requires c κs = search rules
+    (c.before.before.control-request-effect4.ensures k)
 
 plain-effect-requires : tie.Need-plain-effect-requires
 plain-effect-requires c κs = search rules
 
 returns-6 : tie.Need-returns-6
 returns-6 c =
-    let a = c.before.before.before.before.before.before.before.before.before.before.before.args in
-    λ k cs l.
-    let w = context_view a.seen a.ws.now k cs in
-    rw (ne_eqb _ _ c.before.before.before.before.before.before.before.before.if1.false, ne_eqb _ _ c.before.before.before.before.before.before.before.if2.false, ne_eqb _ _ c.before.before.before.before.before.before.if3.false, ne_eqb _ _ c.before.before.before.before.before.if4.false, ne_eqb _ _ c.before.before.before.before.if5.false, sym c.before.before.before.is-freeze.ensures ∙ c.before.before.if6.true)
-    (subst (λ (f : Fault). EffectMeets c.plain-effect.result a.out.now a.out.now (plain_effect w f a.seen.restarted))
-    (c.before.freeze-fault.ensures ∙ ap (λ (n : ℕ). freeze_fault n a.s.now) (sym l)) (c.plain-effect.ensures w a.out.now))
-
-plain-effect-requires-2 : tie.Need-plain-effect-requires-2
-plain-effect-requires-2 c κs = search rules
-
-returns-7 : tie.Need-returns-7
-returns-7 c =
-    let a = c.before.before.before.before.before.before.before.before.before.before.args in
-    λ k cs l.
-    rw (ne_eqb _ _ c.before.before.before.before.before.before.before.if1.false, ne_eqb _ _ c.before.before.before.before.before.before.if2.false, ne_eqb _ _ c.before.before.before.before.before.if3.false, ne_eqb _ _ c.before.before.before.before.if4.false, ne_eqb _ _ c.before.before.before.if5.false, sym c.before.before.is-freeze.ensures ∙ c.before.if6.false)
-    (c.plain-effect2.ensures (context_view a.seen a.ws.now k cs) a.out.now)
+    λ k.
+    rw (ne_eqb _ _ c.before.before.before.before.before.if1.false, ne_eqb _ _ c.before.before.before.before.if2.false, ne_eqb _ _ c.before.before.before.if3.false, ne_eqb _ _ c.before.before.if4.false, ne_eqb _ _ c.before.if5.false)
+    (c.plain-effect.ensures (context_view c.before.before.before.before.before.before.before.before.args.seen c.before.before.before.before.before.before.before.before.args.ws.now k) c.before.before.before.before.before.before.before.before.args.out.now)
 
 pub effect-by-spec : {M : Type 1} → statement M
 effect-by-spec =
@@ -111,9 +87,5 @@ effect-by-spec =
     control-request-effect-requires-4
     same-length-4
     returns-5
-    is-freeze-requires
-    freeze-fault-requires
     plain-effect-requires
-    returns-6
-    plain-effect-requires-2
-    returns-7)
+    returns-6)

@@ -3,7 +3,7 @@
 use mathlib.Core.Path.{◌∙◌}
 use native.Mathlib.Omega.{arith}
 use lib.ListN.{length-set}
-use Rattle.event_objects.proofs.EventLaws.{length-least, length-state, length-analog, length-counter, state-put, analog-put, counter-put}
+use Rattle.event_objects.proofs.EventLaws.{length-least, length-state, length-analog, state-put, analog-put}
 use borrow.Author.Rules.{rules}
 use Rattle.event_objects.proofs.put_event.Statement.{statement}
 use Rattle.event_objects.proofs.put_event.Tie as tie
@@ -53,30 +53,6 @@ put6-requires-2 c κs = omega (arith, length-analog c.before.before.before.befor
 add-result-2 : tie.Need-overflow-add-result-2
 add-result-2 c = omega (arith, length-analog c.before.before.before.before.before.before.before.before.before.before.before.before.before.before.before.before.args.e _ c.before.before.before.before.before.before.before.before.before.s2.given.1, c.before.before.before.before.before.before.put-value.ensures.0)
 
-enum-known-s-3 : tie.Need-enum-known-s-3
-enum-known-s-3 c = search rules
-
-add-out-3 : tie.Need-overflow-add-out-3
-add-out-3 c = search rules
-
-slice-write-out-3 : tie.Need-slice-write-out-3
-slice-write-out-3 c = omega (arith, length-least c.before.before.before.before.before.before.before.before.args.e, c.before.before.before.before.before.put2.auto.0)
-
-add-put4 : tie.Need-overflow-add-put4
-add-put4 c = search rules
-
-put4-requires : tie.Need-put4-requires
-put4-requires c κs = simp length-set (omega (arith, length-counter c.before.before.before.before.before.before.before.before.before.args.e _ c.before.before.s3.given.1, c.before.before.before.before.before.before.put2.auto.0))
-
-add-put6-2 : tie.Need-overflow-add-put6-2
-add-put6-2 c = search rules
-
-put6-requires-3 : tie.Need-put6-requires-3
-put6-requires-3 c κs = omega (arith, length-counter c.before.before.before.before.before.before.before.before.before.before.before.before.before.args.e _ c.before.before.before.before.before.before.s3.given.1, c.before.before.before.before.before.before.before.before.before.before.put2.auto.0, simp length-set at c.before.before.before.put4.auto.0)
-
-add-result-3 : tie.Need-overflow-add-result-3
-add-result-3 c = search rules
-
 same_length : tie.Need-same-length
 same_length c = c.before.before.put6.auto.0 ∙ simp length-set c.before.before.before.before.before.before.before.before.before.before.put2.auto.0
 
@@ -95,16 +71,6 @@ returns-2 c =
     let a = c.before.before.before.before.before.before.before.before.before.before.before.before.before.before.before.before.args in (
       omega (arith, length-analog a.e _ c.before.before.before.before.before.before.before.before.before.s2.given.1, c.before.before.before.before.before.before.put-value.ensures.0),
       analog-put a.e _ _ _ _ _ _ _ c.before.before.before.before.before.before.before.before.before.s2.given.1 c.before.before.before.before.before.before.put-value.ensures.0 c.before.before.before.before.before.before.before.before.before.before.before.before.before.put2.ensures c.before.before.before.before.before.before.put-value.ensures.1 c.before.before.put62.ensures,
-    )
-
-same-length-3 : tie.Need-same-length-3
-same-length-3 c = c.before.before.put63.auto.0 ∙ c.before.before.before.before.before.before.put4.auto.0 ∙ simp length-set c.before.before.before.before.before.before.before.before.before.before.before.before.before.put2.auto.0
-
-returns-3 : tie.Need-returns-3
-returns-3 c =
-    let a = c.before.before.before.before.before.before.before.before.before.before.before.before.before.before.before.before.args in (
-      omega (arith, length-counter a.e _ c.before.before.before.before.before.before.before.before.before.s3.given.1),
-      counter-put a.e _ _ _ _ _ _ c.before.before.before.before.before.before.before.before.before.s3.given.1 c.before.before.before.before.before.before.before.before.before.before.before.before.before.put2.ensures c.before.before.before.before.before.before.put4.ensures c.before.before.put63.ensures,
     )
 
 pub put-event-spec : {M : Type 1} → statement M
@@ -126,17 +92,7 @@ put-event-spec =
     put-value-requires
     put6-requires-2
     add-result-2
-    enum-known-s-3
-    add-out-3
-    slice-write-out-3
-    add-put4
-    put4-requires
-    add-put6-2
-    put6-requires-3
-    add-result-3
     same_length
     returns
     same-length-2
-    returns-2
-    same-length-3
-    returns-3)
+    returns-2)

@@ -1,21 +1,21 @@
 -- `event_objects::put_heading` meets its contract.
 -- Assumes nothing.
-use mathlib.Core.Path.{refl, ap, ◌∙◌}
-use mathlib.Core.List.{◌∷◌}
+use mathlib.Core.Path.{refl, ◌∙◌}
 use native.Mathlib.Omega.{arith}
 use lib.ListN.{length-set}
-use Rattle.octets.specs.Bytes.{splice, le}
 use Rattle.objects.proofs.WriterLaws.{three-put}
-use Rattle.events.specs.declared.EventKind.{EventKind}
 use borrow.Author.Rules.{rules}
 use Rattle.event_objects.proofs.put_heading.Statement.{statement}
 use Rattle.event_objects.proofs.put_heading.Tie as tie
 
-event-kind-requires : tie.Need-event-kind-requires
-event-kind-requires c κs = search rules
+group-requires : tie.Need-group-requires
+group-requires c κs = search rules
 
 slice-write-out : tie.Need-slice-write-out
 slice-write-out c = search rules
+
+variation-requires : tie.Need-variation-requires
+variation-requires c κs = search rules
 
 add-out : tie.Need-overflow-add-out
 add-out c = search rules
@@ -42,20 +42,15 @@ same_length : tie.Need-same-length
 same_length c = c.before.before.put2.auto.0 ∙ simp length-set
 
 returns : tie.Need-returns
-returns c =
-    let a = c.before.before.before.before.before.before.args in (
-      refl,
-      c.before.before.put2.ensures
-          ∙ three-put _ _ _ _ _ _
-          ∙ ap (λ (k : EventKind). splice a.out.now a.at (k.group ∷ k.variation ∷ 40 ∷ le 2 a.n)) c.before.before.before.before.event-kind.ensures.0,
-    )
+returns c = rw (← c.before.before.before.before.before.group.ensures, ← c.before.before.before.before.variation.ensures) (refl, c.before.before.put2.ensures ∙ three-put _ _ _ _ _ _)
 
 pub put-heading-spec : {M : Type 1} → statement M
 put-heading-spec =
     tie.close
     (tie.spec
-    event-kind-requires
+    group-requires
     slice-write-out
+    variation-requires
     add-out
     slice-write-out-2
     add-out-2

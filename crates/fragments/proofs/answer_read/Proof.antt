@@ -64,9 +64,9 @@ returns c =
     let t = c.before.before.before.before.before.before.before.before.before.before.before.before.before.before.before.before.before.before.before.before.before.buffer-status in
     let rs = c.before.before.before.before.before.before.before.before.before.before.before.before.con-by in
     let g =
-    subst (λ (x : List ℕ). RepliedAs (points_view_in (installed_of a.h) a.binaries.now a.analogs.now a.counters.now) x (buffer_view_in a.held.now t.result) a.out.now re.result (buffer_view_in re.new.1.1.1.1.1.1.0 t.result) re.new.0)
+    subst (λ (x : List ℕ). RepliedAs (points_view_in (installed_of a.h) a.binaries.now a.analogs.now) x (buffer_view_in a.held.now t.result) a.out.now re.result (buffer_view_in re.new.1.1.1.1.1.0 t.result) re.new.0)
     (to_end a.f.now 2) re.ensures in
-    read-in a.h a.binaries.now a.analogs.now a.counters.now a.held.now a.request.now a.answer.now a.q.0 a.time a.f.now _ _ _ re.result a.out.now _ _ _ _
+    read-in a.h a.binaries.now a.analogs.now a.held.now a.request.now a.answer.now a.q.0 a.time a.f.now _ _ _ re.result a.out.now _ _ _ _
     c.before.before.remember.result c.before.after_read.result c.none.result c.none.ensures c.before.after_read.ensures c.before.before.remember.ensures
     s.requires.1 s.requires.2 t.result _ t.ensures c.before.before.before.before.before.before.before.before.before.truth.ensures g rs.ensures c.before.before.before.before.before.before.before.before.before.before.before.before.before.any-carried.ensures
     c.before.before.before.before.before.before.before.before.put-response-header.ensures

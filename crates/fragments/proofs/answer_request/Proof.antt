@@ -4,10 +4,9 @@ use mathlib.Core.List.{List}
 use mathlib.Core.Path.{◌≡◌, subst, ◌∙◌}
 use Prim.Native.Nat.{ℕ, ◌-◌, ◌≤◌}
 use native.Mathlib.Omega.{arith}
+use lib.Dec.{eqb}
 use lib.ListN.{length, take, drop, length-take}
 use Rattle.laws.proofs.Filling.{to_end}
-use Rattle.application.specs.Fragment.{is_unanswered}
-use Rattle.points.specs.declared.CounterPoint.{CounterPoint}
 use Rattle.events.specs.BufferView.{BufferView}
 use Rattle.outstation.specs.Step.{effect_by}
 use Rattle.effects.specs.Effects.{EffectMeets, context_view}
@@ -30,7 +29,7 @@ module _ (c : tie.After-put-answer) where
       c.before.before.before.before.before.before.before.before.before.effect-by.ensures
 
   less : c.put-answer.result ≤ 113
-  less = kept-most (is_unanswered start.args.function) c.put-answer.result c.before.before.before.before.before.before.before.before.before.effect-by.result.size c.put-answer.ensures.1 small
+  less = kept-most (eqb start.args.function 6) c.put-answer.result c.before.before.before.before.before.before.before.before.before.effect-by.result.size c.put-answer.ensures.1 small
 
   same : length c.put-answer.new.0 ≡ length start.args.out.now
   same = c.put-answer.auto.0 ∙ c.before.before.before.before.before.before.before.before.before.effect-by.auto.1.1.1.1.1.1.0
@@ -96,7 +95,7 @@ returns c =
     other-in a.h a.held.now a.request.now a.answer.now a.objects.now a.outputs.now a.q.0 a.function a.time a.f.now _ _ _ _ dd.result a.out.now _ _
     pa.result _ c.before.before.before.before.remember.result c.before.after-request.result c.before.after-request.ensures c.before.before.before.before.remember.ensures s.pre.1 short s.pre.2
     c.answer-as.ensures _ seen.result c.before.before.before.before.before.before.before.before.before.before.before.before.before.before.before.buffer-status.ensures seen.ensures
-    (λ (u : BufferView) (cs : List CounterPoint) l. subst (λ (x : List ℕ). EffectMeets dd.result a.out.now dd.new.1.1.1.1.1.1.0 (effect_by (context_view seen.result a.outputs.now u cs) a.q.0 a.function a.time x)) (to_end a.f.now 2) (dd.ensures u cs l))
+    (λ (u : BufferView). subst (λ (x : List ℕ). EffectMeets dd.result a.out.now dd.new.1.1.1.1.1.1.0 (effect_by (context_view seen.result a.outputs.now u) a.q.0 a.function a.time x)) (to_end a.f.now 2) (dd.ensures u))
     c.before.before.before.before.before.before.before.before.before.before.before.before.before.clear.ensures pa.ensures
 
 pub answer-request-spec : {M : Type 1} → statement M

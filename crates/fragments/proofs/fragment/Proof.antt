@@ -21,7 +21,7 @@ use Rattle.fragments.proofs.fragment.Tie as tie
 abbrev mem : tie.Start → Lent
 mem s =
     let a = s.args in
-    record { binaries = a.binaries.now; analogs = a.analogs.now; counters = a.counters.now; held = a.held.now; request = a.request.now; answer = a.answer.now; objects = a.objects.now; outputs = a.outputs.now }
+    record { binaries = a.binaries.now; analogs = a.analogs.now; held = a.held.now; request = a.request.now; answer = a.answer.now; objects = a.objects.now; outputs = a.outputs.now }
 
 abbrev unit : tie.Start → Outstation
 unit s = record { head = s.args.h; lent = mem s }
@@ -87,8 +87,8 @@ enum-known-kind-2 c = search rules
 
 take-request-requires : tie.Need-take-request-requires
 take-request-requires c κs =
-    let cl = c.before.before.before.before.before.before.before.before.before in
-    let g = c.before.before.before.before.before.before.before.kind2.given in
+    let cl = c.before.before.before.before.before.before.before.before in
+    let g = c.before.before.before.before.before.before.kind2.given in
     let z = request-sized (start cl).args.f.now cl.classify.result g.0.0 g.0.1.0 cl.classify.ensures g.1 in
     (z.0, z.1, cl.before.if2.false)
 
@@ -116,10 +116,10 @@ same_length c = search rules
 
 returns-5 : tie.Need-returns-5
 returns-5 c =
-    let cl = c.before.before.before.before.before.before.before.before.before.before.before.before in
+    let cl = c.before.before.before.before.before.before.before.before.before.before.before in
     let s = start cl in
     let a = s.args in
-    let g = c.before.before.before.before.before.before.before.before.before.before.kind2.given in
+    let g = c.before.before.before.before.before.before.before.before.before.kind2.given in
     let r = c.before.before.take-request in
     fragment-request (was s) a.time a.f.now (length a.out.now) (FragmentMeets (unit s) (answered_by r.result _) a.out.now _)
     (in-time cl) (roomy cl) cl.classify.result cl.classify.ensures g.0.0 g.0.1.0 g.1 (given-in a.h (mem s) _ r.result a.out.now _ _ r.ensures)

@@ -1,7 +1,8 @@
 -- `fragments::put_again` meets its contract.
 -- Assumes nothing.
-use mathlib.Core.Path.{refl, sym, ap, ◌∙◌}
+use mathlib.Core.Path.{refl, ap, ◌∙◌}
 use native.Mathlib.Omega.{arith}
+use borrow.Author.Tests.{eq-eqb, ne_eqb}
 use lib.ListN.{length}
 use Rattle.octets.specs.Bytes.{splice}
 use Rattle.last_request.specs.Repeat.{kept_answer, last_in}
@@ -10,11 +11,8 @@ use borrow.Author.Rules.{rules}
 use Rattle.fragments.proofs.put_again.Statement.{statement}
 use Rattle.fragments.proofs.put_again.Tie as tie
 
-is-unanswered-requires : tie.Need-is-unanswered-requires
-is-unanswered-requires c κs = search rules
-
 returns : tie.Need-returns
-returns c = rw (sym c.before.is-unanswered.ensures ∙ c.if1.true) (refl, refl, omega arith)
+returns c = rw (eq-eqb _ _ c.if1.true) (refl, refl, omega arith)
 
 last-of-requires : tie.Need-last-of-requires
 last-of-requires c κs = search rules
@@ -29,8 +27,8 @@ returns-2 : tie.Need-returns-2
 returns-2 c =
     let an = c.before.before.answer-again.ensures in
     let e = c.before.before.before.before.last_of.ensures in
-    let a = c.before.before.before.before.before.before.before.before.args in
-    rw (sym c.before.before.before.before.before.before.is-unanswered.ensures ∙ c.before.before.before.before.before.if1.false) (
+    let a = c.before.before.before.before.before.before.before.args in
+    rw (ne_eqb _ _ c.before.before.before.before.before.if1.false) (
       an.0 ∙ ap (λ (k : LastLengths). splice a.out.now 0 (kept_answer (last_in a.request.now a.answer.now k))) e,
       an.1 ∙ ap (λ (k : LastLengths). length (kept_answer (last_in a.request.now a.answer.now k))) e,
       an.2,
@@ -40,7 +38,6 @@ pub put-again-spec : {M : Type 1} → statement M
 put-again-spec =
     tie.close
     (tie.spec
-    is-unanswered-requires
     returns
     last-of-requires
     answer-again-requires

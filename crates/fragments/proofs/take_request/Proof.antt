@@ -1,16 +1,8 @@
 -- `fragments::take_request` meets its contract.
 -- Assumes nothing.
 use mathlib.Core.Path.{sym, ap, ◌∙◌}
-use mathlib.Core.List.{List}
-use Prim.Native.Nat.{ℕ}
-use lib.ListN.{take}
 use borrow.Author.Tests.{eq-eqb, ne_eqb}
-use Rattle.laws.proofs.Filling.{to_end}
-use Rattle.application.specs.Fragment.{objects_of}
-use Rattle.point_store.specs.PointWords.{counters_in}
-use Rattle.freeze.specs.Freeze.{counters_after}
 use Rattle.outstation.specs.OutstationView.{OutstationView}
-use Rattle.outstation.proofs.FreezeLaws.{frozen-view}
 use Rattle.last_request.specs.Repeat.{is_repeat, last_in}
 use Rattle.fragments.proofs.AnswerLaws.{by_read, by-repeat, by-other}
 use Rattle.last_request.specs.declared.LastLengths.{LastLengths}
@@ -24,23 +16,24 @@ use Rattle.fragments.proofs.take_request.Tie as tie
 abbrev mem : tie.Start → Lent
 mem s =
     let a = s.args in
-    record { binaries = a.binaries.now; analogs = a.analogs.now; counters = a.counters.now; held = a.held.now; request = a.request.now; answer = a.answer.now; objects = a.objects.now; outputs = a.outputs.now }
+    record { binaries = a.binaries.now; analogs = a.analogs.now; held = a.held.now; request = a.request.now; answer = a.answer.now; objects = a.objects.now; outputs = a.outputs.now }
 
 abbrev was : tie.Start → OutstationView
 was s = view_of s.args.h (mem s)
 
 answer-read-requires : tie.Need-answer-read-requires
-answer-read-requires c κs = c.before.before.before.before.before.before.before.before.requires
+answer-read-requires c κs =
+    c.before.before.before.before.before.before.before.requires
 
 same_length : tie.Need-same-length
 same_length c = search rules
 
 returns : tie.Need-returns
 returns c =
-    let s = c.before.before.before.before.before.before.before.before.before.before.before in
+    let s = c.before.before.before.before.before.before.before.before.before.before in
     let a = s.args in
     let r = c.before.before.answer-read in
-    by_read (was s) a.q.0 a.function a.time a.f.now (PartMeets a.h r.result _ a.out.now _) (eq-eqb _ _ c.before.before.before.before.before.before.before.before.if1.true) (r.ensures a.objects.now a.outputs.now)
+    by_read (was s) a.q.0 a.function a.time a.f.now (PartMeets a.h r.result _ a.out.now _) (eq-eqb _ _ c.before.before.before.before.before.before.before.if1.true) (r.ensures a.objects.now a.outputs.now)
 
 last-of-requires : tie.Need-last-of-requires
 last-of-requires c κs = search rules
@@ -49,7 +42,8 @@ is-repeat-requires : tie.Need-is-repeat-requires
 is-repeat-requires c κs = c.before.before.before.before.before.before.requires.0
 
 repeat-request-requires : tie.Need-repeat-request-requires
-repeat-request-requires c κs = c.before.before.before.before.before.before.before.before.before.before.before.requires.2
+repeat-request-requires c κs =
+    c.before.before.before.before.before.before.before.before.before.before.before.requires.2
 
 same-length-2 : tie.Need-same-length-2
 same-length-2 c = search rules
@@ -62,34 +56,20 @@ returns-2 c =
     by-repeat (was s) a.q.0 a.function a.time a.f.now (PartMeets a.h r.result _ a.out.now _) (ne_eqb _ _ c.before.before.before.before.before.before.before.before.before.before.before.if1.false)
     (sym (c.before.before.before.before.before.before.before.is-repeat.ensures ∙ ap (λ (k : LastLengths). is_repeat (last_in a.request.now a.answer.now k) a.f.now) c.before.before.before.before.before.before.before.before.last_of.ensures) ∙ c.before.before.before.before.before.before.if2.true) (r.ensures (mem s))
 
-sub-freeze-counters : tie.Need-overflow-sub-freeze-counters
-sub-freeze-counters c = search rules
-
-part-freeze-counters-start : tie.Need-slice-bounds-freeze-counters-start
-part-freeze-counters-start c = search rules
-
-part-freeze-counters-end : tie.Need-slice-bounds-freeze-counters-end
-part-freeze-counters-end c = search rules
-
-freeze-counters-requires : tie.Need-freeze-counters-requires
-freeze-counters-requires c κs = search rules
-
 answer-request-requires : tie.Need-answer-request-requires
-answer-request-requires c κs = c.before.before.before.before.before.before.before.before.before.before.before.before.before.before.before.before.requires
+answer-request-requires c κs =
+    c.before.before.before.before.before.before.before.before.before.before.before.before.before.requires
 
 same-length-3 : tie.Need-same-length-3
 same-length-3 c = search rules
 
 returns-3 : tie.Need-returns-3
 returns-3 c =
-    let s = c.before.before.before.before.before.before.before.before.before.before.before.before.before.before.before.before.before.before.before in
+    let s = c.before.before.before.before.before.before.before.before.before.before.before.before.before.before.before.before in
     let a = s.args in
     let r = c.before.before.answer-request in
-    let fc = c.before.before.before.before.before.before.before.before.freeze-counters in
-    let frozen = fc.ensures ∙ ap (λ (x : List ℕ). counters_after a.function x (take a.h.counter_count (counters_in a.counters.now))) (to_end a.f.now 2) in
-    by-other (was s) a.q.0 a.function a.time a.f.now (PartMeets a.h r.result _ a.out.now _) (ne_eqb _ _ c.before.before.before.before.before.before.before.before.before.before.before.before.before.before.before.before.if1.false)
-    (sym (c.before.before.before.before.before.before.before.before.before.before.before.before.is-repeat.ensures ∙ ap (λ (k : LastLengths). is_repeat (last_in a.request.now a.answer.now k) a.f.now) c.before.before.before.before.before.before.before.before.before.before.before.before.before.last_of.ensures) ∙ c.before.before.before.before.before.before.before.before.before.before.before.if2.false)
-    _ (frozen-view a.h (mem s) a.counters.now fc.new.0 a.function (objects_of a.f.now) frozen) (r.ensures a.binaries.now a.analogs.now fc.new.0)
+    by-other (was s) a.q.0 a.function a.time a.f.now (PartMeets a.h r.result _ a.out.now _) (ne_eqb _ _ c.before.before.before.before.before.before.before.before.before.before.before.before.before.if1.false)
+    (sym (c.before.before.before.before.before.before.before.before.before.is-repeat.ensures ∙ ap (λ (k : LastLengths). is_repeat (last_in a.request.now a.answer.now k) a.f.now) c.before.before.before.before.before.before.before.before.before.before.last_of.ensures) ∙ c.before.before.before.before.before.before.before.before.if2.false) (r.ensures a.binaries.now a.analogs.now)
 
 pub take-request-spec : {M : Type 1} → statement M
 take-request-spec =
@@ -103,10 +83,6 @@ take-request-spec =
     repeat-request-requires
     same-length-2
     returns-2
-    sub-freeze-counters
-    part-freeze-counters-start
-    part-freeze-counters-end
-    freeze-counters-requires
     answer-request-requires
     same-length-3
     returns-3)

@@ -32,18 +32,18 @@ returns c =
     let t = c.before.before.before.before.before.before in
     let s = t.before.before in
     let i = s.args in
-    λ h b cs.
+    λ h b.
     rw c.taken.ensures.1
-    (analog-taken (with_changes h i.n i.m) (record { binaries = b; analogs = i.analogs.now; counters = cs; held = i.held.now }) i.r i.t (omega (arith, s.requires.1)) _ _
+    (analog-taken (with_changes h i.n i.m) (record { binaries = b; analogs = i.analogs.now; held = i.held.now }) i.r i.t (omega (arith, s.requires.1)) _ _
     t.t.given.1 _ _ _ c.before.before.store-analog.ensures (c.taken.ensures.0 h i.n))
 
 returns-2 : tie.Need-returns-2
 returns-2 c =
     let t = c.before.before.before in
     let i = t.before.before.args in
-    λ h b cs.
+    λ h b.
     rw (c.refused.ensures, c.before.refusal-number.ensures)
-    (analog-refused (with_changes h i.n i.m) (record { binaries = b; analogs = i.analogs.now; counters = cs; held = i.held.now }) i.r i.t _ t.t2.given.1)
+    (analog-refused (with_changes h i.n i.m) (record { binaries = b; analogs = i.analogs.now; held = i.held.now }) i.r i.t _ t.t2.given.1)
 
 pub apply-analog-spec : {M : Type 1} → statement M
 apply-analog-spec =

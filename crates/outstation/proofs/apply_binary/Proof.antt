@@ -48,9 +48,9 @@ returns c =
     let f = read.before.before.before.before.before in
     let s = f.before in
     let i = s.args in
-    λ h a cs.
+    λ h a.
     rw c.taken.ensures.1
-    (binary-taken (with_changes h i.n i.m) (record { binaries = i.binaries.now; analogs = a; counters = cs; held = i.held.now }) i.r i.state
+    (binary-taken (with_changes h i.n i.m) (record { binaries = i.binaries.now; analogs = a; held = i.held.now }) i.r i.state
     (omega (arith, read.before.before.before.if1.true, f.installed.ensures)) read.read-binary.result
     (read.read-binary.ensures ∙ ap (λ (x : BinaryPoint). read_binary x i.state i.r.flags) read.before.load-binary.ensures)
     _ _ c.before.before.before.before.before.t.given.1 _ _ _ c.before.before.store-binary.ensures (c.taken.ensures.0 h i.n))
@@ -61,9 +61,9 @@ returns-2 c =
     let read = t.before.before in
     let f = read.before.before.before.before.before in
     let i = f.before.args in
-    λ h a cs.
+    λ h a.
     rw (c.refused.ensures, c.before.refusal-number.ensures)
-    (binary-refused (with_changes h i.n i.m) (record { binaries = i.binaries.now; analogs = a; counters = cs; held = i.held.now }) i.r i.state
+    (binary-refused (with_changes h i.n i.m) (record { binaries = i.binaries.now; analogs = a; held = i.held.now }) i.r i.state
     (omega (arith, read.before.before.before.if1.true, f.installed.ensures)) read.read-binary.result
     (read.read-binary.ensures ∙ ap (λ (x : BinaryPoint). read_binary x i.state i.r.flags) read.before.load-binary.ensures)
     _ t.t2.given.1)
@@ -72,9 +72,9 @@ returns-3 : tie.Need-returns-3
 returns-3 c =
     let f = c.before.before.before in
     let i = f.before.args in
-    λ h a cs.
+    λ h a.
     rw c.refused2.ensures
-    (no-binary (with_changes h i.n i.m) (record { binaries = i.binaries.now; analogs = a; counters = cs; held = i.held.now }) i.r i.state
+    (no-binary (with_changes h i.n i.m) (record { binaries = i.binaries.now; analogs = a; held = i.held.now }) i.r i.state
     (omega (arith, c.before.if1.false, f.installed.ensures)))
 
 pub apply-binary-spec : {M : Type 1} → statement M

@@ -29,10 +29,10 @@ returns c =
     let read = c.before.before.before in
     let f = read.before.before.before.before.before in
     let i = f.before.args in
-    λ h b cs.
-    analog-effect (with_changes h i.n i.m) (record { binaries = b; analogs = i.analogs.now; counters = cs; held = i.held.now }) i.r (λ q. read_float q i.x i.r.flags)
+    λ h b.
+    analog-effect (with_changes h i.n i.m) (record { binaries = b; analogs = i.analogs.now; held = i.held.now }) i.r (λ q. read_float q i.x i.r.flags)
     (omega (arith, read.before.before.before.if1.true, f.installed.ensures)) read.read_float.result
-    (read.read_float.ensures ∙ ap (λ (q : AnalogPoint). read_float q i.x i.r.flags) read.before.load-analog.ensures) c.apply-analog.result.refusal _ _ (c.apply-analog.ensures h b cs)
+    (read.read_float.ensures ∙ ap (λ (q : AnalogPoint). read_float q i.x i.r.flags) read.before.load-analog.ensures) c.apply-analog.result.refusal _ _ (c.apply-analog.ensures h b)
 
 refused-requires : tie.Need-refused-requires
 refused-requires c κs = search rules
@@ -41,9 +41,9 @@ returns-2 : tie.Need-returns-2
 returns-2 c =
     let f = c.before.before.before in
     let i = f.before.args in
-    λ h b cs.
+    λ h b.
     rw c.refused.ensures
-    (no-analog (with_changes h i.n i.m) (record { binaries = b; analogs = i.analogs.now; counters = cs; held = i.held.now }) i.r (λ q. read_float q i.x i.r.flags) (omega (arith, c.before.if1.false, f.installed.ensures)))
+    (no-analog (with_changes h i.n i.m) (record { binaries = b; analogs = i.analogs.now; held = i.held.now }) i.r (λ q. read_float q i.x i.r.flags) (omega (arith, c.before.if1.false, f.installed.ensures)))
 
 pub apply-float-spec : {M : Type 1} → statement M
 apply-float-spec =

@@ -19,7 +19,7 @@ returns c =
     let i = c.before.before.before.args in
     λ h.
     rw c.refused.ensures
-    (late (with_changes h i.n i.m) (record { binaries = i.binaries.now; analogs = i.analogs.now; counters = i.counters.now; held = i.held.now }) i.r (sym c.before.before.bad-time.ensures ∙ c.before.if1.true))
+    (late (with_changes h i.n i.m) (record { binaries = i.binaries.now; analogs = i.analogs.now; held = i.held.now }) i.r (sym c.before.before.bad-time.ensures ∙ c.before.if1.true))
 
 enum-known-x : tie.Need-enum-known-x
 enum-known-x c = search rules
@@ -45,21 +45,13 @@ apply-float-requires c κs =
     let late = c.before.before.before.before.before in
     time-below late.before.before.args.m.clock _ (sym late.before.bad-time.ensures ∙ late.if1.false)
 
-enum-known-x-4 : tie.Need-enum-known-x-4
-enum-known-x-4 c = search rules
-
-apply-counter-requires : tie.Need-apply-counter-requires
-apply-counter-requires c κs =
-    let late = c.before.before.before.before.before in
-    time-below late.before.before.args.m.clock _ (sym late.before.bad-time.ensures ∙ late.if1.false)
-
 returns-2 : tie.Need-returns-2
 returns-2 c =
     let x = c.before.before.before.before in
     let late = x.before.before in
     let i = late.before.before.args in
     λ h.
-    in-time (with_changes h i.n i.m) (record { binaries = i.binaries.now; analogs = i.analogs.now; counters = i.counters.now; held = i.held.now }) i.r (sym late.before.bad-time.ensures ∙ late.if1.false) _ x.x.given.1 c.apply-binary.result.refusal _ _ (c.apply-binary.ensures h i.analogs.now i.counters.now)
+    in-time (with_changes h i.n i.m) (record { binaries = i.binaries.now; analogs = i.analogs.now; held = i.held.now }) i.r (sym late.before.bad-time.ensures ∙ late.if1.false) _ x.x.given.1 c.apply-binary.result.refusal _ _ (c.apply-binary.ensures h i.analogs.now)
 
 returns-3 : tie.Need-returns-3
 returns-3 c =
@@ -67,7 +59,7 @@ returns-3 c =
     let late = x.before.before in
     let i = late.before.before.args in
     λ h.
-    in-time (with_changes h i.n i.m) (record { binaries = i.binaries.now; analogs = i.analogs.now; counters = i.counters.now; held = i.held.now }) i.r (sym late.before.bad-time.ensures ∙ late.if1.false) _ x.x2.given.1 c.apply-whole.result.refusal _ _ (rw (to_z-of_z (sfits_of {w = w32} c.before.before.before.known-told2.given.0.1)) at (c.apply-whole.ensures h i.binaries.now i.counters.now))
+    in-time (with_changes h i.n i.m) (record { binaries = i.binaries.now; analogs = i.analogs.now; held = i.held.now }) i.r (sym late.before.bad-time.ensures ∙ late.if1.false) _ x.x2.given.1 c.apply-whole.result.refusal _ _ (rw (to_z-of_z (sfits_of {w = w32} c.before.before.before.known-told2.given.0.1)) at (c.apply-whole.ensures h i.binaries.now))
 
 returns-4 : tie.Need-returns-4
 returns-4 c =
@@ -75,15 +67,7 @@ returns-4 c =
     let late = x.before.before in
     let i = late.before.before.args in
     λ h.
-    in-time (with_changes h i.n i.m) (record { binaries = i.binaries.now; analogs = i.analogs.now; counters = i.counters.now; held = i.held.now }) i.r (sym late.before.bad-time.ensures ∙ late.if1.false) _ x.x3.given.1 c.apply-float.result.refusal _ _ (c.apply-float.ensures h i.binaries.now i.counters.now)
-
-returns-5 : tie.Need-returns-5
-returns-5 c =
-    let x = c.before.before.before.before in
-    let late = x.before.before in
-    let i = late.before.before.args in
-    λ h.
-    in-time (with_changes h i.n i.m) (record { binaries = i.binaries.now; analogs = i.analogs.now; counters = i.counters.now; held = i.held.now }) i.r (sym late.before.bad-time.ensures ∙ late.if1.false) _ x.x4.given.1 c.apply-counter.result.refusal _ _ (c.apply-counter.ensures h i.binaries.now i.analogs.now)
+    in-time (with_changes h i.n i.m) (record { binaries = i.binaries.now; analogs = i.analogs.now; held = i.held.now }) i.r (sym late.before.bad-time.ensures ∙ late.if1.false) _ x.x3.given.1 c.apply-float.result.refusal _ _ (c.apply-float.ensures h i.binaries.now)
 
 pub apply-reading-spec : {M : Type 1} → statement M
 apply-reading-spec =
@@ -98,9 +82,6 @@ apply-reading-spec =
     apply-whole-requires
     enum-known-x-3
     apply-float-requires
-    enum-known-x-4
-    apply-counter-requires
     returns-2
     returns-3
-    returns-4
-    returns-5)
+    returns-4)

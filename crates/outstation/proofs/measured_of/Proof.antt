@@ -17,15 +17,12 @@ signed-requires c κs = search rules
 returns-2 : tie.Need-returns-2
 returns-2 c = rw (ne_eqb _ 0 c.before.before.if1.false, eq-eqb _ 1 c.before.if2.true, c.signed.ensures, to_z-of_z (sfits_to_z c.before.before.before.ranges.bits))
 
-returns-3 : tie.Need-returns-3
-returns-3 c = rw (ne_eqb _ 0 c.before.before.if1.false, ne_eqb _ 1 c.before.if2.false, eq-eqb _ 3 c.if3.true)
-
 float-requires : tie.Need-float-requires
 float-requires c κs = search rules
 
-returns-4 : tie.Need-returns-4
-returns-4 c = rw (ne_eqb _ 0 c.before.before.before.if1.false, ne_eqb _ 1 c.before.before.if2.false, ne_eqb _ 3 c.before.if3.false, c.float.ensures)
+returns-3 : tie.Need-returns-3
+returns-3 c = rw (ne_eqb _ 0 c.before.before.if1.false, ne_eqb _ 1 c.before.if2.false, c.float.ensures)
 
 pub measured-of-spec : {M : Type 1} → statement M
 measured-of-spec =
-    tie.close (tie.spec truth-requires returns signed-requires returns-2 returns-3 float-requires returns-4)
+    tie.close (tie.spec truth-requires returns signed-requires returns-2 float-requires returns-3)

@@ -18,7 +18,7 @@ with-changes-requires c κs = search rules
 
 returns : tie.Need-returns
 returns c =
-    let marks = c.before.before.before.before.before.before in
+    let marks = c.before.before.before.before.before in
     let s = marks.before.before in
     put-together s.args.h _ _ _ s.args.r c.before.apply-reading.result.refusal c.before.apply-reading.result _ _ marks.before.installed-of.ensures marks.changes-of.ensures
     c.before.apply-reading.ensures c.with-changes.ensures

@@ -19,7 +19,7 @@ with-changes-requires c κs = search rules
 
 returns : tie.Need-returns
 returns c =
-    let marks = c.before.before.before.before.before.before in
+    let marks = c.before.before.before.before.before in
     let s = marks.before.before in
     put-together s.args.h _ _ _ (reading_of s.args.w) c.before.apply-words.result.refusal c.before.apply-words.result _ _ marks.before.installed-of.ensures marks.changes-of.ensures
     c.before.apply-words.ensures c.with-changes.ensures

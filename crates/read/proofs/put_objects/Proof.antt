@@ -25,7 +25,7 @@ returns c =
     let events = c.before.before.before.before.before.before in
     let static = c.before.before.put-static in
     let a = events.before.before.before.before.args in
-    let s = static_part (points_view_in a.n a.binaries.now a.analogs.now a.counters.now) a.s.now in (
+    let s = static_part (points_view_in a.n a.binaries.now a.analogs.now) a.s.now in (
       omega (arith, length-append (carried_bytes (buffer_view_in a.held.now a.status).held) s, static.ensures.0, events.put-events.ensures.0),
       two-put _ _ _ _ _ _ events.put-events.ensures.0 events.put-events.ensures.1 static.ensures.1,
     )

@@ -20,7 +20,7 @@ fits : (c : tie.Then1) → c.before.before.asked.result.size + 4 ≤ fragment_ma
 fits c =
     let q = c.before.before in
     let a = q.before.before.before.args in
-    asked-fits (points_view_in a.n a.binaries.now a.analogs.now a.counters.now) a.s.now _ (q.asked.ensures a.binaries.now a.counters.now) (sym c.before.is-faultless.ensures ∙ c.if1.true)
+    asked-fits (points_view_in a.n a.binaries.now a.analogs.now) a.s.now _ (q.asked.ensures a.binaries.now) (sym c.before.is-faultless.ensures ∙ c.if1.true)
 
 asked-requires : tie.Need-asked-requires
 asked-requires c κs = search rules
@@ -40,7 +40,7 @@ put-objects-requires c κs =
     let q = t.before.before in
     let s = q.before.before.before in
     let a = s.args in
-    let e = q.asked.ensures a.binaries.now a.counters.now in (
+    let e = q.asked.ensures a.binaries.now in (
       sym (ap (λ (x : ReadRequest). x.fault) e) ∙ faultless-is _ (sym t.before.is-faultless.ensures ∙ t.if1.true),
       omega (arith, beside _ _ (buffer_view_in a.held.now a.status) _ (fits t) c.before.before.mark-carried.ensures, ap (λ (x : ReadRequest). x.size) e, s.requires),
     )
@@ -57,8 +57,8 @@ returns c =
     let t = c.before.before.before.before.before.before.before.before.before in
     let q = t.before.before in
     let a = q.before.before.before.args in
-    let i = points_view_in a.n a.binaries.now a.analogs.now a.counters.now in
-    let e = q.asked.ensures a.binaries.now a.counters.now in
+    let i = points_view_in a.n a.binaries.now a.analogs.now in
+    let e = q.asked.ensures a.binaries.now in
     let h = asked-headers i a.s.now _ e (sym t.before.is-faultless.ensures ∙ t.if1.true) in
     let k = c.before.before.before.before.before.mark-carried.ensures ∙ chosen (buffer_view_in a.held.now a.status) (ap (λ (x : ReadRequest). x.classes) e) (ap (λ (x : ReadRequest). x.size) e) in
     let w = answered _ _ _ _ _ _ _ _ h k put.ensures.0 put.ensures.1 in
@@ -68,8 +68,8 @@ returns-2 : tie.Need-returns-2
 returns-2 c =
     let q = c.before.before.before.before in
     let a = q.before.before.before.args in
-    let i = points_view_in a.n a.binaries.now a.analogs.now a.counters.now in
-    let e = q.asked.ensures a.binaries.now a.counters.now in
+    let i = points_view_in a.n a.binaries.now a.analogs.now in
+    let e = q.asked.ensures a.binaries.now in
     let f = asked-fault i a.s.now _ e (sym c.before.before.before.is-faultless.ensures ∙ c.before.before.if1.false) in
     let w = refused _ _ _ _ a.out.now _ f c.clear.ensures in
     record { fault = ap (λ (x : ReadRequest). x.fault) e; events = w.0; size = w.1; bytes = w.2 }

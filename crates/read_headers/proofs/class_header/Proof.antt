@@ -17,13 +17,9 @@ returns-2 : tie.Need-returns-2
 unfolding class_header
 returns-2 c = rw (eq-eqb _ _ c.before.if1.false, eq-eqb _ _ c.if2.true)
 
-nothing-requires : tie.Need-nothing-requires
-nothing-requires c κs = search rules
-
 returns-3 : tie.Need-returns-3
 unfolding class_header
-returns-3 c = rw (eq-eqb _ _ c.before.before.if1.false, ne_eqb _ _ c.before.if2.false, c.nothing.ensures)
+returns-3 c = rw (eq-eqb _ _ c.before.if1.false, ne_eqb _ _ c.if2.false)
 
 pub class-header-spec : {M : Type 1} → statement M
-class-header-spec =
-    tie.close (tie.spec shared-slice-read-if1 returns returns-2 nothing-requires returns-3)
+class-header-spec = tie.close (tie.spec shared-slice-read-if1 returns returns-2 returns-3)

@@ -26,17 +26,20 @@ enum-known-o c = search rules
 class-header-requires : tie.Need-class-header-requires
 class-header-requires c κs = search rules
 
-enum-known-o-2 : tie.Need-enum-known-o-2
-enum-known-o-2 c = search rules
-
-count-of-requires : tie.Need-count-of-requires
-count-of-requires c κs = search rules
+enum_told : tie.Need-enum-told
+enum_told c = search rules
 
 point-header-requires : tie.Need-point-header-requires
 point-header-requires c κs = search rules
 
-enum_told : tie.Need-enum-told
-enum_told c = search rules
+enum-told-2 : tie.Need-enum-told-2
+enum-told-2 c = search rules
+
+point-header-requires-2 : tie.Need-point-header-requires-2
+point-header-requires-2 c κs = search rules
+
+enum-told-3 : tie.Need-enum-told-3
+enum-told-3 c = search rules
 
 returns-2 : tie.Need-returns-2
 unfolding front_header
@@ -44,11 +47,15 @@ returns-2 c = rw (le-ltb _ _ c.before.before.before.before.before.before.before.
 
 returns-3 : tie.Need-returns-3
 unfolding front_header
-returns-3 c = rw (le-ltb _ _ c.before.before.before.before.before.before.before.before.if1.false, sym c.before.before.before.before.before.object_of.ensures ∙ c.before.before.before.o2.given.1, ← c.before.count_of.ensures) c.point-header.ensures
+returns-3 c = rw (le-ltb _ _ c.before.before.before.before.before.before.if1.false, sym c.before.before.before.object_of.ensures ∙ c.before.enum_told.given.1) c.point-header.ensures
 
 returns-4 : tie.Need-returns-4
 unfolding front_header
-returns-4 c = rw (le-ltb _ _ c.before.before.before.before.before.if1.false, sym c.before.before.object_of.ensures ∙ c.enum_told.given.1)
+returns-4 c = rw (le-ltb _ _ c.before.before.before.before.before.before.if1.false, sym c.before.before.before.object_of.ensures ∙ c.before.enum-told2.given.1) c.point-header2.ensures
+
+returns-5 : tie.Need-returns-5
+unfolding front_header
+returns-5 c = rw (le-ltb _ _ c.before.before.before.before.before.if1.false, sym c.before.before.object_of.ensures ∙ c.enum-told3.given.1)
 
 pub front-header-spec : {M : Type 1} → statement M
 front-header-spec =
@@ -60,10 +67,12 @@ front-header-spec =
     object-of-requires
     enum-known-o
     class-header-requires
-    enum-known-o-2
-    count-of-requires
-    point-header-requires
     enum_told
+    point-header-requires
+    enum-told-2
+    point-header-requires-2
+    enum-told-3
     returns-2
     returns-3
-    returns-4)
+    returns-4
+    returns-5)

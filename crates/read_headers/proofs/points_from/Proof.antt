@@ -1,46 +1,13 @@
--- `read_headers::points_from` meets its contract: by the kind.
+-- `read_headers::points_from` meets its contract.
 -- Assumes nothing.
-use borrow.Author.Rules.{rules}
 use Rattle.read_headers.proofs.points_from.Statement.{statement}
 use Rattle.read_headers.proofs.points_from.Tie as tie
 
-nothing-requires : tie.Need-nothing-requires
-nothing-requires c κs = search rules
-
-enum_told : tie.Need-enum-told
-enum_told c = search rules
-
-enum-told-2 : tie.Need-enum-told-2
-enum-told-2 c = search rules
-
-enum-told-3 : tie.Need-enum-told-3
-enum-told-3 c = search rules
-
-enum-told-4 : tie.Need-enum-told-4
-enum-told-4 c = search rules
-
 returns : tie.Need-returns
-returns c = rw (c.before.before.nothing.ensures, c.enum_told.given.1)
+returns c = rw c.if1.true
 
 returns-2 : tie.Need-returns-2
-returns-2 c = rw (c.before.before.nothing.ensures, c.enum-told2.given.1)
-
-returns-3 : tie.Need-returns-3
-returns-3 c = rw (c.before.before.nothing.ensures, c.enum-told3.given.1)
-
-returns-4 : tie.Need-returns-4
-returns-4 c = rw (c.before.before.nothing.ensures, c.enum-told4.given.1)
+returns-2 c = rw c.if1.false
 
 pub points-from-spec : {M : Type 1} → statement M
-points-from-spec =
-    tie.close
-    (tie.spec
-    nothing-requires
-    enum_told
-    enum-told-2
-    enum-told-3
-    enum-told-4
-    returns
-    returns-2
-    returns-3
-    returns-4)
+points-from-spec = tie.close (tie.spec returns returns-2)

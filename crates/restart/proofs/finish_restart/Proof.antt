@@ -11,14 +11,11 @@ cast-h c = search rules
 cast-h-2 : tie.Need-overflow-cast-h-2
 cast-h-2 c = search rules
 
-cast-h-3 : tie.Need-overflow-cast-h-3
-cast-h-3 c = search rules
-
 returns : tie.Need-returns
-returns c = rw (eq-eqb _ 0 c.before.before.before.if1.true)
+returns c = rw (eq-eqb _ 0 c.before.before.if1.true)
 
 returns-2 : tie.Need-returns-2
 returns-2 c = rw (ne_eqb _ 0 c.if1.false)
 
 pub finish-restart-spec : {M : Type 1} → statement M
-finish-restart-spec = tie.close (tie.spec cast-h cast-h-2 cast-h-3 returns returns-2)
+finish-restart-spec = tie.close (tie.spec cast-h cast-h-2 returns returns-2)

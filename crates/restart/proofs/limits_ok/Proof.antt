@@ -8,9 +8,7 @@ use borrow.Author.Rules.{rules}
 use lib.Seq.{take-nil}
 use Rattle.laws.specs.Lists.{all}
 use Rattle.points.specs.declared.AnalogSetup.{AnalogSetup}
-use Rattle.points.specs.declared.CounterSetup.{CounterSetup}
 use Rattle.points.specs.Setup.{class_ok, analog_ok}
-use Rattle.points.specs.Counter.{counter_ok}
 use Rattle.analog_outputs.specs.declared.AnalogOutput.{AnalogOutput}
 use Rattle.analog_outputs.specs.Output.{output_ok}
 use Rattle.outstation.proofs.SetupLaws.{broken, good-setup}
@@ -32,9 +30,6 @@ cast-if4 c = search rules
 returns-4 : tie.Need-returns-4
 returns-4 c = broken _ (λ b. omega arith)
 
-cast-if5 : tie.Need-overflow-cast-if5
-cast-if5 c = search rules
-
 returns-5 : tie.Need-returns-5
 returns-5 c = broken _ (λ b. omega arith)
 
@@ -42,10 +37,10 @@ returns-6 : tie.Need-returns-6
 returns-6 c = broken _ (λ b. omega arith)
 
 returns-7 : tie.Need-returns-7
-returns-7 c = broken _ (λ b. omega arith)
+returns-7 c = broken _ (λ b. b.differ c.if7.true)
 
 returns-8 : tie.Need-returns-8
-returns-8 c = broken _ (λ b. b.differ c.if8.true)
+returns-8 c = broken _ (λ b. omega arith)
 
 returns-9 : tie.Need-returns-9
 returns-9 c = broken _ (λ b. omega arith)
@@ -54,33 +49,27 @@ returns-10 : tie.Need-returns-10
 returns-10 c = broken _ (λ b. omega arith)
 
 returns-11 : tie.Need-returns-11
-returns-11 c = broken _ (λ b. omega arith)
-
-returns-12 : tie.Need-returns-12
-returns-12 c =
-    let at9 = c.before.before.before.before in
-    let at7 = at9.before.before.before.before in
-    let at5 = at7.before.before.before.before in
-    let at3 = at5.before.before.before.before in
-    let at1 = at3.before.before.before in
-    let a = at1.before.args in
+returns-11 c =
+    let at8 = c.before.before.before.before in
+    let at6 = at8.before.before.before.before in
+    let at4 = at6.before.before.before.before in
+    let at2 = at4.before.before.before.before in
+    let a = at2.before.before.args in
     good-setup _
     (record {
-      binaries = at1.if1.false;
-      analogs = at3.before.before.if2.false;
-      outputs = at3.if3.false;
-      counters = at5.before.before.if4.false;
-      analog_outputs = at5.if5.false;
-      own = at7.before.before.if6.false;
-      master = at7.if7.false;
-      differ = at9.before.before.if8.false;
-      arm = at9.if9.false;
-      some = c.before.before.if10.false;
-      confirm = c.if11.false;
+      binaries = at2.before.if1.false;
+      analogs = at2.if2.false;
+      outputs = at4.before.before.if3.false;
+      analog_outputs = at4.if4.false;
+      own = at6.before.before.if5.false;
+      master = at6.if6.false;
+      differ = at8.before.before.if7.false;
+      arm = at8.if8.false;
+      some = c.before.before.if9.false;
+      confirm = c.if10.false;
     })
     (ap (λ (l : List ℕ). all (map class_ok l)) (take-nil a.binaries))
     (ap (λ (l : List AnalogSetup). all (map analog_ok l)) (take-nil a.analogs))
-    (ap (λ (l : List CounterSetup). all (map counter_ok l)) (take-nil a.s.counter_count))
     (ap (λ (l : List AnalogOutput). all (map output_ok l)) (take-nil a.s.analog_output_count))
 
 pub limits-ok-spec : {M : Type 1} → statement M
@@ -92,12 +81,10 @@ limits-ok-spec =
     returns-3
     cast-if4
     returns-4
-    cast-if5
     returns-5
     returns-6
     returns-7
     returns-8
     returns-9
     returns-10
-    returns-11
-    returns-12)
+    returns-11)

@@ -2,7 +2,7 @@
 -- Assumes nothing.
 use borrow.Author.Rules.{rules}
 use mathlib.Core.Path.{◌≡◌, refl, sym, ap, ◌∙◌}
-use Rattle.read_headers.specs.declared.PointKind.TheVariants as K
+use mathlib.Core.Bool.{true}
 use Prim.Native.Nat.{◌+◌, ◌*◌, ◌≤◌}
 use native.Mathlib.Omega.{arith}
 use lib.ListN.{length}
@@ -17,7 +17,7 @@ use Rattle.static_objects.proofs.analogs_size.Tie as tie
 
 abbrev invariant-loop : tie.invariant-loop
 invariant-loop ws count from n total₀ last₀ i₀ left₀ total last i left =
-    (total + size_after 7 last (point_objects (analogs_alone count ws) K.Analog i left) ≡ size_after 7 0 (point_objects (analogs_alone count ws) K.Analog from n))
+    (total + size_after 7 last (point_objects (analogs_alone count ws) true i left) ≡ size_after 7 0 (point_objects (analogs_alone count ws) true from n))
     × (total + 12 * left ≤ 12 * n)
     × (i + left ≡ from + n)
 
@@ -82,7 +82,7 @@ unfolding range_bytes
 returns c =
     let a = c.before.before.args in
     let i = analogs_alone a.count a.ws.now in (
-      sum-end _ _ _ _ _ c.before.loop.invariant.0 (points-nil _ _ _ _ c.loop-test.false) ∙ sym (encoded-size (static_heading K.Analog) 7 (heading-length K.Analog) (point_objects i K.Analog a.from a.n) (none_first i K.Analog a.from a.n)),
+      sum-end _ _ _ _ _ c.before.loop.invariant.0 (points-nil _ _ _ _ c.loop-test.false) ∙ sym (encoded-size (static_heading true) 7 (heading-length true) (point_objects i true a.from a.n) (none_first i true a.from a.n)),
       omega (arith, c.before.loop.invariant.1),
     )
 

@@ -1,7 +1,7 @@
 -- `static_objects::end_run` meets its contract.
 -- Assumes nothing.
 use mathlib.Core.Path.{sym}
-use Rattle.read_headers.specs.declared.PointKind.TheVariants as K
+use mathlib.Core.Bool.{true}
 use Prim.Native.Nat.{◌+◌}
 use native.Mathlib.Omega.{arith}
 use borrow.Author.Rules.{rules}
@@ -15,7 +15,7 @@ put-heading-requires : tie.Need-put-heading-requires
 put-heading-requires c κs =
     let a = c.before.before.before.args in
     let room = rw (ne_eqb _ _ c.before.if1.true) at c.before.before.before.requires.0 in
-    (omega (arith, room, heading-length K.Analog a.variation a.first (a.m + 1)), c.before.before.before.requires.1)
+    (omega (arith, room, heading-length true a.variation a.first (a.m + 1)), c.before.before.before.requires.1)
 
 same_length : tie.Need-same-length
 same_length c = search rules

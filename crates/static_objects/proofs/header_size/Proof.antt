@@ -1,10 +1,9 @@
 -- `static_objects::header_size` meets its contract.
 -- Assumes nothing.
 use mathlib.Core.Path.{ap, ◌∙◌}
-use mathlib.Core.Bool.{true, false}
 use native.Mathlib.Omega.{arith}
 use lib.ListN.{length}
-use Rattle.static_objects.proofs.HeaderLaws.{header-length, counters-length}
+use Rattle.static_objects.proofs.HeaderLaws.{header-length}
 use Rattle.point_store.specs.PointWords.{points_view_in}
 use Rattle.static_objects.proofs.AloneLaws.{analogs-alone}
 use borrow.Author.Rules.{rules}
@@ -26,36 +25,16 @@ cast-analogs-size-2 c = search rules
 analogs-size-requires : tie.Need-analogs-size-requires
 analogs-size-requires c κs = search rules
 
-cast-counters-size : tie.Need-overflow-cast-counters-size
-cast-counters-size c = search rules
-
-counters-size-requires : tie.Need-counters-size-requires
-counters-size-requires c κs = search rules
-
-cast-counters-size-2 : tie.Need-overflow-cast-counters-size-2
-cast-counters-size-2 c = search rules
-
-counters-size-requires-2 : tie.Need-counters-size-requires-2
-counters-size-requires-2 c κs = search rules
-
 add-result : tie.Need-overflow-add-result
 add-result c = search rules
 
-add-result-2 : tie.Need-overflow-add-result-2
-add-result-2 c = search rules
-
-add-result-3 : tie.Need-overflow-add-result-3
-add-result-3 c = search rules
-
 returns : tie.Need-returns
 returns c =
-    let a = c.before.before.before.before.before.before.before.before.before.args in (
-      λ b d.
-          let i = points_view_in a.n b a.analogs.now d in
-          let size = c.before.before.before.before.analogs-size.ensures.0 ∙ ap length (analogs-alone a.n b a.analogs.now d a.h.analog a.h.analogs) in
-          let running = c.before.before.counters-size.ensures.0 i false a.h.counter in
-          let frozen = c.counters-size2.ensures.0 i true a.h.frozen_counter in
-          omega (arith, header-length i a.h, counters-length i a.h, size, running, frozen, c.before.before.before.before.before.before.before.binaries-size.ensures.0 i a.h.binary),
+    let a = c.before.before.before.before.before.args in (
+      λ b.
+          let i = points_view_in a.n b a.analogs.now in
+          let size = c.analogs-size.ensures.0 ∙ ap length (analogs-alone a.n b a.analogs.now a.h.analog a.h.analogs) in
+          omega (arith, header-length i a.h, size, c.before.before.before.binaries-size.ensures.0 i a.h.binary),
       search rules,
     )
 
@@ -68,11 +47,5 @@ header-size-spec =
     cast-analogs-size
     cast-analogs-size-2
     analogs-size-requires
-    cast-counters-size
-    counters-size-requires
-    cast-counters-size-2
-    counters-size-requires-2
     add-result
-    add-result-2
-    add-result-3
     returns)

@@ -2,7 +2,7 @@
 -- Assumes nothing.
 use borrow.Author.Rules.{rules}
 use mathlib.Core.Path.{◌≡◌, refl, sym, ap, ◌∙◌}
-use Rattle.read_headers.specs.declared.PointKind.TheVariants as K
+use mathlib.Core.Bool.{true}
 use Prim.Native.Nat.{◌+◌, ◌≤◌}
 use native.Mathlib.Omega.{arith}
 use Rattle.static_objects.specs.Static.{shown_at, static_variation, point_bytes, static_heading, point_objects, range_bytes}
@@ -14,7 +14,7 @@ use Rattle.static_objects.proofs.put_analogs.Tie as tie
 
 abbrev invariant-loop : tie.invariant-loop
 invariant-loop out₀ at ws count from n to₀ run₀ last₀ first₀ m₀ i₀ left₀ out to run last first m i left =
-    Running (static_heading K.Analog) 7 out₀ at (point_objects (analogs_alone count ws) K.Analog from n) out to run last first m (point_objects (analogs_alone count ws) K.Analog i left)
+    Running (static_heading true) 7 out₀ at (point_objects (analogs_alone count ws) true from n) out to run last first m (point_objects (analogs_alone count ws) true i left)
     × (i + left ≡ from + n)
     × (first + m ≤ i)
 
@@ -24,14 +24,14 @@ decreases-loop out₀ at ws count from n to₀ run₀ last₀ first₀ m₀ i₀
 -- the variation of the point to show
 kind : (c : tie.After-variation invariant-loop decreases-loop)
     → let a = c.before.before.before.before.before.args in
-    c.variation.result ≡ static_variation (shown_at (analogs_alone a.count a.ws.now) K.Analog c.before.before.before.loop.i)
+    c.variation.result ≡ static_variation (shown_at (analogs_alone a.count a.ws.now) true c.before.before.before.loop.i)
 kind c = c.variation.ensures ∙ ap static_variation c.before.analog-shown.ensures
 
 loop-holds : tie.Need-loop-init invariant-loop decreases-loop
 unfolding range_bytes
 loop-holds c =
     let a = c.before.args in
-    (running-start (static_heading K.Analog) 7 (heading-length K.Analog) _ _ _ (none_first (analogs_alone a.count a.ws.now) K.Analog a.from a.n) _ c.before.requires.0, refl, omega arith)
+    (running-start (static_heading true) 7 (heading-length true) _ _ _ (none_first (analogs_alone a.count a.ws.now) true a.from a.n) _ c.before.requires.0, refl, omega arith)
 
 analog-shown-requires : tie.Need-analog-shown-requires invariant-loop decreases-loop
 analog-shown-requires c κs = search rules
@@ -51,7 +51,7 @@ put-point-requires : tie.Need-put-point-requires invariant-loop decreases-loop
 put-point-requires c κs =
     let v = c.before.before in
     let l = v.before.before in
-    joined-fits (static_heading K.Analog) 7 (heading-length K.Analog) l.before.loop.invariant.0 _ _ (points-cons _ _ _ _ l.loop-test.true) _ (kind v) _ (ap point_bytes v.before.analog-shown.ensures) c.before.if1.true
+    joined-fits (static_heading true) 7 (heading-length true) l.before.loop.invariant.0 _ _ (points-cons _ _ _ _ l.loop-test.true) _ (kind v) _ (ap point_bytes v.before.analog-shown.ensures) c.before.if1.true
 
 add-m : tie.Need-overflow-add-m invariant-loop decreases-loop
 add-m c =
@@ -66,7 +66,7 @@ loop-again c =
     let v = c.before.before.before.before.before in
     let l = v.before.before in
     let put = c.before.before.put-point in (
-      joined (static_heading K.Analog) 7 (heading-length K.Analog) l.before.loop.invariant.0 _ _ (points-cons _ _ _ _ l.loop-test.true) _ (kind v) _ (ap point_bytes v.before.analog-shown.ensures) c.before.before.before.before.if1.true _ _ put.ensures.0 put.ensures.1,
+      joined (static_heading true) 7 (heading-length true) l.before.loop.invariant.0 _ _ (points-cons _ _ _ _ l.loop-test.true) _ (kind v) _ (ap point_bytes v.before.analog-shown.ensures) c.before.before.before.before.if1.true _ _ put.ensures.0 put.ensures.1,
       omega (arith, l.loop-test.true, l.before.loop.invariant.1),
       omega (arith, l.before.loop.invariant.2),
     )
@@ -74,7 +74,7 @@ loop-again c =
 end-run-requires : tie.Need-end-run-requires invariant-loop decreases-loop
 end-run-requires c κs =
     let l = c.before.before.before.before in (
-      top-fits (static_heading K.Analog) 7 (heading-length K.Analog) l.before.loop.invariant.0,
+      top-fits (static_heading true) 7 (heading-length true) l.before.loop.invariant.0,
       omega (arith, l.before.loop.invariant.1, l.before.loop.invariant.2, l.before.before.before.requires.1),
     )
 
@@ -85,7 +85,7 @@ put-point-requires-2 : tie.Need-put-point-requires-2 invariant-loop decreases-lo
 put-point-requires-2 c κs =
     let v = c.before.before.before.before.before.before in
     let l = v.before.before in
-    let f = begun-fits (static_heading K.Analog) 7 (heading-length K.Analog) l.before.loop.invariant.0 _ _ (points-cons _ _ _ _ l.loop-test.true) _ (kind v) _ (ap point_bytes v.before.analog-shown.ensures) c.before.before.before.before.before.if1.false in
+    let f = begun-fits (static_heading true) 7 (heading-length true) l.before.loop.invariant.0 _ _ (points-cons _ _ _ _ l.loop-test.true) _ (kind v) _ (ap point_bytes v.before.analog-shown.ensures) c.before.before.before.before.before.if1.false in
     omega (arith, f, c.before.before.before.end-run.auto.0)
 
 loop-less-2 : tie.Need-loop-smaller-2 invariant-loop decreases-loop
@@ -96,7 +96,7 @@ loop-again-2 c =
     let v = c.before.before.before.before.before.before.before.before.before in
     let l = v.before.before in
     let put = c.before.before.put-point2 in (
-      begun (static_heading K.Analog) 7 (heading-length K.Analog) l.before.loop.invariant.0 _ _ (points-cons _ _ _ _ l.loop-test.true) _ (kind v) _ (ap point_bytes v.before.analog-shown.ensures) c.before.before.before.before.before.before.before.before.if1.false
+      begun (static_heading true) 7 (heading-length true) l.before.loop.invariant.0 _ _ (points-cons _ _ _ _ l.loop-test.true) _ (kind v) _ (ap point_bytes v.before.analog-shown.ensures) c.before.before.before.before.before.before.before.before.if1.false
           (λ z. kind-some v.before.analog-shown.result (sym v.variation.ensures ∙ z)) _ _ _ c.before.before.before.before.before.before.end-run.ensures put.ensures.0 put.ensures.1,
       omega (arith, l.loop-test.true, l.before.loop.invariant.1),
       omega arith,
@@ -105,7 +105,7 @@ loop-again-2 c =
 end-run-requires-2 : tie.Need-end-run-requires-2 invariant-loop decreases-loop
 end-run-requires-2 c κs =
     let l = c.before.before in (
-      top-fits (static_heading K.Analog) 7 (heading-length K.Analog) l.loop.invariant.0,
+      top-fits (static_heading true) 7 (heading-length true) l.loop.invariant.0,
       omega (arith, l.loop.invariant.1, l.loop.invariant.2, l.before.before.requires.1),
     )
 
@@ -117,7 +117,7 @@ unfolding range_bytes
 returns c =
     let l = c.before.before.before.before in
     let a = l.before.before.before.args in
-    running-end (static_heading K.Analog) 7 (heading-length K.Analog) _ _ _ (none_first (analogs_alone a.count a.ws.now) K.Analog a.from a.n) _ _ _ _ _ _ _ l.before.loop.invariant.0 (points-nil _ _ _ _ l.loop-test.false) _ c.before.before.end-run2.ensures
+    running-end (static_heading true) 7 (heading-length true) _ _ _ (none_first (analogs_alone a.count a.ws.now) true a.from a.n) _ _ _ _ _ _ _ l.before.loop.invariant.0 (points-nil _ _ _ _ l.loop-test.false) _ c.before.before.end-run2.ensures
 
 pub put-analogs-spec : {M : Type 1} → statement M
 put-analogs-spec =

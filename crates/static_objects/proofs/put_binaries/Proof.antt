@@ -7,8 +7,7 @@ use native.Mathlib.Omega.{arith}
 use lib.ListN.{length}
 use Rattle.octets.specs.Bytes.{splice}
 use Rattle.octets.proofs.Splice.{splice-nil}
-use Rattle.static_objects.proofs.StaticLaws.{binaries-uniform, uniform-none, uniform-length, uniform-put}
-use Rattle.read_headers.specs.declared.PointKind.TheVariants as K
+use Rattle.static_objects.proofs.StaticLaws.{binaries-none, binaries-length, binaries-put}
 use Rattle.static_objects.specs.Alone.{binaries_alone}
 use Rattle.static_objects.proofs.put_binaries.Statement.{statement}
 use Rattle.static_objects.proofs.put_binaries.Tie as tie
@@ -16,7 +15,7 @@ use Rattle.static_objects.proofs.put_binaries.Tie as tie
 returns : tie.Need-returns
 returns c =
     let a = c.before.before.args in
-    let e = uniform-none (binaries_alone a.count a.ws.now) K.Binary 2 1 (binaries-uniform (binaries_alone a.count a.ws.now)) a.from a.n (omega (arith, c.if1.true)) in
+    let e = binaries-none (binaries_alone a.count a.ws.now) a.from a.n (omega (arith, c.if1.true)) in
     (omega (arith, ap length e), sym (ap (splice a.out.now a.at) e ∙ splice-nil a.out.now a.at))
 
 sub-put-heading : tie.Need-overflow-sub-put-heading
@@ -27,7 +26,7 @@ put-heading-requires c κs =
     let s = c.before.before.before in
     let a = s.args in
     let some : 0 < a.n = omega (arith, c.before.if1.false) in
-    (omega (arith, s.requires.0, uniform-length (binaries_alone a.count a.ws.now) K.Binary 2 1 (binaries-uniform (binaries_alone a.count a.ws.now)) a.from a.n some), omega (arith, s.requires.1))
+    (omega (arith, s.requires.0, binaries-length (binaries_alone a.count a.ws.now) a.from a.n some), omega (arith, s.requires.1))
 
 put-states-requires : tie.Need-put-states-requires
 put-states-requires c κs =
@@ -35,7 +34,7 @@ put-states-requires c κs =
     let s = h.before.before.before.before in
     let a = s.args in
     let some : 0 < a.n = omega (arith, h.before.before.if1.false) in
-    (omega (arith, s.requires.0, uniform-length (binaries_alone a.count a.ws.now) K.Binary 2 1 (binaries-uniform (binaries_alone a.count a.ws.now)) a.from a.n some, h.put-heading.ensures.0, h.put-heading.auto.0), s.requires.1)
+    (omega (arith, s.requires.0, binaries-length (binaries_alone a.count a.ws.now) a.from a.n some, h.put-heading.ensures.0, h.put-heading.auto.0), s.requires.1)
 
 add-result : tie.Need-overflow-add-result
 add-result c = search rules
@@ -48,8 +47,8 @@ returns-2 c =
     let h = c.before.before.before.before.before.before in
     let a = h.before.before.before.before.args in
     let some : 0 < a.n = omega (arith, h.before.before.if1.false) in (
-      omega (arith, uniform-length (binaries_alone a.count a.ws.now) K.Binary 2 1 (binaries-uniform (binaries_alone a.count a.ws.now)) a.from a.n some, h.put-heading.ensures.0),
-      uniform-put (binaries_alone a.count a.ws.now) K.Binary 2 1 (binaries-uniform (binaries_alone a.count a.ws.now)) _ _ _ _ _ _ _ some h.put-heading.ensures.0 h.put-heading.ensures.1 c.before.before.put-states.ensures,
+      omega (arith, binaries-length (binaries_alone a.count a.ws.now) a.from a.n some, h.put-heading.ensures.0),
+      binaries-put (binaries_alone a.count a.ws.now) _ _ _ _ _ _ _ some h.put-heading.ensures.0 h.put-heading.ensures.1 c.before.before.put-states.ensures,
     )
 
 pub put-binaries-spec : {M : Type 1} → statement M

@@ -3,7 +3,7 @@
 use mathlib.Core.Path.{◌∙◌}
 use native.Mathlib.Omega.{arith}
 use lib.ListN.{length-set}
-use Rattle.static_objects.proofs.StaticLaws.{length-binary, length-analog, length-counter, binary-put, analog-put, counter-put}
+use Rattle.static_objects.proofs.StaticLaws.{length-binary, length-analog, binary-put, analog-put}
 use borrow.Author.Rules.{rules}
 use Rattle.static_objects.proofs.put_point.Statement.{statement}
 use Rattle.static_objects.proofs.put_point.Tie as tie
@@ -29,21 +29,6 @@ add-put-value c = search rules
 put-value-requires : tie.Need-put-value-requires
 put-value-requires c κs = simp length-set (omega (arith, length-analog _ _ _ c.before.before.s2.given.1))
 
-enum-known-s-3 : tie.Need-enum-known-s-3
-enum-known-s-3 c = search rules
-
-slice-write-out-3 : tie.Need-slice-write-out-3
-slice-write-out-3 c = omega (arith, length-counter _ _ _ c.before.s3.given.1)
-
-add-put4 : tie.Need-overflow-add-put4
-add-put4 c = search rules
-
-put4-requires : tie.Need-put4-requires
-put4-requires c κs = simp length-set (omega (arith, length-counter _ _ _ c.before.before.s3.given.1))
-
-add-result-2 : tie.Need-overflow-add-result-2
-add-result-2 c = search rules
-
 same_length : tie.Need-same-length
 same_length c = search rules
 
@@ -56,12 +41,6 @@ same-length-2 c = c.before.before.put-value.auto.0 ∙ simp length-set
 returns-2 : tie.Need-returns-2
 returns-2 c = (omega (arith, length-analog _ _ _ c.before.before.before.before.before.s2.given.1, c.before.before.put-value.ensures.0), analog-put _ _ _ _ _ _ c.before.before.before.before.before.s2.given.1 c.before.before.put-value.ensures.1)
 
-same-length-3 : tie.Need-same-length-3
-same-length-3 c = c.before.before.put4.auto.0 ∙ simp length-set
-
-returns-3 : tie.Need-returns-3
-returns-3 c = (omega (arith, length-counter _ _ _ c.before.before.before.before.before.s3.given.1), counter-put _ _ _ _ _ _ c.before.before.before.before.before.s3.given.1 c.before.before.put4.ensures)
-
 pub put-point-spec : {M : Type 1} → statement M
 put-point-spec =
     tie.close
@@ -73,14 +52,7 @@ put-point-spec =
     slice-write-out-2
     add-put-value
     put-value-requires
-    enum-known-s-3
-    slice-write-out-3
-    add-put4
-    put4-requires
-    add-result-2
     same_length
     returns
     same-length-2
-    returns-2
-    same-length-3
-    returns-3)
+    returns-2)

@@ -3,14 +3,13 @@
 use borrow.Author.Rules.{rules}
 use mathlib.Core.Path.{refl}
 use native.Mathlib.Omega.{arith}
-use Rattle.static_objects.proofs.StaticLaws.{length-binary, binaries-uniform, Showing, shown, all_shown}
-use Rattle.read_headers.specs.declared.PointKind.TheVariants as K
+use Rattle.static_objects.proofs.StaticLaws.{length-binary, Showing, shown, all_shown}
 use Rattle.static_objects.specs.Alone.{binaries_alone}
 use Rattle.static_objects.proofs.put_states.Statement.{statement}
 use Rattle.static_objects.proofs.put_states.Tie as tie
 
 abbrev invariant-loop : tie.invariant-loop
-invariant-loop out₀ at ws count from n to₀ i₀ left₀ out to i left = Showing (binaries_alone count ws) K.Binary 2 1 (binaries-uniform (binaries_alone count ws)) out₀ at from n out to i left
+invariant-loop out₀ at ws count from n to₀ i₀ left₀ out to i left = Showing (binaries_alone count ws) out₀ at from n out to i left
 
 abbrev decreases-loop : tie.decreases-loop
 decreases-loop out₀ at ws count from n to₀ i₀ left₀ out to i left = left
@@ -43,7 +42,7 @@ loop-again c =
     let l = c.before.before.before.before.before in
     let a = l.before.before.before.args in
     let put = c.before.before.put-point in
-    shown (binaries_alone a.count a.ws.now) K.Binary 2 1 (binaries-uniform (binaries_alone a.count a.ws.now)) l.before.loop.invariant l.loop-test.true _ c.before.before.before.before.binary-shown.ensures _ _ put.ensures.0 put.ensures.1
+    shown (binaries_alone a.count a.ws.now) l.before.loop.invariant l.loop-test.true _ c.before.before.before.before.binary-shown.ensures _ _ put.ensures.0 put.ensures.1
 
 same_length : tie.Need-same-length invariant-loop decreases-loop
 same_length c = c.before.loop.invariant.long
@@ -51,7 +50,7 @@ same_length c = c.before.loop.invariant.long
 returns : tie.Need-returns invariant-loop decreases-loop
 returns c =
     let a = c.before.before.before.args in
-    all_shown (binaries_alone a.count a.ws.now) K.Binary 2 1 (binaries-uniform (binaries_alone a.count a.ws.now)) c.before.loop.invariant c.loop-test.false
+    all_shown (binaries_alone a.count a.ws.now) c.before.loop.invariant c.loop-test.false
 
 pub put-states-spec : {M : Type 1} → statement M
 put-states-spec =

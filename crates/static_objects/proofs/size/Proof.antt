@@ -4,7 +4,7 @@ use mathlib.Core.Path.{sym, ap, ◌∙◌}
 use Prim.Native.Nat.{◌+◌}
 use Rattle.points.specs.declared.Value.{Value}
 use Rattle.objects.specs.Values.{value_size}
-use Rattle.static_objects.proofs.StaticLaws.{length-binary, length-analog, length-counter}
+use Rattle.static_objects.proofs.StaticLaws.{length-binary, length-analog}
 use borrow.Author.Rules.{rules}
 use Rattle.static_objects.proofs.size.Statement.{statement}
 use Rattle.static_objects.proofs.size.Tie as tie
@@ -24,9 +24,6 @@ enum-told-3 c = search rules
 enum-told-4 : tie.Need-enum-told-4
 enum-told-4 c = search rules
 
-enum-told-5 : tie.Need-enum-told-5
-enum-told-5 c = search rules
-
 returns : tie.Need-returns
 returns c = (sym (length-binary _ _ c.enum_told.given.1), search rules)
 
@@ -39,9 +36,6 @@ returns-3 c = (sym (length-analog _ _ _ c.before.before.before.s.given.1 ∙ ap 
 returns-4 : tie.Need-returns-4
 returns-4 c = (sym (length-analog _ _ _ c.before.before.before.s.given.1 ∙ ap (λ (v : Value). 1 + value_size v) c.enum-told4.given.1), search rules)
 
-returns-5 : tie.Need-returns-5
-returns-5 c = (sym (length-counter _ _ _ c.enum-told5.given.1), search rules)
-
 pub size-spec : {M : Type 1} → statement M
 size-spec =
     tie.close
@@ -51,9 +45,7 @@ size-spec =
     enum-told-2
     enum-told-3
     enum-told-4
-    enum-told-5
     returns
     returns-2
     returns-3
-    returns-4
-    returns-5)
+    returns-4)

@@ -6,10 +6,10 @@ use Rattle.bench.proofs.class_zero.respond.Statement.{statement}
 use Rattle.bench.proofs.class_zero.respond.Tie as tie
 
 abbrev invariant-loop : tie.invariant-loop
-invariant-loop count n binaries₀ analogs counters held₀ out₀ s none sum₀ left₀ binaries held out sum left = (length out ≡ length out₀) × (fragment_max ≤ length out)
+invariant-loop count n binaries₀ analogs held₀ out₀ s none sum₀ left₀ binaries held out sum left = (length out ≡ length out₀) × (fragment_max ≤ length out)
 
 abbrev decreases-loop : tie.decreases-loop
-decreases-loop count n binaries₀ analogs counters held₀ out₀ s none sum₀ left₀ binaries held out sum left = left
+decreases-loop count n binaries₀ analogs held₀ out₀ s none sum₀ left₀ binaries held out sum left = left
 
 returns : tie.Need-returns invariant-loop decreases-loop
 returns c = tt

@@ -5,10 +5,10 @@ use Rattle.bench.proofs.event_reads.exchanges.Statement.{statement}
 use Rattle.bench.proofs.event_reads.exchanges.Tie as tie
 
 abbrev invariant-loop : tie.invariant-loop
-invariant-loop count n full binaries analogs counters₀ held₀ request₀ answer₀ objects₀ outputs ask₀ confirm₀ out₀ events sum₀ left₀ counters held request answer objects ask confirm out sum left = (length ask ≡ length ask₀) × (length confirm ≡ length confirm₀) × (length out ≡ length out₀)
+invariant-loop count n full binaries analogs held₀ request₀ answer₀ objects₀ outputs ask₀ confirm₀ out₀ events sum₀ left₀ held request answer objects ask confirm out sum left = (length ask ≡ length ask₀) × (length confirm ≡ length confirm₀) × (length out ≡ length out₀)
 
 abbrev decreases-loop : tie.decreases-loop
-decreases-loop count n full binaries analogs counters₀ held₀ request₀ answer₀ objects₀ outputs ask₀ confirm₀ out₀ events sum₀ left₀ counters held request answer objects ask confirm out sum left = left
+decreases-loop count n full binaries analogs held₀ request₀ answer₀ objects₀ outputs ask₀ confirm₀ out₀ events sum₀ left₀ held request answer objects ask confirm out sum left = left
 
 loop-holds : tie.Need-loop-init invariant-loop decreases-loop
 loop-holds c = (refl, refl, refl)

@@ -6,10 +6,10 @@ use Rattle.bench.proofs.stations.holding.Statement.{statement}
 use Rattle.bench.proofs.stations.holding.Tie as tie
 
 abbrev invariant-loop : tie.invariant-loop
-invariant-loop n binaries₀ analogs₀ counters₀ held₀ h₀ point₀ binaries analogs counters held h point = Unit {0}
+invariant-loop n binaries₀ analogs₀ held₀ h₀ point₀ binaries analogs held h point = Unit {0}
 
 abbrev decreases-loop : tie.decreases-loop
-decreases-loop n binaries₀ analogs₀ counters₀ held₀ h₀ point₀ binaries analogs counters held h point = points_max - point
+decreases-loop n binaries₀ analogs₀ held₀ h₀ point₀ binaries analogs held h point = points_max - point
 
 fresh-requires : tie.Need-fresh-requires invariant-loop decreases-loop
 fresh-requires c κs = tt

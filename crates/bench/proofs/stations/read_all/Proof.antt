@@ -5,10 +5,10 @@ use Rattle.bench.proofs.stations.read_all.Statement.{statement}
 use Rattle.bench.proofs.stations.read_all.Tie as tie
 
 abbrev invariant-loop : tie.invariant-loop
-invariant-loop count n binaries₀ analogs₀ counters₀ held₀ h₀ point₀ state₀ sum₀ left₀ binaries analogs counters held h point state sum left = left ≤ count
+invariant-loop count n binaries₀ analogs₀ held₀ h₀ point₀ state₀ sum₀ left₀ binaries analogs held h point state sum left = left ≤ count
 
 abbrev decreases-loop : tie.decreases-loop
-decreases-loop count n binaries₀ analogs₀ counters₀ held₀ h₀ point₀ state₀ sum₀ left₀ binaries analogs counters held h point state sum left = left
+decreases-loop count n binaries₀ analogs₀ held₀ h₀ point₀ state₀ sum₀ left₀ binaries analogs held h point state sum left = left
 
 loop-holds : tie.Need-loop-init invariant-loop decreases-loop
 loop-holds c = search rules

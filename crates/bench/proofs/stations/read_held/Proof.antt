@@ -5,10 +5,10 @@ use Rattle.bench.proofs.stations.read_held.Statement.{statement}
 use Rattle.bench.proofs.stations.read_held.Tie as tie
 
 abbrev invariant-loop : tie.invariant-loop
-invariant-loop count word binaries₀ analogs₀ counters₀ held₀ full sum₀ left₀ binaries analogs counters held sum left = Unit {0}
+invariant-loop count word binaries₀ analogs₀ held₀ full sum₀ left₀ binaries analogs held sum left = Unit {0}
 
 abbrev decreases-loop : tie.decreases-loop
-decreases-loop count word binaries₀ analogs₀ counters₀ held₀ full sum₀ left₀ binaries analogs counters held sum left = left
+decreases-loop count word binaries₀ analogs₀ held₀ full sum₀ left₀ binaries analogs held sum left = left
 
 loop-holds : tie.Need-loop-init invariant-loop decreases-loop
 loop-holds c = tt

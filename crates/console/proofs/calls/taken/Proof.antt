@@ -6,10 +6,10 @@ use Rattle.console.proofs.calls.taken.Statement.{statement}
 use Rattle.console.proofs.calls.taken.Tie as tie
 
 abbrev invariant-loop : tie.invariant-loop
-invariant-loop h n binaries₀ analogs₀ counters₀ held₀ readings t₀ left₀ binaries analogs counters held t left = Unit {0}
+invariant-loop h n binaries₀ analogs₀ held₀ readings t₀ left₀ binaries analogs held t left = Unit {0}
 
 abbrev decreases-loop : tie.decreases-loop
-decreases-loop h n binaries₀ analogs₀ counters₀ held₀ readings t₀ left₀ binaries analogs counters held t left = left
+decreases-loop h n binaries₀ analogs₀ held₀ readings t₀ left₀ binaries analogs held t left = left
 
 begin-table-requires : tie.Need-begin-table-requires invariant-loop decreases-loop
 begin-table-requires c κs = tt

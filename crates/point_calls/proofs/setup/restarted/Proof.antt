@@ -6,10 +6,10 @@ use Rattle.point_calls.proofs.setup.restarted.Statement.{statement}
 use Rattle.point_calls.proofs.setup.restarted.Tie as tie
 
 abbrev invariant-loop : tie.invariant-loop
-invariant-loop w classes binaries counters outputs analogs₀ s n g₀ next₀ left₀ analogs g next left = Unit {0}
+invariant-loop w classes binaries outputs analogs₀ s n g₀ next₀ left₀ analogs g next left = Unit {0}
 
 abbrev decreases-loop : tie.decreases-loop
-decreases-loop w classes binaries counters outputs analogs₀ s n g₀ next₀ left₀ analogs g next left = left
+decreases-loop w classes binaries outputs analogs₀ s n g₀ next₀ left₀ analogs g next left = left
 
 begin-restart-requires : tie.Need-begin-restart-requires invariant-loop decreases-loop
 begin-restart-requires c κs = tt

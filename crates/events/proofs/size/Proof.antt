@@ -1,0 +1,18 @@
+-- `events::size` meets its contract.
+-- Assumes nothing.
+use borrow.Author.Rules.{rules}
+use borrow.Author.Tests.{eq-eqb, ne_eqb}
+use Rattle.events.proofs.size.Statement.{statement}
+use Rattle.events.proofs.size.Tie as tie
+
+returns : tie.Need-returns
+returns c = (simp (eq-eqb _ _ c.if1.true), search rules)
+
+returns-2 : tie.Need-returns-2
+returns-2 c = (simp (ne_eqb _ _ c.before.if1.false, eq-eqb _ _ c.if2.true), search rules)
+
+returns-3 : tie.Need-returns-3
+returns-3 c = (simp (ne_eqb _ _ c.before.if1.false, ne_eqb _ _ c.if2.false), search rules)
+
+pub size-spec : {M : Type 1} → statement M
+size-spec = tie.close (tie.spec returns returns-2 returns-3)

@@ -1,2 +1,0 @@
-pub mod FreezeLaws
-pub mod Examples
