@@ -1,5 +1,7 @@
 // Analog outputs, the set points of document 02, 109: each has a kind and two allowed ends. They are kept in words that the host lends, three
 // an output, as the setup gave them.
+#![tactic(auto)]
+
 ghost use Rattle.std.specs.Prelude.{◌≡◌, ◌*◌, ◌<◌, length, get_or, set};
 ghost use Rattle.analog_outputs.specs.Output.{analog_outputs_max, within, within_float, holds16, output_ok, takes};
 ghost use Rattle.analog_outputs.specs.OutputWords.{output_of, output_given, outputs_in, no_output};

@@ -1,4 +1,6 @@
 // Application fragments: what a fragment is, the response header, and the WRITE that clears the restart indication.
+#![tactic(auto)]
+
 ghost use Rattle.std.specs.Prelude.{◌≡◌, ◌+◌, ◌-◌, ◌≤◌, ◌<◌, length};
 ghost use Rattle.octets.specs.Bytes.{splice};
 ghost use Rattle.application.specs.Fragment.{classified, fragment_of, next_of};

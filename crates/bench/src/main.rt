@@ -1,5 +1,7 @@
 // Does a named piece of work so many times on fixed input: a line `NAME COUNT`, or `NAME COUNT SIZE` with so many points or held
 // events, is answered with a checksum of the results.
+#![tactic(auto)]
+
 mod class_zero;
 mod event_reads;
 mod frames;

@@ -1,4 +1,6 @@
 // Reads call scripts from standard input and answers each call with one line on standard output.
+#![tactic(auto)]
+
 ghost use Rattle.std.specs.Prelude.{◌≡◌, ◌≤◌, length};
 
 mod calls;

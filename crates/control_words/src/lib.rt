@@ -1,5 +1,7 @@
 // The objects to be carried out as plain numbers, for a host in C: relays' and analog outputs' in an array of their own, so that neither is taken
 // for the other.
+#![tactic(auto)]
+
 ghost use Rattle.std.specs.Prelude.{◌≡◌, [], map, ◌≤◌, length, take};
 ghost use Rattle.std.proofs.Math.Option.{some};
 ghost use Rattle.laws.specs.Lists.{filter};

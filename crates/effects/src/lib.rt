@@ -1,5 +1,7 @@
 // What a request other than READ does, and whether a CONFIRM is accepted: worked out on the small part of the state that they see
 // (document 01, "What the control room is told").
+#![tactic(auto)]
+
 ghost use Rattle.std.specs.Prelude.{◌≡◌, cond, false, ◌||◌, ◌&&◌, not, ◌≤◌, length};
 ghost use Rattle.laws.specs.Limits.{fragment_max};
 ghost use Rattle.outstation.specs.Requests.{is_confirmed};

@@ -1,4 +1,6 @@
 // Events: what is held of each, and what the selection of a response does with it.
+#![tactic(auto)]
+
 ghost use Rattle.std.specs.Prelude.{◌≡◌, ◌||◌, min, ◌≤◌, eqb};
 ghost use Rattle.laws.specs.Limits.{events_max};
 ghost use Rattle.events.specs.Placing.{kind_of, object_size, is_asked, cost_of, place_event};

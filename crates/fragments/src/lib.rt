@@ -1,4 +1,6 @@
 // A fragment on a head by value and lent memory: refused, a CONFIRM, a READ, a repeat, or another request.
+#![tactic(auto)]
+
 ghost use Rattle.std.specs.Prelude.{◌≡◌, cond, true, false, [], ◌≤◌, eqb, length};
 ghost use Rattle.laws.specs.Limits.{fragment_max};
 ghost use Rattle.octets.specs.Bytes.{splice};

@@ -1,4 +1,6 @@
 // Link frames: written into lent bytes, and read back from bytes.
+#![tactic(auto)]
+
 ghost use Rattle.std.specs.Prelude.{◌≡◌, ◌+◌, ◌*◌, ◌-◌, ◌≤◌, ◌<◌, length};
 ghost use Rattle.laws.specs.Limits.{user_max};
 ghost use Rattle.laws.specs.Outcome.{number_of};

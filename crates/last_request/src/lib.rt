@@ -1,4 +1,6 @@
 // The last accepted request and its answer in bytes that the host lends: a repeat is told by them, and answered by them.
+#![tactic(auto)]
+
 ghost use Rattle.std.specs.Prelude.{◌≡◌, ◌≤◌, length};
 ghost use Rattle.octets.specs.Bytes.{splice};
 ghost use Rattle.laws.specs.Limits.{fragment_max};

@@ -1,1 +1,3 @@
 // No code: definitions and laws that every layer shares.
+
+#![tactic(auto)]

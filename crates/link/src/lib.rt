@@ -1,4 +1,6 @@
 // The station on its link: which frames it takes, what it replies, and the line record.
+#![tactic(auto)]
+
 ghost use Rattle.std.specs.Prelude.{◌≡◌, []};
 ghost use Rattle.frame.specs.Frame.{FrameWritten};
 ghost use Rattle.frame.specs.FrameOutcome.{number_of, block_of};

@@ -1,4 +1,6 @@
 // Numbers of several bytes, lowest byte first, put into and taken from bytes at an offset; byte strings copied and compared.
+#![tactic(auto)]
+
 ghost use Rattle.std.specs.Prelude.{◌≡◌, ◌+◌, ◌^◌, ◌≤◌, ◌<◌, min, length};
 ghost use Rattle.laws.specs.Lists.{same};
 ghost use Rattle.octets.specs.Bytes.{splice, le, value_at};

@@ -1,4 +1,6 @@
 // One reading against one point: scaling, reporting gates, the point's record (document 01, "Readings").
+#![tactic(auto)]
+
 ghost use Rattle.std.specs.Prelude.{◌≡◌, ◌≤◌, min, nat_abs, ◌-ℤ◌, cond};
 ghost use Rattle.std.specs.Float.Ieee.Scale.{finite};
 ghost use Rattle.points.specs.Scaling.{scale_value, limited_of, clamp_value};

@@ -1,5 +1,7 @@
 // A READ's answer from lent words: its objects are put into lent bytes behind the first four, and the events that it carries are marked in
 // place.
+#![tactic(auto)]
+
 ghost use Rattle.std.specs.Prelude.{◌≡◌, ◌||◌, List, ◌++◌, ℕ, ◌+◌, ◌≤◌, eqb, length};
 ghost use Rattle.laws.specs.Limits.{fragment_max};
 ghost use Rattle.octets.specs.Bytes.{splice};

@@ -1,4 +1,6 @@
 // One object header of a READ: what it asks for, or its fault.
+#![tactic(auto)]
+
 ghost use Rattle.std.specs.Prelude.{◌≡◌, ◌≤◌, length};
 ghost use Rattle.read_headers.specs.Headers.{object_of, points_from, range_header, point_header, class_header, front_header};
 

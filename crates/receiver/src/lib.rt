@@ -1,4 +1,6 @@
 // The receiver: pieces of any size off the wire, made into frames. What it keeps between calls is in bytes that the host lends.
+#![tactic(auto)]
+
 ghost use Rattle.std.specs.Prelude.{◌≡◌, ◌++◌, ◌+◌, ◌-◌, ◌≤◌, min, length, take, drop, eqb};
 ghost use Rattle.laws.specs.Limits.{user_max, frame_max};
 ghost use Rattle.frame.specs.FrameOutcome.{number_of};

@@ -1,6 +1,8 @@
 // Restart (document 01, "The cubicle's equipment"), step by step: a setup in numbers is tested while its fresh points and its analog outputs go
 // into the lent words; the head then says that nothing is held, awaited, kept or selected. Whoever has the setup walks its analogs: the exported call a lent slice,
 // a program in Rattle an array of its own.
+#![tactic(auto)]
+
 ghost use Rattle.std.specs.Prelude.{◌≡◌, true, [], map, ◌<◌, ◌≤◌, length, take, set};
 ghost use Rattle.laws.specs.Lists.{all};
 ghost use Rattle.laws.specs.Limits.{points_max};

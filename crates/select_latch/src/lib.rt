@@ -1,4 +1,6 @@
 // The select latch, and what a control request does to it, to the answer and to the outputs.
+#![tactic(auto)]
+
 ghost use Rattle.std.specs.Prelude.{◌≡◌, ◌≤◌, ◌<◌, length, take};
 ghost use Rattle.octets.specs.Bytes.{splice};
 ghost use Rattle.control.specs.Objects.{objects_max, echo_max, answer_max, value_size, HasObjects, list_of, Holding};

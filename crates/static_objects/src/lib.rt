@@ -1,4 +1,6 @@
 // The static part of a response for one header of a READ: its size, and its bytes, written from points in lent words into lent bytes.
+#![tactic(auto)]
+
 ghost use Rattle.std.specs.Prelude.{◌≡◌, true, false, cond, List, [], ℕ, ◌+◌, ◌*◌, ◌≤◌, ◌<◌, eqb, length};
 ghost use Rattle.octets.specs.Bytes.{splice};
 ghost use Rattle.points.specs.PointsView.{PointsView};

@@ -1,4 +1,6 @@
 // The transport function: segments taken into a fragment, and a fragment sent as segments.
+#![tactic(auto)]
+
 ghost use Rattle.std.specs.Prelude.{◌≡◌, ◌+◌, ◌-◌, ◌≤◌, ◌<◌, ◌%◌, length};
 ghost use Rattle.laws.specs.Limits.{segment_data_max, fragment_max};
 ghost use Rattle.laws.specs.Lists.{same};

@@ -1,5 +1,7 @@
 // The fields of a record in words that the host lends: signed numbers, floats and truths in 32 bits each. Any word stands for one of each,
 // so that any lent memory stands for some state.
+#![tactic(auto)]
+
 ghost use Rattle.std.specs.Prelude.{◌≡◌, ◌<◌};
 ghost use Rattle.std.specs.Float.{binary32};
 ghost use Rattle.std.specs.Float.Ieee.{of_bits};
