@@ -15,7 +15,7 @@ pub const ANALOG_OUTPUT_WORDS: usize = 3 * ANALOG_OUTPUTS_MAX;
 
 // An analog output: its kind, and the ends of the values that it takes. The ends of a 16-bit one are 32-bit numbers here, so that one which it
 // cannot hold is refused, and not cut to another.
-#[derive(Drop)]
+#[derive(Clone, Copy)]
 pub enum AnalogOutput {
     Int32 { low: i32, high: i32 },
     Int16 { low: i32, high: i32 },
@@ -24,7 +24,7 @@ pub enum AnalogOutput {
 
 // An analog output as numbers. Kind 0: 32-bit; 1: 16-bit; any other: float, its ends the bits of floats.
 #[repr(C)]
-#[derive(Drop)]
+#[derive(Clone, Copy)]
 pub struct AnalogOutputWords {
     pub low: u32,
     pub high: u32,

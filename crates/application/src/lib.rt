@@ -10,11 +10,11 @@ ghost use Rattle.application.specs.Response.{weight, is_faultless, fault_bits, i
 pub const FRAGMENT_MAX: usize = 2048;
 
 // An application sequence number, modulo 16.
-#[derive(Drop)]
+#[derive(Clone, Copy)]
 pub struct ApplicationSequence(pub u8);
 
 // What a fragment is.
-#[derive(Drop)]
+#[derive(Clone, Copy)]
 pub enum Fragment {
     // Refused, number 31.
     Malformed,
@@ -29,7 +29,7 @@ pub enum Fragment {
 }
 
 // The fault that an answer indicates.
-#[derive(Drop)]
+#[derive(Clone, Copy)]
 pub enum Fault {
     Faultless,
     FunctionUnknown,
@@ -38,7 +38,7 @@ pub enum Fault {
 }
 
 // What else the two indication bytes tell.
-#[derive(Drop)]
+#[derive(Clone, Copy)]
 pub struct Indications {
     // Events of the class are held and not in this response.
     pub class_1: bool,

@@ -14,7 +14,7 @@ use libc::{STDIN_FILENO, STDOUT_FILENO};
 pub const COUNT_MAX: u64 = 1000000000000;
 
 // The work that a line names.
-#[derive(Drop)]
+#[derive(Clone, Copy)]
 enum Work {
     Nothing,
     FrameWrite,
@@ -28,7 +28,7 @@ enum Work {
 }
 
 // The size that a work may be asked for: up to so many points or events, 0 where it has none.
-#[derive(Drop)]
+#[derive(Clone, Copy)]
 enum Extent {
     UpTo(u64),
     Unknown,

@@ -32,7 +32,7 @@ const TOLD_MAX: usize = 20000;
 const OUT_MAX: usize = 65536;
 
 // The text: its first `filled` bytes were read, and those before `from` answered.
-#[derive(Drop)]
+#[derive(Clone, Copy)]
 struct Reader {
     from: usize,
     filled: usize,
@@ -43,7 +43,7 @@ struct Reader {
 }
 
 // A line after a first look: its call, its words behind the name, and where the answer goes.
-#[derive(Drop)]
+#[derive(Clone, Copy)]
 struct Looked {
     command: Command,
     next: text::Cursor,
@@ -51,7 +51,7 @@ struct Looked {
 }
 
 // The next line of the text, or none yet.
-#[derive(Drop)]
+#[derive(Clone, Copy)]
 struct Line {
     reader: Reader,
     command: Command,
@@ -130,7 +130,7 @@ fn shift(t: &mut [u8], from: usize, n: usize) {
 }
 
 // What is left of the text, at its front, and where the next answer goes.
-#[derive(Drop)]
+#[derive(Clone, Copy)]
 struct Rest {
     filled: usize,
     skipping: bool,

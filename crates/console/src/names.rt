@@ -3,7 +3,7 @@ use line_calls::lines;
 use line_calls::lines::LineCall;
 
 // All calls. Reading: a binary (b), whole (a) or float (f) one.
-#[derive(Drop)]
+#[derive(Clone, Copy)]
 pub enum Command {
     Setup,
     Restart,

@@ -6,7 +6,7 @@ use outstation::Head;
 use restart::SetupWords;
 
 // The session, the outstation's head, and how long the line was that set it up.
-#[derive(Drop)]
+#[derive(Clone, Copy)]
 pub struct Unit {
     pub session: LineSession,
     pub head: Head,

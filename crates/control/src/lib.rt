@@ -54,7 +54,7 @@ pub const ANSWER_MAX: usize = 113;
 const ON_TIME_MAX: u32 = 60000;
 
 // The objects that a control request may have: group 12 variation 1, group 41 variations 1 to 3.
-#[derive(Drop)]
+#[derive(Clone, Copy)]
 pub enum ObjectKind {
     Crob,
     Int32,
@@ -63,7 +63,7 @@ pub enum ObjectKind {
 }
 
 // What a control relay output block asks of its relay.
-#[derive(Drop)]
+#[derive(Clone, Copy)]
 pub struct Crob {
     pub on_time: u32,
     pub off_time: u32,
@@ -72,14 +72,14 @@ pub struct Crob {
 }
 
 // What an object asks of its output: of a relay, or of an analog output the value that it is to have.
-#[derive(Drop)]
+#[derive(Clone, Copy)]
 pub enum Command {
     Crob(Crob),
     AnalogOutput(Value),
 }
 
 // One object with the index it is for. The status is the request's, as it came.
-#[derive(Drop)]
+#[derive(Clone, Copy)]
 pub struct ControlObject {
     pub index: u16,
     pub status: u8,
@@ -87,21 +87,21 @@ pub struct ControlObject {
 }
 
 // Up to OBJECTS_MAX objects, in the order asked.
-#[derive(Drop)]
+#[derive(Clone, Copy)]
 pub struct ControlObjects {
     pub items: [ControlObject; OBJECTS_MAX],
     pub count: usize,
 }
 
 // How many outputs of each kind are installed.
-#[derive(Drop)]
+#[derive(Clone, Copy)]
 pub struct OutputCounts {
     pub relays: u16,
     pub analog: u16,
 }
 
 // What the object bytes of a control request are.
-#[derive(Drop)]
+#[derive(Clone, Copy)]
 pub enum Form {
     Wrong(Fault),
     Objects {

@@ -13,7 +13,7 @@ use points::Value;
 
 // A control relay output block with its index. The status is the request's, as it came.
 #[repr(C)]
-#[derive(Drop)]
+#[derive(Clone, Copy)]
 pub struct CrobWords {
     pub on_time: u32,
     pub off_time: u32,
@@ -25,7 +25,7 @@ pub struct CrobWords {
 
 // The first `count`, in the order asked.
 #[repr(C)]
-#[derive(Drop)]
+#[derive(Clone, Copy)]
 pub struct CrobsWords {
     pub items: [CrobWords; OBJECTS_MAX],
     pub count: usize,
@@ -33,7 +33,7 @@ pub struct CrobsWords {
 
 // A value for the analog output with this index. Kind 0: 32-bit; 1: 16-bit, both the bits of an i32; 2: a float's bits.
 #[repr(C)]
-#[derive(Drop)]
+#[derive(Clone, Copy)]
 pub struct AnalogCommandWords {
     pub bits: u32,
     pub index: u16,
@@ -43,7 +43,7 @@ pub struct AnalogCommandWords {
 
 // The first `count`, in the order asked.
 #[repr(C)]
-#[derive(Drop)]
+#[derive(Clone, Copy)]
 pub struct AnalogCommandsWords {
     pub items: [AnalogCommandWords; OBJECTS_MAX],
     pub count: usize,
@@ -51,7 +51,7 @@ pub struct AnalogCommandsWords {
 
 // What is to be carried out.
 #[repr(C)]
-#[derive(Drop)]
+#[derive(Clone, Copy)]
 pub struct OperatedWords {
     pub crobs: CrobsWords,
     pub analog_commands: AnalogCommandsWords,

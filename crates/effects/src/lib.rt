@@ -15,7 +15,7 @@ use outstation::Wait;
 use select_latch::{ControlFunction, Latch};
 
 // What a CONFIRM comes to; of one that is accepted, whether its response showed IIN2.3 and whether an event was dropped since.
-#[derive(Drop)]
+#[derive(Clone, Copy)]
 pub enum Confirmation {
     Refused,
     Accepted {
@@ -25,7 +25,7 @@ pub enum Confirmation {
 }
 
 // What a request other than READ sees of the state, beside the analog outputs' words.
-#[derive(Drop)]
+#[derive(Clone, Copy)]
 pub struct RequestContext {
     pub outputs: OutputCounts,
     pub arm_time: u64,
@@ -34,7 +34,7 @@ pub struct RequestContext {
 }
 
 // What a request does beside the events, before its answer is put together.
-#[derive(Drop)]
+#[derive(Clone, Copy)]
 pub struct RequestEffect {
     pub fault: Fault,
     pub con: bool,

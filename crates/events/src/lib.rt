@@ -11,14 +11,14 @@ use points::Value;
 pub const CAPACITY: usize = 256;
 
 // What an event shows: a binary's state, or an analog's value.
-#[derive(Drop)]
+#[derive(Clone, Copy)]
 pub enum Shown {
     State(bool),
     Analog(Value),
 }
 
 // An event: its reading's time, what it shows, its point, the shown flags without the state, its point's class.
-#[derive(Drop)]
+#[derive(Clone, Copy)]
 pub struct Event {
     pub time: u64,
     pub shown: Shown,
@@ -28,14 +28,14 @@ pub struct Event {
 }
 
 // A held event; carried: it is in the response that awaits confirmation.
-#[derive(Drop)]
+#[derive(Clone, Copy)]
 pub struct Held {
     pub event: Event,
     pub carried: bool,
 }
 
 // Classes 1 to 3: those that a request asks for, or of which events are left behind.
-#[derive(Drop)]
+#[derive(Clone, Copy)]
 pub struct Classes {
     pub one: bool,
     pub two: bool,
@@ -43,7 +43,7 @@ pub struct Classes {
 }
 
 // A response as it is filled: the bytes left for events, and the kind of the last event (0: none yet).
-#[derive(Drop)]
+#[derive(Clone, Copy)]
 pub struct Space {
     pub left: usize,
     pub kind: u8,
@@ -109,7 +109,7 @@ fn cost(k: Space, kind: u8) -> usize
 }
 
 // What the selection does with an event: passes it over, stops, or carries it.
-#[derive(Drop)]
+#[derive(Clone, Copy)]
 pub enum Placement {
     Pass,
     Stop,

@@ -39,7 +39,7 @@ use point_store::{ANALOG_WORDS, BINARY_WORDS, Installed};
 use select_latch::{ControlGroup, Latch};
 
 // Why a fragment is refused.
-#[derive(Drop)]
+#[derive(Clone, Copy)]
 pub enum FragmentRefusal {
     // 1: time at or above 2^48, or before the last accepted call's.
     Time,
@@ -52,7 +52,7 @@ pub enum FragmentRefusal {
 }
 
 // What a fragment comes to.
-#[derive(Drop)]
+#[derive(Clone, Copy)]
 pub enum FragmentAnswer {
     // The answer is the first so many lent bytes.
     Answer(usize),
@@ -64,7 +64,7 @@ pub enum FragmentAnswer {
 }
 
 // The head after the call, the answer, and the objects handed to the host to be carried out, in the order asked.
-#[derive(Drop)]
+#[derive(Clone, Copy)]
 pub struct FragmentResult {
     pub head: Head,
     pub answer: FragmentAnswer,
@@ -72,7 +72,7 @@ pub struct FragmentResult {
 }
 
 // What an answer says beside its objects and the indications of the state.
-#[derive(Drop)]
+#[derive(Clone, Copy)]
 pub struct ResponseFlags {
     pub fault: Fault,
     pub con: bool,

@@ -35,7 +35,7 @@ pub const FRAME_MAX: usize = 292;
 pub const BLOCK: usize = 16;
 
 // What writing a frame answers.
-#[derive(Drop)]
+#[derive(Clone, Copy)]
 pub enum Wrote {
     // So many bytes were written.
     Size(usize),
@@ -46,7 +46,7 @@ pub enum Wrote {
 }
 
 // Why a frame is not read.
-#[derive(Drop)]
+#[derive(Clone, Copy)]
 pub enum FrameRefusal {
     // 11: under 10 bytes, or under the frame's size.
     TooShort,
@@ -63,7 +63,7 @@ pub enum FrameRefusal {
 }
 
 // What reading a frame answers.
-#[derive(Drop)]
+#[derive(Clone, Copy)]
 pub enum Read {
     // The user data is the first `len` lent bytes.
     Frame {

@@ -11,7 +11,7 @@ use application::FRAGMENT_MAX;
 use control::ANSWER_MAX;
 
 // Whether there is a last request, and how many of the lent bytes it and its answer have. An answer of no bytes: none was sent.
-#[derive(Drop)]
+#[derive(Clone, Copy)]
 pub struct LastLengths {
     pub held: bool,
     pub request_len: usize,

@@ -13,7 +13,7 @@ pub const ROOM_MAX: usize = 65536;
 pub const FILL: u8 = 0xA5;
 
 // LEN and how many bytes HEX has.
-#[derive(Drop)]
+#[derive(Clone, Copy)]
 pub struct Asked {
     pub size: usize,
     pub len: usize,
@@ -22,7 +22,7 @@ pub struct Asked {
 
 // What a call came to: the refusal's number, 0 where it has none, the block that refusal 15 carries, and how many of the lent bytes are its
 // answer.
-#[derive(Drop)]
+#[derive(Clone, Copy)]
 pub struct Outcome {
     pub refusal: u8,
     pub block: u8,

@@ -20,7 +20,7 @@ pub fn crc(w: &[u8], c: text::Cursor, bytes: &mut [u8], out: &mut [u8], at: usiz
 }
 
 // LEN CC DEST SRC, and how many bytes HEX has.
-#[derive(Drop)]
+#[derive(Clone, Copy)]
 struct FrameAt {
     size: usize,
     control: u8,

@@ -4,7 +4,7 @@ use crate::{answers, frames, pieces, segments, session, stations};
 use frame::FRAME_MAX;
 
 // The calls with LEN HEX.
-#[derive(Drop)]
+#[derive(Clone, Copy)]
 pub enum LentCall {
     Station,
     Seg,
@@ -14,7 +14,7 @@ pub enum LentCall {
 }
 
 // The calls that need no outstation, or only its addresses and segments; Nothing where none is made.
-#[derive(Drop)]
+#[derive(Clone, Copy)]
 pub enum LineCall {
     Lent(LentCall),
     Record,

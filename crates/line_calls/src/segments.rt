@@ -74,7 +74,7 @@ fn differ_past(used: usize, lent: &[u8], before: &[u8]) -> bool {
 }
 
 // Segments sent so far, and what is told of them.
-#[derive(Drop)]
+#[derive(Clone, Copy)]
 struct SentSoFar {
     sender: Sender,
     at: usize,

@@ -1,6 +1,6 @@
 // What is kept of the line from call to call.
 // What is kept of the line.
-#[derive(Drop)]
+#[derive(Clone, Copy)]
 pub struct LineSession {
     // Where the next answer goes.
     pub at: usize,

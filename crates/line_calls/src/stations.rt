@@ -6,7 +6,7 @@ use frame::FRAME_MAX;
 use link::{BLOCK_COUNTS, COUNT_MAX, LineRecord, Taken};
 
 // A count of the line record.
-#[derive(Drop)]
+#[derive(Clone, Copy)]
 struct Count {
     value: u16,
     next: text::Cursor,
@@ -22,7 +22,7 @@ fn count_of(f: &[u8], c: text::Cursor) -> Count {
 }
 
 // The counts by block.
-#[derive(Drop)]
+#[derive(Clone, Copy)]
 struct BlocksAt {
     blocks: [u16; BLOCK_COUNTS],
     next: text::Cursor,
@@ -53,7 +53,7 @@ fn blocks_after(f: &[u8], c: text::Cursor) -> BlocksAt {
     blocks_of(f, c)
 }
 
-#[derive(Drop)]
+#[derive(Clone, Copy)]
 struct RecordAt {
     record: LineRecord,
     next: text::Cursor,

@@ -24,7 +24,7 @@ ghost use Rattle.link.specs.Station.{
 
 // The addresses of the station and of its master.
 #[repr(C)]
-#[derive(Drop)]
+#[derive(Clone, Copy)]
 pub struct Station {
     pub own: u16,
     pub master: u16,
@@ -47,7 +47,7 @@ pub const USER_DATA: u8 = 0x44;
 
 // The line record, kept by the host: counts of accepted frames and of refusals 11 to 15 and 17, and of refusals 15 by their block.
 #[repr(C)]
-#[derive(Drop)]
+#[derive(Clone, Copy)]
 pub struct LineRecord {
     pub accepted: u16,
     pub short: u16,
@@ -60,7 +60,7 @@ pub struct LineRecord {
 }
 
 // What a frame that came comes to.
-#[derive(Drop)]
+#[derive(Clone, Copy)]
 pub enum Taken {
     // So many bytes of user data, in the lent bytes.
     UserData(usize),
@@ -249,7 +249,7 @@ pub fn receive(line: &mut LineRecord, st: Station, s: &[u8], out: &mut [u8]) -> 
 }
 
 // A frame taken, and the line record after it.
-#[derive(Drop)]
+#[derive(Clone, Copy)]
 pub struct FrameReceived {
     pub taken: Taken,
     pub line: LineRecord,

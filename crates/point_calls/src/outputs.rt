@@ -2,7 +2,7 @@
 use analog_outputs::{ANALOG_OUTPUTS_MAX, AnalogOutputWords};
 
 // The first `count`, those past the array not given. `fits`: each whole end is one that 32 bits hold.
-#[derive(Drop)]
+#[derive(Clone, Copy)]
 pub struct OutputsAt {
     pub items: [AnalogOutputWords; ANALOG_OUTPUTS_MAX],
     pub count: u16,
@@ -10,7 +10,7 @@ pub struct OutputsAt {
     pub next: text::Cursor,
 }
 
-#[derive(Drop)]
+#[derive(Clone, Copy)]
 struct OutputAt {
     output: AnalogOutputWords,
     fits: bool,
@@ -18,7 +18,7 @@ struct OutputAt {
 }
 
 // An end's bits.
-#[derive(Drop)]
+#[derive(Clone, Copy)]
 struct EndAt {
     bits: u32,
     fits: bool,

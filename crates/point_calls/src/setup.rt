@@ -6,7 +6,7 @@ use points::POINTS_MAX;
 use restart::{AnalogSetupWords, RestartProgress, Restarted, SetupWords};
 
 // A setup line. `fits`: each whole limit or end is one that its type holds. `first`: where the analogs begin.
-#[derive(Drop)]
+#[derive(Clone, Copy)]
 struct SetupAt {
     setup: SetupWords,
     binaries: usize,
@@ -17,27 +17,27 @@ struct SetupAt {
 }
 
 // What a setup line came to: whether it is right, what it sets up beside the points, and the refusal or the head.
-#[derive(Drop)]
+#[derive(Clone, Copy)]
 pub struct SetUp {
     pub right: bool,
     pub setup: SetupWords,
     pub restarted: Restarted,
 }
 
-#[derive(Drop)]
+#[derive(Clone, Copy)]
 struct Points {
     fits: bool,
     next: text::Cursor,
 }
 
-#[derive(Drop)]
+#[derive(Clone, Copy)]
 struct AnalogAt {
     analog: AnalogSetupWords,
     fits: bool,
     next: text::Cursor,
 }
 
-#[derive(Drop)]
+#[derive(Clone, Copy)]
 struct GateAt {
     gate: u8,
     limit: u32,
@@ -46,7 +46,7 @@ struct GateAt {
 }
 
 // A limit as its type holds it, and whether it does.
-#[derive(Drop)]
+#[derive(Clone, Copy)]
 struct Limit {
     value: u32,
     fits: bool,
@@ -216,7 +216,7 @@ fn analogs(w: &[u8], c: text::Cursor, n: usize) -> Points {
 }
 
 // OWN MASTER ARM CONFIRM
-#[derive(Drop)]
+#[derive(Clone, Copy)]
 struct Ends {
     own: u16,
     master: u16,
@@ -244,7 +244,7 @@ fn ends_of(w: &[u8], c: text::Cursor) -> Ends {
 }
 
 // NB, NA or NO.
-#[derive(Drop)]
+#[derive(Clone, Copy)]
 struct Count {
     value: u8,
     next: text::Cursor,

@@ -54,7 +54,7 @@ pub const FRESH_FLAGS: u8 = 2;
 const MAX: f32 = 3.4028235e38;
 
 // A value as a point's record and an event hold it: a 32-bit number, a 16-bit number or a float.
-#[derive(Drop)]
+#[derive(Clone, Copy)]
 pub enum Value {
     Int32(i32),
     Int16(i16),
@@ -62,14 +62,14 @@ pub enum Value {
 }
 
 // A float point's scale. Both are finite.
-#[derive(Drop)]
+#[derive(Clone, Copy)]
 pub struct Scale {
     pub gain: f32,
     pub offset: f32,
 }
 
 // A float point's reporting gate. A limit is finite and not below 0.
-#[derive(Drop)]
+#[derive(Clone, Copy)]
 pub enum FloatGate {
     Never,
     AnyChange,
@@ -78,7 +78,7 @@ pub enum FloatGate {
 }
 
 // A whole point's reporting gate.
-#[derive(Drop)]
+#[derive(Clone, Copy)]
 pub enum WholeGate {
     Never,
     AnyChange,
@@ -87,7 +87,7 @@ pub enum WholeGate {
 }
 
 // What a whole point's gate works on: readings before clamping.
-#[derive(Drop)]
+#[derive(Clone, Copy)]
 pub struct WholeGateState {
     pub gate: WholeGate,
     pub reported_value: i32,
@@ -96,7 +96,7 @@ pub struct WholeGateState {
 }
 
 // What a float point's gate works on: scaled values, an infinite one replaced.
-#[derive(Drop)]
+#[derive(Clone, Copy)]
 pub struct FloatGateState {
     pub scale: Scale,
     pub gate: FloatGate,
@@ -106,7 +106,7 @@ pub struct FloatGateState {
 }
 
 // The kind of an analog point, with what its gate works on.
-#[derive(Drop)]
+#[derive(Clone, Copy)]
 pub enum AnalogState {
     Int32(WholeGateState),
     Int16(WholeGateState),
@@ -114,7 +114,7 @@ pub enum AnalogState {
 }
 
 // A binary point's record. `flags` are the shown ones, `reported` those last reported.
-#[derive(Drop)]
+#[derive(Clone, Copy)]
 pub struct BinaryPoint {
     pub class: u8,
     pub seen: bool,
@@ -124,7 +124,7 @@ pub struct BinaryPoint {
 }
 
 // An analog point's record. `value` and `flags` are the shown ones, `reported` the flags last reported.
-#[derive(Drop)]
+#[derive(Clone, Copy)]
 pub struct AnalogPoint {
     pub class: u8,
     pub seen: bool,
@@ -145,7 +145,7 @@ pub fn installed(count: usize) -> usize
 }
 
 // Why a point does not take a reading.
-#[derive(Drop)]
+#[derive(Clone, Copy)]
 pub enum ReadingRefusal {
     // 2: no such point of that kind.
     OtherKind,
@@ -156,14 +156,14 @@ pub enum ReadingRefusal {
 }
 
 // What a binary reading comes to: the point's new record and whether an event is raised, or a refusal.
-#[derive(Drop)]
+#[derive(Clone, Copy)]
 pub enum BinaryTaken {
     Taken(BinaryPoint, bool),
     Refused(ReadingRefusal),
 }
 
 // What an analog reading comes to: the point's new record and whether an event is raised, or a refusal.
-#[derive(Drop)]
+#[derive(Clone, Copy)]
 pub enum AnalogTaken {
     Taken(AnalogPoint, bool),
     Refused(ReadingRefusal),
@@ -181,41 +181,41 @@ pub fn refusal_number(why: ReadingRefusal) -> u8
 }
 
 // The kind of an analog point as a setup gives it.
-#[derive(Drop)]
+#[derive(Clone, Copy)]
 pub enum AnalogKind {
     Int32(WholeGate),
     Int16(WholeGate),
     Float32(FloatGate, Scale),
 }
 
-#[derive(Drop)]
+#[derive(Clone, Copy)]
 pub struct AnalogSetup {
     pub class: u8,
     pub kind: AnalogKind,
 }
 
 // A scaled value, and whether it is shown with over-range.
-#[derive(Drop)]
+#[derive(Clone, Copy)]
 pub struct Scaled {
     pub value: f32,
     pub over: bool,
 }
 
 // A clamped value, and whether it is shown with over-range.
-#[derive(Drop)]
+#[derive(Clone, Copy)]
 pub struct Clamped {
     pub value: i16,
     pub over: bool,
 }
 
 // Whether the gate passes, and the sum after this reading.
-#[derive(Drop)]
+#[derive(Clone, Copy)]
 pub struct FloatGated {
     pub pass: bool,
     pub sum: f32,
 }
 
-#[derive(Drop)]
+#[derive(Clone, Copy)]
 pub struct WholeGated {
     pub pass: bool,
     pub sum: u32,

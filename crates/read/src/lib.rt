@@ -24,14 +24,14 @@ use read_headers::{Front, HEADERS_MAX};
 const RESPONSE_OBJECTS_MAX: usize = FRAGMENT_MAX - 4;
 
 // Whether the READ is faultless or what its fault is, and the size of the response.
-#[derive(Drop)]
+#[derive(Clone, Copy)]
 pub struct Reply {
     pub fault: Fault,
     pub size: usize,
 }
 
 // What is known of a READ before it is answered: its fault, or the bytes of its static part and its event classes.
-#[derive(Drop)]
+#[derive(Clone, Copy)]
 struct ReadRequest {
     fault: Fault,
     size: usize,

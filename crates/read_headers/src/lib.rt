@@ -10,7 +10,7 @@ use application::Fault;
 pub const HEADERS_MAX: usize = 16;
 
 // What a header asks for: events of a class 1 to 3 (0: none), and so many binaries and analogs from a first one on.
-#[derive(Drop)]
+#[derive(Clone, Copy)]
 pub struct Header {
     pub class: u8,
     pub binary: u16,
@@ -20,7 +20,7 @@ pub struct Header {
 }
 
 // What a group and a variation name: 60 var 1 to 4, 1 var 0 or 2, 30 var 0, or nothing that a READ may ask for.
-#[derive(Drop)]
+#[derive(Clone, Copy)]
 pub enum Object {
     Class(u8),
     Binary,
@@ -29,7 +29,7 @@ pub enum Object {
 }
 
 // What stands at the front of the bytes: a header and its size, or its fault.
-#[derive(Drop)]
+#[derive(Clone, Copy)]
 pub enum Front {
     Asked(Header, usize),
     Faulty(Fault),

@@ -30,7 +30,7 @@ const HEADER: usize = 10;
 pub const KEPT_MAX: usize = 291;
 
 // What a piece comes to.
-#[derive(Drop)]
+#[derive(Clone, Copy)]
 pub enum PieceAnswer {
     // The piece is used up, and nothing is decided.
     Waiting,
@@ -39,7 +39,7 @@ pub enum PieceAnswer {
 }
 
 // How many bytes of the piece were taken, up to the one that decided, and how many are kept, the first of the lent memory.
-#[derive(Drop)]
+#[derive(Clone, Copy)]
 pub struct Reception {
     pub answer: PieceAnswer,
     pub taken: usize,

@@ -29,7 +29,7 @@ pub const CONFIRM_TIME_MAX: u32 = 60000;
 
 // What is set up beside the inputs. Of the analog outputs the first `analog_output_count` count.
 #[repr(C)]
-#[derive(Drop)]
+#[derive(Clone, Copy)]
 pub struct SetupWords {
     pub arm_time: u32,
     pub confirm_time: u32,
@@ -43,7 +43,7 @@ pub struct SetupWords {
 // An analog input. Kind 0: a 32-bit point; 1: a 16-bit point; any other: a float point, with a gain and an offset, the bits of floats. Gate 0: never;
 // 1: any change; 2: beyond the limit; any other: summed beyond it. The limit of a float point is a float's bits.
 #[repr(C)]
-#[derive(Drop)]
+#[derive(Clone, Copy)]
 pub struct AnalogSetupWords {
     pub limit: u32,
     pub gain: u32,
@@ -55,14 +55,14 @@ pub struct AnalogSetupWords {
 
 // Refusal 5: setup breaks a limit. The head then has no points and no outputs.
 #[repr(C)]
-#[derive(Drop)]
+#[derive(Clone, Copy)]
 pub struct Restarted {
     pub head: Head,
     pub refusal: u8,
 }
 
 // How many analogs are stored, and the refusal that stopped the setup, 0 where none did.
-#[derive(Drop)]
+#[derive(Clone, Copy)]
 pub struct RestartProgress {
     pub at: usize,
     pub refusal: u8,

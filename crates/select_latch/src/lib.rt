@@ -28,7 +28,7 @@ use application::{ApplicationSequence, Fault};
 use control::{ControlObjects, ECHO_MAX, Form, OBJECTS_MAX, ObjectKind, OutputCounts};
 
 // The functions 3 to 6.
-#[derive(Drop)]
+#[derive(Clone, Copy)]
 pub enum ControlFunction {
     Select,
     Operate,
@@ -37,14 +37,14 @@ pub enum ControlFunction {
 }
 
 // What a latch is armed for: relays, group 12, or analog outputs, group 41.
-#[derive(Drop)]
+#[derive(Clone, Copy)]
 pub enum ControlGroup {
     Crob,
     AnalogOutput,
 }
 
 // Empty, or armed for a group with a SELECT's sequence, time and object bytes.
-#[derive(Drop)]
+#[derive(Clone, Copy)]
 pub struct Latch {
     pub armed: bool,
     pub group: ControlGroup,
@@ -55,7 +55,7 @@ pub struct Latch {
 }
 
 // What a control request does. The echo of so many bytes is in the lent bytes from 4.
-#[derive(Drop)]
+#[derive(Clone, Copy)]
 pub struct Controlled {
     pub fault: Fault,
     pub len: usize,

@@ -23,7 +23,7 @@ use points::Value;
 use read_headers::Header;
 
 // What a point shows: a binary's flags with its state, or an analog's flags and value.
-#[derive(Drop)]
+#[derive(Clone, Copy)]
 enum ShownPoint {
     Binary(u8),
     Analog(u8, Value),

@@ -22,7 +22,7 @@ ghost use Rattle.text.specs.Words.{
 // ---- words of a line
 
 // Where the next word begins, whether there is one, and whether all words so far were right.
-#[derive(Drop)]
+#[derive(Clone, Copy)]
 pub struct Cursor {
     pub at: usize,
     pub more: bool,
@@ -30,7 +30,7 @@ pub struct Cursor {
 }
 
 // A word's place in the line, and the cursor past it.
-#[derive(Drop)]
+#[derive(Clone, Copy)]
 pub struct Place {
     pub from: usize,
     pub to: usize,
@@ -116,7 +116,7 @@ pub fn word(s: &[u8], c: Cursor, mark: u8) -> Place
 // ---- numbers
 
 // What a word says: a number, or none.
-#[derive(Drop)]
+#[derive(Clone, Copy)]
 pub struct Whole {
     pub ok: bool,
     pub value: u64,
@@ -191,7 +191,7 @@ pub fn decimal_of(w: &[u8], limit: u64) -> Whole
 }
 
 // What a word says: a signed number, by its sign and its size, or none.
-#[derive(Drop)]
+#[derive(Clone, Copy)]
 pub struct Signed {
     pub ok: bool,
     pub negative: bool,
@@ -298,7 +298,7 @@ fn nibble(b: u8) -> u8
 }
 
 // What a word says: so many bytes, or none.
-#[derive(Drop)]
+#[derive(Clone, Copy)]
 pub struct Hex {
     pub ok: bool,
     pub len: usize,
@@ -364,7 +364,7 @@ pub fn put_byte(out: &mut [u8], at: usize, b: u8) -> usize
 // ---- words of each kind, read at a cursor
 
 // A number, and the cursor past it.
-#[derive(Drop)]
+#[derive(Clone, Copy)]
 pub struct Number {
     pub value: u64,
     pub next: Cursor,
@@ -385,7 +385,7 @@ pub fn take_number(s: &[u8], c: Cursor, mark: u8, limit: u64) -> Number
 }
 
 // A whole reading, and the cursor past it.
-#[derive(Drop)]
+#[derive(Clone, Copy)]
 pub struct Whole32 {
     pub value: i32,
     pub next: Cursor,
@@ -420,7 +420,7 @@ pub fn take_reading(s: &[u8], c: Cursor, mark: u8) -> Whole32 {
 }
 
 // A whole limit, and the cursor past it.
-#[derive(Drop)]
+#[derive(Clone, Copy)]
 pub struct Run {
     pub len: usize,
     pub next: Cursor,
@@ -452,7 +452,7 @@ pub fn none(w: &[u8]) -> bool {
 }
 
 // A byte, and the cursor past it.
-#[derive(Drop)]
+#[derive(Clone, Copy)]
 pub struct Control {
     pub value: u8,
     pub next: Cursor,
@@ -472,7 +472,7 @@ pub fn take_control(s: &[u8], c: Cursor) -> Control {
 }
 
 // A float, and the cursor past it.
-#[derive(Drop)]
+#[derive(Clone, Copy)]
 pub struct Real {
     pub value: f32,
     pub next: Cursor,

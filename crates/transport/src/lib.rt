@@ -37,12 +37,12 @@ pub const SEGMENT_MAX: usize = 250;
 pub const FRAGMENT_MAX: usize = 2048;
 
 // A transport sequence number, modulo 64: a type of its own, so that it is not mixed with an application sequence.
-#[derive(Drop)]
+#[derive(Clone, Copy)]
 pub struct TransportSequence(pub u8);
 
 // What is kept between segments: whether a fragment is begun; of the last segment taken its sequence, whether it had FIR, and how many bytes of data;
 // and how many bytes the fragment has so far, the first of the lent bytes.
-#[derive(Drop)]
+#[derive(Clone, Copy)]
 pub struct Assembly {
     pub begun: bool,
     pub last: TransportSequence,
@@ -52,7 +52,7 @@ pub struct Assembly {
 }
 
 // What taking a segment answers.
-#[derive(Drop)]
+#[derive(Clone, Copy)]
 pub enum Received {
     // The fragment goes on.
     More,
@@ -82,14 +82,14 @@ pub fn received_number(x: Received) -> u8
     }
 }
 
-#[derive(Drop)]
+#[derive(Clone, Copy)]
 pub struct Reception {
     pub answer: Received,
     pub assembly: Assembly,
 }
 
 // Where a segment's data goes in the fragment; the last segment heard twice goes nowhere.
-#[derive(Drop)]
+#[derive(Clone, Copy)]
 pub enum DataPlace {
     Behind(usize),
     Ignored,
@@ -224,14 +224,14 @@ pub fn receive(a: Assembly, segment: &[u8], out: &mut [u8]) -> Reception
 }
 
 // What is kept between segments sent: the next sequence, and how many bytes of the fragment were sent.
-#[derive(Drop)]
+#[derive(Clone, Copy)]
 pub struct Sender {
     pub next: TransportSequence,
     pub at: usize,
 }
 
 // What writing a segment answers.
-#[derive(Drop)]
+#[derive(Clone, Copy)]
 pub enum Sent {
     // So many bytes were written, and whether they are the fragment's last segment.
     Segment { size: usize, last: bool },
@@ -252,7 +252,7 @@ pub fn sent_number(x: Sent) -> u8
     }
 }
 
-#[derive(Drop)]
+#[derive(Clone, Copy)]
 pub struct Sending {
     pub answer: Sent,
     pub sender: Sender,
