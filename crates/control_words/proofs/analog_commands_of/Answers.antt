@@ -1,0 +1,87 @@
+use mathlib.Core.Path.{◌≡◌, refl, sym, ap, ◌∙◌}
+use mathlib.Core.Bool.{not}
+use mathlib.Core.Option.{some}
+use mathlib.Core.List.{List, ◌++◌, map}
+use Prim.Native.Nat.{◌+◌, ◌-◌}
+use native.Mathlib.Omega.{arith}
+use borrow.Author.Rules.{rules}
+use lib.ListN.{length, get_or, take, length-set}
+use Rattle.laws.specs.Lists.{filter}
+use Rattle.laws.proofs.Loops.{length-mapped}
+use Rattle.laws.proofs.Filling.{finished, clamped}
+use Rattle.control.specs.declared.Command.{Command}
+use Rattle.control.specs.declared.ControlObject.{ControlObject}
+use Rattle.control.specs.Objects.{for_crob, is_analog_output, no_object, list_of}
+use Rattle.control_words.specs.Operated.{analog_object}
+use Rattle.control_words.proofs.WordsLaws.{filter-yes, filter-no, filter-end, taken_more, taken-count, taken-map}
+use Rattle.control_words.proofs.analog_commands_of.Goals as goal
+
+pub loop-i-init : goal.loop-i-init
+loop-i-init c = (refl, search (length-mapped, rules), omega arith, omega arith)
+
+pub offset_bounds-cs-i : goal.offset_bounds-cs-i
+offset_bounds-cs-i c = let n = c.least-n.ensures in omega (arith, n)
+
+pub bounds-cs-i : goal.bounds-cs-i
+bounds-cs-i c =
+    let a = c.args in
+    let h : length a.t1.items ≡ 8 = search (length-mapped, rules) in
+    let n = c.least-n.ensures in
+    omega (arith, h, n)
+
+pub overflow_add-i : goal.overflow_add-i
+overflow_add-i c = let n = c.least-n.ensures in omega (arith, n)
+
+pub offset_bounds-next-j : goal.offset_bounds-next-j
+offset_bounds-next-j c = let n = c.least-n.ensures in omega (arith, n)
+
+pub bounds-next-j : goal.bounds-next-j
+bounds-next-j c = let n = c.least-n.ensures in omega (arith, n)
+
+pub overflow_add-j : goal.overflow_add-j
+overflow_add-j c = let n = c.least-n.ensures in omega (arith, n)
+
+pub loop-i-preserved-in-AnalogOutput : goal.loop-i-preserved-in-AnalogOutput
+loop-i-preserved-in-AnalogOutput c =
+    let n = c.least-n.result in
+    let few = c.least-n.ensures in
+    let a = c.args in
+    let h : length a.t1.items ≡ 8 = search (length-mapped, rules) in
+    let told = c.in-AnalogOutput.is in
+    let x : ControlObject = get_or a.t1.items c.loop-i.i no_object in (
+      taken_more analog_object c.loop-i.next.items c.loop-i.j c.analog_words.result (some x) _ _ (omega (arith, few))
+          (c.analog_words.ensures ∙ (λ k. some (record { index = x.index; status = x.status; command = sym told k })))
+          (ap (map some) (filter-yes is_analog_output a.t1.items n c.loop-i.i (omega arith) (omega (arith, h, few)) (ap (λ (k : Command). not (for_crob k)) told)))
+          ∙ c.loop-i.invariant.0,
+      simp length-set (omega arith),
+      omega arith,
+      omega arith,
+    )
+
+pub loop-i-preserved : goal.loop-i-preserved
+loop-i-preserved c =
+    let n = c.least-n.result in
+    let few = c.least-n.ensures in
+    let a = c.args in
+    let h : length a.t1.items ≡ 8 = search (length-mapped, rules) in (
+      ap (λ (x : List ControlObject). take c.loop-i.j (map analog_object c.loop-i.next.items) ++ map some x)
+          (filter-no is_analog_output a.t1.items n c.loop-i.i (omega arith) (omega (arith, h, few)) (ap (λ (k : Command). not (for_crob k)) c.in_default.is))
+          ∙ c.loop-i.invariant.0,
+      c.loop-i.invariant.1,
+      omega arith,
+      omega arith,
+    )
+
+pub returns : goal.returns
+unfolding list_of
+returns c =
+    let n = c.least-n.result in
+    let few = c.least-n.ensures in
+    let a = c.args in
+    let h : length a.t1.items ≡ 8 = search (length-mapped, rules) in
+    let whole =
+    taken-map analog_object c.loop-i.next.items c.loop-i.j
+    ∙ finished (take c.loop-i.j (map analog_object c.loop-i.next.items)) _ _
+    (ap (map some) (filter-end is_analog_output a.t1.items n c.loop-i.i (omega arith) (omega arith))) c.loop-i.invariant.0
+    ∙ ap (λ (x : List ControlObject). map some (filter is_analog_output x)) (clamped a.t1.items 8 a.t1.count n h few) in
+    record { objects = whole; count = taken-count analog_object c.loop-i.next.items c.loop-i.j some (filter is_analog_output (list_of a.t1)) (omega (arith, few)) whole }

@@ -1,0 +1,18 @@
+-- `control_words::crobs_of` meets its contract. The invariant: the objects taken, followed by those to be taken of what is left, are the whole.
+-- Assumes nothing.
+use mathlib.Core.Path.{◌≡◌, ap}
+use mathlib.Core.List.{◌++◌, map}
+use Prim.Native.Nat.{◌≤◌, ◌+◌, ◌-◌}
+use lib.ListN.{length, take, drop}
+use Rattle.laws.specs.Lists.{filter}
+use Rattle.control.specs.Objects.{is_crob}
+use Rattle.control_words.specs.Operated.{crob_object}
+use Rattle.control_words.proofs.crobs_of.Given as goal
+
+abbrev pub invariant-loop-i : goal.invariant-loop-i
+invariant-loop-i l =
+    (take l.j (map crob_object l.next.items) ++ filter is_crob (drop l.i (take l.n l.cs.items)) ≡ filter is_crob (take l.n l.cs.items)) × (length l.next.items ≡ 8)
+    × (l.j ≤ l.i) × (l.i ≤ l.n)
+
+abbrev pub decreases-loop-i : goal.decreases-loop-i
+decreases-loop-i l = l.n - l.i

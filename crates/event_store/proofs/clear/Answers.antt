@@ -1,0 +1,15 @@
+use mathlib.Core.Path.{refl}
+use native.Mathlib.Omega.{arith}
+use Rattle.event_store.proofs.LentLaws.{lent-start, lent-rewritten, clears}
+use mathlib.Core.Bool.{false}
+use Prim.Native.Nat.{◌-◌}
+use Rattle.event_store.proofs.clear.Goals as goal
+
+pub loop-i-init : goal.loop-i-init
+loop-i-init c = lent-start _ _ _ c.held_length.ensures
+
+pub loop-i-preserved : goal.loop-i-preserved
+loop-i-preserved c = clears _ _ _ _ (omega (arith, c.filled-n.ensures)) c.loop-i-test.true c.loop-i.invariant
+
+pub returns : goal.returns
+returns c = lent-rewritten _ _ _ _ _ _ c.args.status c.filled-n.ensures c.loop-i-test.false refl c.loop-i.invariant

@@ -1,0 +1,30 @@
+-- `fragments::answer_read` meets its contract.
+-- Assumes nothing.
+use mathlib.Core.List.{List}
+use mathlib.Core.Path.{subst, ◌∙◌}
+use Prim.Native.Nat.{ℕ}
+use Rattle.laws.proofs.Filling.{to_end}
+use Rattle.point_store.specs.PointWords.{points_view_in}
+use Rattle.event_store.specs.EventWords.{buffer_view_in}
+use Rattle.read.specs.Response.{RepliedAs}
+use Rattle.outstation.specs.Lent.{installed_of}
+use Rattle.fragments.proofs.PartLaws.{read-in}
+use Rattle.fragments.proofs.answer_read.Goals as goal
+
+pub shape_of-out : goal.shape_of-out
+shape_of-out c =
+    c.put_response_header.auto.0 ∙ c.respond-reply.auto.0
+
+pub returns : goal.returns
+returns c =
+    let a = c.args in
+    let re = c.respond-reply in
+    let t = c.buffer_status-t in
+    let rs = c.con_by-con in
+    let g =
+    subst (λ (x : List ℕ). RepliedAs (points_view_in (installed_of a.h) a.binaries.now a.analogs.now) x (buffer_view_in a.held.now t.result) a.out.now re.result (buffer_view_in re.new.1.1.1.1.1.0 t.result) re.new.0)
+    (to_end a.f.now 2) re.ensures in
+    read-in a.h a.binaries.now a.analogs.now a.held.now a.request.now a.answer.now a.q.0 a.time a.f.now _ _ _ re.result a.out.now _ _ _ _
+    c.remember-kept.result c.after_read-next.result c.none-none.result c.none-none.ensures c.after_read-next.ensures c.remember-kept.ensures
+    c.requires.1 c.requires.2 t.result _ t.ensures c.truth.ensures g rs.ensures c.any_carried.ensures
+    c.put_response_header.ensures

@@ -1,0 +1,88 @@
+-- `fragments::fragment` meets its contract.
+-- Assumes nothing.
+use mathlib.Core.Path.{◌≡◌, sym, ◌∙◌}
+use mathlib.Core.Bool.{false}
+use borrow.Author.Tests.{lt-ltb, le-ltb}
+use lib.Dec.{ltb}
+use lib.ListN.{length}
+use Rattle.laws.specs.Limits.{fragment_max}
+use Rattle.outstation.specs.Readings.{bad_time}
+use Rattle.outstation.specs.OutstationView.{OutstationView}
+use Rattle.fragments.specs.declared.FragmentRefusal.TheVariants as R
+use Rattle.fragments.proofs.AskLaws.{request-sized, fragment-late, fragment-small, fragment-malformed, fragment-confirm, fragment-request}
+use Rattle.outstation.specs.Lent.{Lent, Outstation, view_of}
+use Rattle.fragments.specs.FragmentMeets.{FragmentMeets, answered_by}
+use Rattle.fragments.proofs.PartLaws.{given-in, refused-in}
+use Rattle.fragments.proofs.fragment.Goals as goal
+use Rattle.fragments.proofs.fragment.Goals.{After-classify-kind, Start}
+
+-- the memory and the state at entry
+abbrev mem : Start → Lent
+mem s =
+    let a = s.args in
+    record { binaries = a.binaries.now; analogs = a.analogs.now; held = a.held.now; request = a.request.now; answer = a.answer.now; objects = a.objects.now; outputs = a.outputs.now }
+
+abbrev unit : Start → Outstation
+unit s = record { head = s.args.h; lent = mem s }
+
+abbrev was : Start → OutstationView
+was s = view_of s.args.h (mem s)
+
+-- a fragment that is classified is in time and has room for its answer
+module _ (c : After-classify-kind) where
+  abbrev start : Start
+  start = c.before.before.before.before.before.before
+
+  in-time : bad_time start.args.h.clock start.args.time ≡ false
+  in-time = sym c.before.before.before.bad-time.ensures ∙ c.before.before.if1.false
+
+  roomy : ltb (length start.args.out.now) fragment_max ≡ false
+  roomy = le-ltb _ _ c.before.if2.false
+
+pub returns-then-bad_time : goal.returns-then-bad_time
+returns-then-bad_time c =
+    let a = c.args in
+    fragment-late (was (goal.at.returns-then-bad_time c).Start) a.time a.f.now (length a.out.now) (FragmentMeets (unit (goal.at.returns-then-bad_time c).Start) (answered_by c.refuse.result (mem (goal.at.returns-then-bad_time c).Start)) a.out.now a.out.now)
+    (sym c.bad_time.ensures ∙ c.if-bad_time.true)
+    (given-in a.h (mem (goal.at.returns-then-bad_time c).Start) (mem (goal.at.returns-then-bad_time c).Start) c.refuse.result a.out.now a.out.now _
+    (refused-in c.refuse.result a.h R.Time c.refuse.ensures.0 c.refuse.ensures.1 c.refuse.ensures.2 (mem (goal.at.returns-then-bad_time c).Start) a.out.now))
+
+pub returns-then-out-lt-FRAGMENT_MAX : goal.returns-then-out-lt-FRAGMENT_MAX
+returns-then-out-lt-FRAGMENT_MAX c =
+    let a = c.args in
+    fragment-small (was (goal.at.returns-then-out-lt-FRAGMENT_MAX c).Start) a.time a.f.now (length a.out.now) (FragmentMeets (unit (goal.at.returns-then-out-lt-FRAGMENT_MAX c).Start) (answered_by c.refuse-then-out-lt-FRAGMENT_MAX.result (mem (goal.at.returns-then-out-lt-FRAGMENT_MAX c).Start)) a.out.now a.out.now)
+    (sym c.bad_time.ensures ∙ c.if-bad_time.false) (lt-ltb _ _ c.if-out-lt-FRAGMENT_MAX.true)
+    (given-in a.h (mem (goal.at.returns-then-out-lt-FRAGMENT_MAX c).Start) (mem (goal.at.returns-then-out-lt-FRAGMENT_MAX c).Start) c.refuse-then-out-lt-FRAGMENT_MAX.result a.out.now a.out.now _
+    (refused-in c.refuse-then-out-lt-FRAGMENT_MAX.result a.h R.OutputTooSmall c.refuse-then-out-lt-FRAGMENT_MAX.ensures.0 c.refuse-then-out-lt-FRAGMENT_MAX.ensures.1 c.refuse-then-out-lt-FRAGMENT_MAX.ensures.2 (mem (goal.at.returns-then-out-lt-FRAGMENT_MAX c).Start) a.out.now))
+
+pub take_request-requires : goal.take_request-requires
+take_request-requires c =
+    let g = c.kind-in-Request-1.given in
+    let z = request-sized (start (goal.at.take_request-requires c).After-classify-kind).args.f.now c.classify-kind.result g.0.0 g.0.1.0 c.classify-kind.ensures g.1 in
+    (z.0, z.1, c.if-out-lt-FRAGMENT_MAX.false)
+
+pub returns-in-Malformed : goal.returns-in-Malformed
+returns-in-Malformed c =
+    let s = start (goal.at.returns-in-Malformed c).After-classify-kind in
+    let a = s.args in
+    fragment-malformed (was s) a.time a.f.now (length a.out.now) (FragmentMeets (unit s) (answered_by c.refuse-in-Malformed.result (mem s)) a.out.now a.out.now)
+    (in-time (goal.at.returns-in-Malformed c).After-classify-kind) (roomy (goal.at.returns-in-Malformed c).After-classify-kind) c.classify-kind.result c.classify-kind.ensures c.in-Malformed.is
+    (given-in a.h (mem s) (mem s) c.refuse-in-Malformed.result a.out.now a.out.now _
+    (refused-in c.refuse-in-Malformed.result a.h R.Malformed c.refuse-in-Malformed.ensures.0 c.refuse-in-Malformed.ensures.1 c.refuse-in-Malformed.ensures.2 (mem s) a.out.now))
+
+pub returns-in-Confirm : goal.returns-in-Confirm
+returns-in-Confirm c =
+    let s = start (goal.at.returns-in-Confirm c).After-classify-kind in
+    let a = s.args in
+    let g = c.kind-1.given in
+    fragment-confirm (was s) a.time a.f.now (length a.out.now) (FragmentMeets (unit s) (answered_by c.take_confirm.result _) a.out.now a.out.now)
+    (in-time (goal.at.returns-in-Confirm c).After-classify-kind) (roomy (goal.at.returns-in-Confirm c).After-classify-kind) c.classify-kind.result c.classify-kind.ensures g.0.0 g.0.1.0 g.1 (given-in a.h (mem s) _ c.take_confirm.result a.out.now a.out.now _ (c.take_confirm.ensures (mem s) a.out.now))
+
+pub returns-in-Request : goal.returns-in-Request
+returns-in-Request c =
+    let s = start (goal.at.returns-in-Request c).After-classify-kind in
+    let a = s.args in
+    let g = c.kind-in-Request-1.given in
+    let r = c.take_request in
+    fragment-request (was s) a.time a.f.now (length a.out.now) (FragmentMeets (unit s) (answered_by r.result _) a.out.now _)
+    (in-time (goal.at.returns-in-Request c).After-classify-kind) (roomy (goal.at.returns-in-Request c).After-classify-kind) c.classify-kind.result c.classify-kind.ensures g.0.0 g.0.1.0 g.1 (given-in a.h (mem s) _ r.result a.out.now _ _ r.ensures)

@@ -1,0 +1,56 @@
+-- `fragments::take_request` meets its contract.
+-- Assumes nothing.
+use mathlib.Core.Path.{sym, ap, ◌∙◌}
+use borrow.Author.Tests.{eq-eqb, ne_eqb}
+use Rattle.outstation.specs.OutstationView.{OutstationView}
+use Rattle.last_request.specs.Repeat.{is_repeat, last_in}
+use Rattle.fragments.proofs.AnswerLaws.{by_read, by-repeat, by-other}
+use Rattle.last_request.specs.declared.LastLengths.{LastLengths}
+use Rattle.outstation.specs.Lent.{Lent, view_of}
+use Rattle.fragments.specs.FragmentMeets.{PartMeets}
+use Rattle.fragments.proofs.take_request.Goals as goal
+use Rattle.fragments.proofs.take_request.Goals.{Start}
+
+-- the memory and the state at entry
+abbrev mem : Start → Lent
+mem s =
+    let a = s.args in
+    record { binaries = a.binaries.now; analogs = a.analogs.now; held = a.held.now; request = a.request.now; answer = a.answer.now; objects = a.objects.now; outputs = a.outputs.now }
+
+abbrev was : Start → OutstationView
+was s = view_of s.args.h (mem s)
+
+pub answer_read-requires : goal.answer_read-requires
+answer_read-requires c =
+    c.requires
+
+pub returns-then-function-eq1 : goal.returns-then-function-eq1
+returns-then-function-eq1 c =
+    let a = c.args in
+    let r = c.answer_read in
+    by_read (was (goal.at.returns-then-function-eq1 c).Start) a.q.0 a.function a.time a.f.now (PartMeets a.h r.result _ a.out.now _) (eq-eqb _ _ c.if-function-eq1.true) (r.ensures a.objects.now a.outputs.now)
+
+pub is_repeat-requires : goal.is_repeat-requires
+is_repeat-requires c = c.requires.0
+
+pub repeat_request-requires : goal.repeat_request-requires
+repeat_request-requires c =
+    c.requires.2
+
+pub returns-then-is_repeat : goal.returns-then-is_repeat
+returns-then-is_repeat c =
+    let a = c.args in
+    let r = c.repeat_request in
+    by-repeat (was (goal.at.returns-then-is_repeat c).Start) a.q.0 a.function a.time a.f.now (PartMeets a.h r.result _ a.out.now _) (ne_eqb _ _ c.if-function-eq1.false)
+    (sym (c.is_repeat.ensures ∙ ap (λ (k : LastLengths). is_repeat (last_in a.request.now a.answer.now k) a.f.now) c.last_of.ensures) ∙ c.if-is_repeat.true) (r.ensures (mem (goal.at.returns-then-is_repeat c).Start))
+
+pub answer_request-requires : goal.answer_request-requires
+answer_request-requires c =
+    c.requires
+
+pub returns : goal.returns
+returns c =
+    let a = c.args in
+    let r = c.answer_request in
+    by-other (was (goal.at.returns c).Start) a.q.0 a.function a.time a.f.now (PartMeets a.h r.result _ a.out.now _) (ne_eqb _ _ c.if-function-eq1.false)
+    (sym (c.is_repeat.ensures ∙ ap (λ (k : LastLengths). is_repeat (last_in a.request.now a.answer.now k) a.f.now) c.last_of.ensures) ∙ c.if-is_repeat.false) (r.ensures a.binaries.now a.analogs.now)

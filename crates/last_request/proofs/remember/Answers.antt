@@ -1,0 +1,18 @@
+-- `last_request::remember` meets its contract. Assumes nothing.
+use Rattle.last_request.specs.Repeat.{kept, last_in}
+use Rattle.octets.proofs.Splice.{stored-splice}
+use lib.ListN.{length, take}
+use mathlib.Core.Path.{refl, ap, ap₂, ◌∙◌}
+use native.Mathlib.Omega.{arith}
+use Rattle.last_request.proofs.remember.Goals as goal
+
+pub returns : goal.returns
+unfolding last_in
+returns c =
+    let a = c.args in (
+      ap₂ kept
+          (ap (take (length a.f.now)) c.copy.ensures ∙ stored-splice _ 0 a.f.now (let g = c.copy-arg-1.given in omega arith))
+          (ap (take (length a.a.now)) c.copy-2.ensures ∙ stored-splice _ 0 a.a.now (let g = c.copy-arg-2-1.given in omega arith)),
+      refl,
+      refl,
+    )

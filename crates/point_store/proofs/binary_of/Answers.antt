@@ -1,0 +1,7 @@
+-- `point_store::binary_of` meets its contract. Assumes nothing.
+use Rattle.point_store.specs.PointWords.{binary_of}
+use Rattle.point_store.proofs.binary_of.Goals as goal
+
+pub returns : goal.returns
+unfolding binary_of
+returns c = rw (c.truth.ensures, c.truth-2.ensures)

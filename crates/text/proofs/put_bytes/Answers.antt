@@ -1,0 +1,20 @@
+use mathlib.Core.Path.{refl}
+use Prim.Native.Nat.{◌-◌}
+use Rattle.octets.specs.Bytes.{splice}
+use Rattle.octets.proofs.Splice.{splice-end}
+use Rattle.text.proofs.Writing.{put-turn}
+use borrow.Author.Rules.{rules}
+use native.Mathlib.Omega.{arith}
+use Rattle.text.proofs.put_bytes.Goals as goal
+
+pub loop-i-init : goal.loop-i-init
+loop-i-init c = (refl, refl, omega arith, omega arith)
+
+pub loop-i-preserved : goal.loop-i-preserved
+loop-i-preserved c = let l = c.loop-i in
+    let s = c.args.s.now in
+    (cc (put-turn l.out l.to l.i s (omega arith)), search rules, omega arith, omega arith)
+
+pub returns : goal.returns
+returns c = let l = c.loop-i in
+    (cc (splice-end l.out l.to l.i c.args.s.now (omega arith)), omega arith)
