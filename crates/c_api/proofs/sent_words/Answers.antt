@@ -6,4 +6,4 @@ pub returns-in-Segment : goal.returns-in-Segment
 returns-in-Segment c = rw (c.in-Segment.is, c.flag.ensures)
 
 pub returns-in_default : goal.returns-in_default
-returns-in_default c = rw c.sent_number.ensures (sent-refused c.args.x c.in_default.keys2)
+returns-in_default c = rw c.sent_number.ensures (sent-refused c.args.x c.in_default.in_default-own.keys2)

@@ -10,4 +10,4 @@ returns-in-Reply c = rw c.in-Reply.is
 
 pub returns-in_default : goal.returns-in_default
 returns-in_default c =
-    rw (c.refused_taken.ensures, c.taken_block.ensures, c.taken_number.ensures) (taken_refused c.args.t c.in_default.keys3)
+    rw (c.refused_taken.ensures, c.taken_block.ensures, c.taken_number.ensures) (taken_refused c.args.t c.in_default.in_default-own.keys3)

@@ -6,4 +6,4 @@ pub returns-in-Size : goal.returns-in-Size
 returns-in-Size c = rw c.in-Size.is
 
 pub returns-in_default : goal.returns-in_default
-returns-in_default c = rw c.wrote_number.ensures (wrote-refused c.args.w c.in_default.keys2)
+returns-in_default c = rw c.wrote_number.ensures (wrote-refused c.args.w c.in_default.in_default-own.keys2)

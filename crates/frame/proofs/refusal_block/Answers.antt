@@ -30,4 +30,4 @@ pub returns-in-BlockCheck : goal.returns-in-BlockCheck
 returns-in-BlockCheck c = rw c.in-BlockCheck.is
 
 pub returns-in_default : goal.returns-in_default
-returns-in_default c = none c.args.why c.in_default.keys2
+returns-in_default c = none c.args.why c.in_default.in_default-own.keys2
