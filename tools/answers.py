@@ -113,7 +113,8 @@ def convert(path, names, crate, fn):
     for a, at in zip(answers, names["asked_at"]): asked[a] = norm(at[0])
     typed = {}
     for p, ty in zip(names["places"], names["typed"]):
-        for v, st in ty: typed[norm(st)] = v
+        for v, st in ty:
+            if "slice-known" in norm(st): typed[norm(st)] = v
     notes = []
     # what an arm tells, by its old path: (step, path) -> arm.field
     told = {}
