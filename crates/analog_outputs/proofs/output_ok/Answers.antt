@@ -1,7 +1,6 @@
 -- `analog_outputs::output_ok` meets its contract. Assumes nothing.
 use mathlib.Core.Path.{◌≡◌, sym, ◌∙◌}
 use mathlib.Core.Bool.{◌&&◌}
-use mathlib.Core.Logic.{⊎_elim}
 use lib.Signed.{le_z}
 use lib.Ieee.{le}
 use lib.Ieee.Scale.{finite}
@@ -12,23 +11,28 @@ use Rattle.analog_outputs.specs.Output.{holds16, output_ok}
 use Rattle.analog_outputs.proofs.OutputLaws.{all_pass, one-fails}
 use borrow.Author.Rules.{sfits_of}
 use Rattle.analog_outputs.proofs.output_ok.Goals as goal
-use Rattle.analog_outputs.proofs.output_ok.Goals.{Joined-holds_16, Joined-is_finite}
+use Rattle.analog_outputs.proofs.output_ok.Goals.{Joined-holds_16, Joined-is_finite, then-holds_16, else-holds_16, then-is_finite, else-is_finite}
 
 -- the first two of three tests, which `&&` asks in turn
 joined-whole : (c : Joined-holds_16)
     → c.if-holds_16.value ≡ (holds16 c.in-Int16.low && holds16 c.in-Int16.high)
 joined-whole c =
     let told = sym (rw (to_z-of_z (sfits_of c.in-Int16.known_told-in-Int16-1-own.given.0.1)) at c.holds_16.ensures) in
-    ⊎_elim
-    (λ w. rw (told ∙ w.0.taken) (w.2 ∙ (rw (to_z-of_z (sfits_of c.in-Int16.known_told-in-Int16-1-own.given.1.0.1)) at w.1.ensures)))
-    (λ w. rw (told ∙ w.0.left) (w.1 ∙ w.0.left))
-    c.if-holds_16.branch
+    elim c.if-holds_16.branch [
+      | then-holds_16 w ↦
+          rw (told ∙ w.if-holds_16.true)
+          (w.value-is ∙ (rw (to_z-of_z (sfits_of c.in-Int16.known_told-in-Int16-1-own.given.1.0.1)) at w.holds_16-then-holds_16.ensures))
+      | else-holds_16 w ↦ rw (told ∙ w.if-holds_16.false) (w.value-is ∙ w.if-holds_16.false)
+    ]
 
 joined-float : (c : Joined-is_finite)
     → c.if-is_finite.value ≡ (finite c.in-Float32.low && finite c.in-Float32.high)
 joined-float c =
     let told = sym c.is_finite.ensures in
-    ⊎_elim (λ w. rw (told ∙ w.0.taken) (w.2 ∙ w.1.ensures)) (λ w. rw (told ∙ w.0.left) (w.1 ∙ w.0.left)) c.if-is_finite.branch
+    elim c.if-is_finite.branch [
+      | then-is_finite w ↦ rw (told ∙ w.if-is_finite.true) (w.value-is ∙ w.is_finite-then-is_finite.ensures)
+      | else-is_finite w ↦ rw (told ∙ w.if-is_finite.false) (w.value-is ∙ w.if-is_finite.false)
+    ]
 
 pub returns-in-Int32 : goal.returns-in-Int32
 unfolding output_ok
