@@ -209,7 +209,7 @@ def convert(path, names, crate, fn):
         elif step.lower() in low: parts[0] = low[step.lower()]
         for k in range(1, len(parts)):
             if parts[k - 1] in ("args", "ranges", "new", "utf8", "initial") or (k == 1 and step in loops): parts[k] = parts[k].replace("-", "_")
-        if len(parts) > 2 and parts[1] == "new" and parts[2].isdigit() and step in called:
+        if len(parts) > 2 and parts[1] in ("new", "auto") and parts[2].isdigit() and step in called:
             ms = muts.get(called[step])
             if ms and int(parts[2]) < len(ms): parts[2] = ms[int(parts[2])]
         return "." + ".".join(parts)
@@ -270,6 +270,7 @@ def convert(path, names, crate, fn):
             subs.pop("_", None)
             def sb(mm): return subs.get(mm.group(0), mm.group(0))
             body = re.sub(r"(?<![\w'₀-₉.-])[^\s(){}.;,@\"«»\[\]\\]+", sb, body)
+            body = re.sub(r"([{;]\s*)l\.(?:initial\.)?(\w+) = ", r"\1\2 = ", body)
             iout.append("\n".join(pre + [f"abbrev pub {new} : goal.{new}", unf + f"{new} l ={body}"]))
             continue
         if n in ren:
@@ -301,8 +302,15 @@ def convert(path, names, crate, fn):
             sig = chains(sig, dict(env), n, None)
             cl = chains(cl, dict(env), n, None)
             t = sig + "\n" + cl
+        n_open = re.subn(r"(?<![\w.])((?:\w+)(?:\.[\w-]+)+-own\.keys\d+)(?![\w.])", r"(opened \1)", t)
+        if n_open[1]:
+            t = n_open[0]
+            if "use borrow.Enum.Refused.{opened}" not in uses: uses.append("use borrow.Enum.Refused.{opened}")
         if n in ren: t = re.sub(r"(?m)^(%s c) κs\b" % re.escape(n), r"\1", t)
         t = types(t)
+        for old, new in names["args"]:
+            old, new = old.split()[-1], new.split()[-1]
+            t = re.sub(re.escape(old) + r"(?![\w'₀-₉-])", new, t)
         t = "\n".join(l if l.startswith("pub ") and ": goal." in l else rename(l) for l in t.split("\n"))
         aout.append(t)
     # trivial ones cited elsewhere?

@@ -43,7 +43,7 @@ put_heading-after-requires c =
 
 pub put_event-to-requires-else-k-last : goal.put_event-to-requires-else-k-last
 put_event-to-requires-else-k-last c =
-    omega (arith, own-fits event_heading 5 heading-length c.loop-i.invariant _ _ (next (goal.at.put_event-to-requires-else-k-last c).After-load-h) _ c.kind-k.ensures _ refl c.if-k-last.false, c.put_heading-after.ensures.0, c.put_heading-after.auto.0)
+    omega (arith, own-fits event_heading 5 heading-length c.loop-i.invariant _ _ (next (goal.at.put_event-to-requires-else-k-last c).After-load-h) _ c.kind-k.ensures _ refl c.if-k-last.false, c.put_heading-after.ensures.0, c.put_heading-after.auto.out)
 
 pub loop-i-preserved-else-k-last : goal.loop-i-preserved-else-k-last
 loop-i-preserved-else-k-last c =

@@ -24,7 +24,7 @@ put_analogs-requires c =
     let a = c.args in
     let some = ap length (binaries-alone a.n a.binaries.now a.analogs.now a.h.binary a.h.binaries) in
     let more = ap length (analogs-alone a.n a.binaries.now a.analogs.now a.h.analog a.h.analogs) in (
-      omega (arith, c.requires, some, more, header-length (points_view_in a.n a.binaries.now a.analogs.now) a.h, c.put_binaries-to.ensures.0, c.put_binaries-to.auto.0),
+      omega (arith, c.requires, some, more, header-length (points_view_in a.n a.binaries.now a.analogs.now) a.h, c.put_binaries-to.ensures.0, c.put_binaries-to.auto.out),
       omega (arith, c.struct_known-4-1.given, c.struct_known-3-1.given),
     )
 
