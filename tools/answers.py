@@ -31,6 +31,7 @@ def mutables():
 
 def decl_of(block):
     for line in block:
+        if line.startswith("module _ "): return "module " + line
         if line.startswith("--") or line.startswith(" ") : continue
         m = re.match(r"(?:(?:abbrev|unfoldable|pub|opaque)\s+)*(%s)(?:\s+\{[^}]*\})?\s*:(?=\s|$)" % W, line)
         if m: return m.group(1)
@@ -138,7 +139,11 @@ def convert(path, names, crate, fn):
     helpers = {}   # helper -> its place, where its first argument is the record
     for b in decls:
         n = decl_of(b)
-        if n and n not in ren and n not in invs:
+        if n and n.startswith("module "):
+            m = re.search(r"\((%s) : tie\.(%s)" % (W, W), n)
+            if m:
+                for x in re.findall(r"(?m)^  (?:abbrev )?(%s)(?: \{.*\})? :" % W, "\n".join(b)): helpers[x] = norm(m.group(2))
+        elif n and n not in ren and n not in invs:
             m = re.search(r":\s*(?:\(%s : )?tie\.(%s)" % (W, W), "\n".join(b))
             if m and not m.group(1).startswith(("Need-", "invariant", "decreases")): helpers[n] = norm(m.group(1))
     called = {norm(pl[2][0]): pl[3] for pl in names["places"] if pl[3]}
@@ -277,13 +282,20 @@ def convert(path, names, crate, fn):
             # body trivial?
             body = re.sub(r"--[^\n]*\n", "", t)
             m3 = re.search(r"\n%s(?:\s+%s)*\s*=\s*(.*)" % (re.escape(n), W), body, re.S)
-            if m3 and m3.group(1).strip() in ("search rules", "omega arith", "refl", "search (rules)"):
+            if "\nunfolding" not in body and m3 and m3.group(1).strip() in ("search rules", "omega arith", "refl", "search (rules)"):
                 trivial.append(n); continue
             tail = r"((?:\s+(?:%s)(?![\w'-]))*)" % "|".join(re.escape(i) for i in invs) if invs else r"()"
             t = re.sub(r"(?m)^(%s)\s*:\s*tie\.%s%s" % (re.escape(n), W, tail), lambda m: f"pub {ren[n]} : goal.{ren[n]}", t)
         env = {}
         # the clause
         lines = t.split("\n")
+        if n.startswith("module "):
+            for m in re.finditer(r"\((%s) : tie\.(%s)" % (W, W), n): env[m.group(1)] = (m.group(1), norm(m.group(2)))
+            for m in re.finditer(r"(?m)^  (?:abbrev )?(%s) : tie\.(%s)" % (W, W), t): env[m.group(1)] = (m.group(1), norm(m.group(2)))
+            out = []
+            for part in re.split(r"(?m)^(?=  (?:abbrev )?%s(?: \{.*\})? :)" % W, t):
+                out.append(chains(part, dict(env), n, None))
+            t = "".join(out)
         si = next(k for k, l in enumerate(lines) if not l.startswith("--"))
         ci = next((k for k in range(si + 1, len(lines)) if re.match(re.escape(n) + r"(\s|$)", lines[k])), None)
         if ci is not None:
