@@ -227,9 +227,9 @@ fn answer_read(
     out: &mut [u8],
 ) -> FragmentResult
     requires { (2 ≤ length f.now) × (length f.now ≤ fragment_max) × (fragment_max ≤ length out.old) }
-    ensures { ReadHolds h (λ o u. record { binaries = binaries.entry.now; analogs = analogs.now; held = held.old; request = request.old; answer = answer.old; objects = o; outputs = u })
+    ensures { ReadHolds h (λ o u. record { binaries = binaries.now; analogs = analogs.now; held = held.old; request = request.old; answer = answer.old; objects = o; outputs = u })
         q.0 time f.now result
-        (λ o u. record { binaries = binaries.entry.now; analogs = analogs.now; held = held.new; request = request.new; answer = answer.new; objects = o; outputs = u })
+        (λ o u. record { binaries = binaries.now; analogs = analogs.now; held = held.new; request = request.new; answer = answer.new; objects = o; outputs = u })
         out.old out.new }
 {
     let n = Installed {
@@ -482,9 +482,9 @@ fn take_request(
     out: &mut [u8],
 ) -> FragmentResult
     requires { (2 ≤ length f.now) × (length f.now ≤ fragment_max) × (fragment_max ≤ length out.old) }
-    ensures { RequestHolds h (record { binaries = binaries.entry.now; analogs = analogs.now; held = held.old; request = request.old; answer = answer.old; objects = objects.old; outputs = outputs.now })
+    ensures { RequestHolds h (record { binaries = binaries.now; analogs = analogs.now; held = held.old; request = request.old; answer = answer.old; objects = objects.old; outputs = outputs.now })
         q.0 function time f.now result
-        (record { binaries = binaries.entry.now; analogs = analogs.now; held = held.new; request = request.new; answer = answer.new; objects = objects.new; outputs = outputs.now })
+        (record { binaries = binaries.now; analogs = analogs.now; held = held.new; request = request.new; answer = answer.new; objects = objects.new; outputs = outputs.now })
         out.old out.new }
 {
     if function == 1 {
@@ -512,9 +512,9 @@ pub fn fragment(
     f: &[u8],
     out: &mut [u8],
 ) -> FragmentResult
-    ensures { FragmentHolds h (record { binaries = binaries.entry.now; analogs = analogs.now; held = held.old; request = request.old; answer = answer.old; objects = objects.old; outputs = outputs.now })
+    ensures { FragmentHolds h (record { binaries = binaries.now; analogs = analogs.now; held = held.old; request = request.old; answer = answer.old; objects = objects.old; outputs = outputs.now })
         time f.now result
-        (record { binaries = binaries.entry.now; analogs = analogs.now; held = held.new; request = request.new; answer = answer.new; objects = objects.new; outputs = outputs.now })
+        (record { binaries = binaries.now; analogs = analogs.now; held = held.new; request = request.new; answer = answer.new; objects = objects.new; outputs = outputs.now })
         out.old out.new }
 {
     if outstation::bad_time(h.clock, time) {

@@ -48,7 +48,7 @@ pub returns-in-Wrong : goal.returns-in-Wrong
 returns-in-Wrong c =
     let a = c.args in
     rw
-    (effect-wrong (outputs_of a.counts a.ws.now) a.arm-time (latch_of a.latch) a.f a.sequence.0 a.time a.o.now c.in-Wrong.fault
+    (effect-wrong (outputs_of a.counts a.ws.now) a.arm_time (latch_of a.latch) a.f a.sequence.0 a.time a.o.now c.in-Wrong.fault
     (sym c.header.ensures ∙ c.in-Wrong.is))
     (record { fault = refl; len = refl; lent = sym (splice-nil a.out.now 4); carried = c.none.ensures; latch = c.empty.ensures.0; counted = c.empty.ensures.1 })
 
@@ -62,10 +62,10 @@ returns-in-Objects c =
     let a = c.args in
     let u = outputs_of a.counts a.ws.now in
     let cs = ob.ensures.objects in
-    let s = op.ensures ∙ ap (λ (g : ControlGroup). operate_status a.arm-time (latch_of a.latch) g a.sequence.0 a.time a.o.now) gr.ensures in
+    let s = op.ensures ∙ ap (λ (g : ControlGroup). operate_status a.arm_time (latch_of a.latch) g a.sequence.0 a.time a.o.now) gr.ensures in
     let by = st.ensures.0 ∙ ap₂ (statuses_by a.f u) s cs in
     let ss = ap (λ (i : ℕ). take i st.result) (sym (held-count c.in-Objects.kind c.in-Objects.width c.in-Objects.count _ ob.ensures)) ∙ by in
-    rw (effect-objects u a.arm-time (latch_of a.latch) a.f a.sequence.0 a.time a.o.now c.in-Objects.kind c.in-Objects.width c.in-Objects.count (told (goal.at.returns-in-Objects c).In-Objects))
+    rw (effect-objects u a.arm_time (latch_of a.latch) a.f a.sequence.0 a.time a.o.now c.in-Objects.kind c.in-Objects.width c.in-Objects.count (told (goal.at.returns-in-Objects c).In-Objects))
     (record {
       fault = refl;
       len = an.ensures.1 ∙ ap (λ (x : List ℕ). length (echo_by a.f (echo_of c.in-Objects.width (value_size c.in-Objects.kind) x a.o.now))) ss;

@@ -59,7 +59,7 @@ returns-then-not-same_group c =
     let a = c.args in
     sym
     (armed (goal.at.returns-then-not-same_group c).Else-not-latch
-    ∙ operate-group a.arm-time a.latch.group a.latch.sequence.0 a.latch.time _ a.group a.sequence.0 a.time a.o.now
+    ∙ operate-group a.arm_time a.latch.group a.latch.sequence.0 a.latch.time _ a.group a.sequence.0 a.time a.o.now
     (sym c.same_group.ensures ∙ not-true _ c.if-not-same_group.true-raw))
 
 pub slice_bounds-objects-end : goal.slice_bounds-objects-end
@@ -73,7 +73,7 @@ returns-then-not-equal c =
     let a = c.args in
     sym
     (armed (goal.at.returns-then-not-equal c).Else-not-latch
-    ∙ operate-other a.arm-time a.latch.group a.latch.sequence.0 a.latch.time _ a.group a.sequence.0 a.time a.o.now (group (goal.at.returns-then-not-equal c).Else-not-same_group)
+    ∙ operate-other a.arm_time a.latch.group a.latch.sequence.0 a.latch.time _ a.group a.sequence.0 a.time a.o.now (group (goal.at.returns-then-not-equal c).Else-not-same_group)
     (sym (compared (goal.at.returns-then-not-equal c).After-equal) ∙ not-true _ c.if-not-equal.true-raw))
 
 pub returns-then-sequence-expected : goal.returns-then-sequence-expected
@@ -81,7 +81,7 @@ returns-then-sequence-expected c =
     let a = c.args in
     sym
     (armed (goal.at.returns-then-sequence-expected c).Else-not-latch
-    ∙ operate-sequence a.arm-time a.latch.group a.latch.sequence.0 a.latch.time _ a.group a.sequence.0 a.time a.o.now (group (goal.at.returns-then-sequence-expected c).Else-not-same_group)
+    ∙ operate-sequence a.arm_time a.latch.group a.latch.sequence.0 a.latch.time _ a.group a.sequence.0 a.time a.o.now (group (goal.at.returns-then-sequence-expected c).Else-not-same_group)
     (sym (compared (goal.at.returns-then-sequence-expected c).After-equal) ∙ not-false _ c.if-not-equal.false-raw) (λ p. c.if-sequence-expected.true (p ∙ sym c.next-expected.ensures)))
 
 pub returns-then-arm_time-elapsed : goal.returns-then-arm_time-elapsed
@@ -89,7 +89,7 @@ returns-then-arm_time-elapsed c =
     let a = c.args in
     sym
     (armed (goal.at.returns-then-arm_time-elapsed c).Else-not-latch
-    ∙ operate-late a.arm-time a.latch.group a.latch.sequence.0 a.latch.time _ a.group a.sequence.0 a.time a.o.now (group (goal.at.returns-then-arm_time-elapsed c).Else-not-same_group)
+    ∙ operate-late a.arm_time a.latch.group a.latch.sequence.0 a.latch.time _ a.group a.sequence.0 a.time a.o.now (group (goal.at.returns-then-arm_time-elapsed c).Else-not-same_group)
     (sym (compared (goal.at.returns-then-arm_time-elapsed c).After-equal) ∙ not-false _ c.if-not-equal.false-raw) (c.if-sequence-expected.false ∙ c.next-expected.ensures) (omega arith))
 
 pub returns-else-arm_time-elapsed : goal.returns-else-arm_time-elapsed
@@ -97,5 +97,5 @@ returns-else-arm_time-elapsed c =
     let a = c.args in
     sym
     (armed (goal.at.returns-else-arm_time-elapsed c).Else-not-latch
-    ∙ operate-good a.arm-time a.latch.group a.latch.sequence.0 a.latch.time _ a.group a.sequence.0 a.time a.o.now (group (goal.at.returns-else-arm_time-elapsed c).Else-not-same_group)
+    ∙ operate-good a.arm_time a.latch.group a.latch.sequence.0 a.latch.time _ a.group a.sequence.0 a.time a.o.now (group (goal.at.returns-else-arm_time-elapsed c).Else-not-same_group)
     (sym (compared (goal.at.returns-else-arm_time-elapsed c).After-equal) ∙ not-false _ c.if-not-equal.false-raw) (c.if-sequence-expected.false ∙ c.next-expected.ensures) (omega arith))
