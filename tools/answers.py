@@ -108,11 +108,13 @@ def convert(path, names, crate, fn):
     places = {norm(o): n for (o, n) in [(p[0], q) for p, q in zip(names["places"], names["places_by_name"])]}
     parent = {norm(p[0]): (norm(p[1]) if p[1] else None) for p in names["places"]}
     newplace = {norm(p[0]): q for p, q in zip(names["places"], names["places_by_name"])}
+    full = lambda q: final.get(q, q)
     asked = {}
     for a, at in zip(answers, names["asked_at"]): asked[a] = norm(at[0])
     typed = {}
     for p, ty in zip(names["places"], names["typed"]):
-        for v, st in ty: typed[norm(st)] = v
+        for v, st in ty:
+            if "slice-known" in norm(st): typed[norm(st)] = v
     notes = []
     # what an arm tells, by its old path: (step, path) -> arm.field
     told = {}
@@ -120,6 +122,14 @@ def convert(path, names, crate, fn):
         if arm:
             for new, step, pth in arm[2]:
                 if pth: told[(norm(step), ".".join(pth))] = arm[0] + "." + new
+                elif not norm(step).startswith("match"): told[(norm(step), "")] = arm[0] + "." + new
+    # the number of an arm, and the last place of each arm
+    keyed, last = {}, {}
+    for pl, arm, by in zip(names["places"], names["arms"], names["places_by_name"]):
+        m = re.match(r"At-(match\d*)-(keys\d+|.*)$", pl[0])
+        if arm and m: keyed[(norm(m.group(1)), m.group(2))] = next((arm[0] + "." + n for n, s, p in arm[2] if not p and norm(s) == norm(m.group(1))), None)
+        if arm: last[(arm[0], )] = by
+    final = {by: last[(arm[0], )] for arm, by in zip(names["arms"], names["places_by_name"]) if arm}
     muts = mutables()
     # fields of a step that have other names now
     inner = {}
@@ -150,6 +160,14 @@ def convert(path, names, crate, fn):
                     t = t[:m.start()] + t[m.end():]
                     found = True
                     break
+            for m in [] if found else re.finditer(r"let (%s) = (%s)((?:\.before)*)((?:\.(?!before)%s)+) in\s*" % (W, W, W), t):
+                v, b, ch, rest = m.groups()
+                step = norm(rest.split(".")[1])
+                if b in env and v not in env and any(s == step for s, _ in told):
+                    base, pl = env[b]
+                    t = t[:m.start()] + re.sub(r"(?<![\w'₀-₉.-])%s(?=[.\s),;]|$)" % re.escape(v), lambda _: base + ch + rest if b == base else b + ch + rest, t[m.end():])
+                    found = True
+                    break
             if not found: break
         pat = re.compile(r"(?<![\w'₀-₉.-])(%s)((?:\.before)*)((?:\.(?!before)%s)*)(?![\w'₀-₉-])" % ("|".join(re.escape(v) for v in sorted(env, key=len, reverse=True)), W)) if env else None
         if not pat: return t
@@ -165,15 +183,19 @@ def convert(path, names, crate, fn):
                 notes.append(f"{need}: {m.group(0)} leads nowhere"); return m.group(0)
             own = env[base][1]
             if q == own: return base
-            name = newplace[q]
+            name = full(newplace[q])
             seen.add(name)
-            s = f"(goal.at.{ren[need] if need in ren else newplace[own]} {base}).{name}"
+            s = f"(goal.at.{ren[need] if need in ren else full(newplace[own])} {base}).{name}"
             return s if True else f"({s})"
         return pat.sub(f, t)
     def field(rest):
         parts = rest[1:].split(".")
         step = norm(parts[0])
-        for k in range(len(parts), 1, -1):
+        parts = [it.replace("type-inv", "type_inv") for it in parts]
+        if step not in fields and step.endswith("-lem"): step = step[:-4]; parts[0] = parts[0][:-4]
+        if len(parts) > 1 and (step, parts[1]) in keyed and keyed[(step, parts[1])]:
+            return "." + ".".join([keyed[(step, parts[1])]] + parts[1:])
+        for k in range(len(parts), 0, -1):
             key = (step, ".".join(parts[1:k]))
             if key in told: return "." + ".".join([told[key]] + parts[k:])
         if len(parts) > 1 and parts[1] == "given" and step in typed:
@@ -200,8 +222,9 @@ def convert(path, names, crate, fn):
             return "goal.@NEED@" 
         def place(m):
             k = norm(m.group(1))
-            seen.add(places.get(k, m.group(1)))
-            return places.get(k, m.group(1))
+            q = full(places.get(k, m.group(1)))
+            seen.add(q)
+            return q
         t = re.sub(r"tie\.(%s)%s" % (W, tail), place, t)
         return t
     iout, aout = [], []

@@ -66,11 +66,19 @@ sum-no-nan f s a t b c = go (beq s t) (ltb a b)
 
 pub mul-no-nan : (f : Format) (x y : Float) → T (finite x) → T (finite y) → is_nan (mul f x y) ≡ false
 unfolding mul
+mul-no-nan f nan y p q = elim p [ ]
+mul-no-nan f (inf _) y p q = elim p [ ]
+mul-no-nan f (fin s m e) nan p q = elim q [ ]
+mul-no-nan f (fin s m e) (inf _) p q = elim q [ ]
 mul-no-nan f (fin s m e) (fin t n d) p q = round-no-nan f (unlike s t) (m * up e * (n * up d)) (down e * down d)
 
 -- the left operand may be an infinity
 pub add-no-nan : (f : Format) (x y : Float) → is_nan x ≡ false → T (finite y) → is_nan (add f x y) ≡ false
 unfolding add is_nan
+add-no-nan f (inf s) nan p q = elim q [ ]
+add-no-nan f (inf s) (inf _) p q = elim q [ ]
+add-no-nan f (fin s m e) nan p q = elim q [ ]
+add-no-nan f (fin s m e) (inf _) p q = elim q [ ]
 add-no-nan f nan y p q = absurd (true≢false p)
 add-no-nan f (inf s) (fin t n d) p q = refl
 add-no-nan f (fin s m e) (fin t n d) p q = sum-no-nan f s (m * up e * down d) t (n * up d * down e) (down e * down d)
@@ -91,6 +99,8 @@ shown-finite s x p q r = limited-finite (scaled x s.gain s.offset) (scaled-no-na
 -- ---- gain 1 and offset plus zero
 unlimited : (x : Float) → T (finite x) → limited_of (no_minus_zero x) ≡ record { value = no_minus_zero x; over = false }
 unfolding limited_of no_minus_zero
+unlimited nan h = elim h [ ]
+unlimited (inf _) h = elim h [ ]
 unlimited (fin s zero e) h = refl
 unlimited (fin s (suc m) e) h = refl
 
@@ -122,11 +132,15 @@ zeros false = refl
 
 own_bits : (x : Float) → T (fits binary32 x) → T (finite x) →
     to_bits binary32 (no_minus_zero x) ≡ cond (eqb (to_bits binary32 x) 0x8000_0000) 0 (to_bits binary32 x)
+own_bits nan t h = elim h [ ]
+own_bits (inf _) t h = elim h [ ]
 own_bits (fin s zero e) t h = rw (zero_exp binary32 s e t) (zeros s)
 own_bits (fin s (suc m) e) t h = unfold no_minus_zero in rw (ne_eqb (to_bits binary32 (fin s (suc m) e)) 0x8000_0000 (not-minus-zero s m e t)) refl
 
 pub no_nan : (x : Float) → T (finite x) → T (not (is_nan x))
 unfolding is_nan
+no_nan nan h = elim h [ ]
+no_nan (inf _) h = elim h [ ]
 no_nan (fin s m e) h = tt
 
 pub identity-bits : (b : ℕ) → b < 2 ^ 32 → T (finite (of_bits binary32 b)) →

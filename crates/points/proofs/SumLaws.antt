@@ -50,10 +50,14 @@ use Rattle.points.proofs.ScaleLaws.{add-no-nan}
 
 neg-finite : (y : Float) → T (finite y) → T (finite (neg y))
 unfolding neg
+neg-finite nan h = elim h [ ]
+neg-finite (inf _) h = elim h [ ]
 neg-finite (fin s m e) h = tt
 
 fin-no-nan : (x : Float) → T (finite x) → is_nan x ≡ false
 unfolding is_nan
+fin-no-nan nan h = elim h [ ]
+fin-no-nan (inf _) h = elim h [ ]
 fin-no-nan (fin s m e) h = refl
 
 pub sub-no-nan : (x y : Float) → T (finite x) → T (finite y) → is_nan (sub binary32 x y) ≡ false
@@ -88,12 +92,22 @@ round-plus f a c = subst (λ (x : Float). T (plus x)) (sym (round_is f false a c
 
 add-plus : (x y : Float) → T (plus x) → T (finite x) → T (plus y) → T (plus (add binary32 x y))
 unfolding add sum
+add-plus nan y p q r = elim p [ ]
+add-plus (inf _) y p q r = elim q [ ]
+add-plus (fin false m e) nan p q r = elim r [ ]
+add-plus (fin false m e) (inf true) p q r = elim r [ ]
+add-plus (fin false m e) (fin true n d) p q r = elim r [ ]
+add-plus (fin true m e) y p q r = elim p [ ]
 add-plus (fin false m e) (inf false) p q r = tt
 add-plus (fin false m e) (fin false n d) p q r = round-plus binary32 (m * up e * down d + n * up d * down e) (down e * down d)
 
 -- what is not above a finite limit is no infinity
 not_infinite : (l t : Float) → T (finite l) → T (plus t) → lt l t ≡ false → T (finite t)
 unfolding lt
+not_infinite nan t p q h = elim p [ ]
+not_infinite (inf _) t p q h = elim p [ ]
+not_infinite (fin s m e) nan p q h = elim q [ ]
+not_infinite (fin s m e) (inf true) p q h = elim q [ ]
 not_infinite (fin s m e) (inf false) p q h = absurd (true≢false h)
 not_infinite (fin s m e) (fin t n d) p q h = tt
 
@@ -116,6 +130,10 @@ ordered false true a b h = either (ltb 0 (b + a)) _ (λ k. let z = no_size b a (
 
 pub not-above : (l t : Float) → T (finite l) → T (finite t) → lt l t ≡ false → le t l ≡ true
 unfolding lt le eq
+not-above nan t p q h = elim p [ ]
+not-above (inf _) t p q h = elim p [ ]
+not-above (fin s m e) nan p q h = elim q [ ]
+not-above (fin s m e) (inf _) p q h = elim q [ ]
 not-above (fin s m e) (fin t n d) p q h = ordered s t (m * up e * down d) (n * up d * down e) h
 
 -- ---- a float gate's sum

@@ -45,7 +45,7 @@ abbrev pub wide : ℤ → ℤ
 wide z = to_z w64 (of_z w64 (to_z w32 (of_z w32 z)))
 
 pub wide_is : {z : ℤ} → SFits w32 z → wide z ≡ z
-wide_is {z} f = ap (λ (y : ℤ). to_z w64 (of_z w64 y)) (to_z-of_z f) ∙ to_z-of_z (sfits_widen tt f)
+wide_is {z} f = ap (λ (y : ℤ). to_z w64 (of_z w64 y)) (to_z-of_z f) ∙ to_z-of_z {w = w64} (sfits_widen {w = w32} {w' = w64} {z = z} (tt {0}) f)
 
 fits-size : {z : ℤ} → nat_abs z < 2 ^ 32 → SFits w64 z
 fits-size {z} h = record { sfits = lt_of_le_of_lt (mag-le z) (lt_of_lt_of_le h (lit≤ tt)) }

@@ -8,17 +8,15 @@ use borrow.Author.Rules.{sfits_of}
 use Rattle.analog_outputs.proofs.takes.Goals as goal
 
 pub overflow_cast-x : goal.overflow_cast-x
-overflow_cast-x c = let value : SFits w16 c.in-Int16-v-2.x = sfits_of c.known_told-in-Int16-2-1.given.0.1 in rw (to_z-of_z value) (sfits_widen tt value)
+overflow_cast-x c = let value : SFits w16 c.in-Int16-v-2.x = sfits_of c.in-Int16-v-2.known_told-in-Int16-2-1-own.given.0.1 in rw (to_z-of_z value) (sfits_widen tt value)
 
 pub returns-in-Int32-v : goal.returns-in-Int32-v
 unfolding takes
 returns-in-Int32-v c =
-    let o = c.o-1.given in
-    let v = c.v-1.given in
-    let low : SFits w32 o.0.0 = sfits_of c.known_told-1.given.0.1 in
-    let high : SFits w32 o.0.1.0 = sfits_of c.known_told-1.given.1.0.1 in
-    let value : SFits w32 v.0.0 = sfits_of c.known_told-in-Int32-1.given.0.1 in
-    rw (o.1, v.1) (rw (to_z-of_z low, to_z-of_z high, to_z-of_z value) at c.within.ensures)
+    let low : SFits w32 c.in-Int32.low = sfits_of c.in-Int32.known_told-1-own.given.0.1 in
+    let high : SFits w32 c.in-Int32.high = sfits_of c.in-Int32.known_told-1-own.given.1.0.1 in
+    let value : SFits w32 c.in-Int32-v.x = sfits_of c.in-Int32-v.known_told-in-Int32-1-own.given.0.1 in
+    rw (c.in-Int32.is, c.in-Int32-v.is) (rw (to_z-of_z low, to_z-of_z high, to_z-of_z value) at c.within.ensures)
 
 pub returns-in-Int16-v : goal.returns-in-Int16-v
 unfolding takes
@@ -35,13 +33,11 @@ returns-in-Int32-v-2 c = rw (c.in-Int16.is, c.in-Int32-v-2.is)
 pub returns-in-Int16-v-2 : goal.returns-in-Int16-v-2
 unfolding takes
 returns-in-Int16-v-2 c =
-    let o = c.o-in-Int16-o-1.given in
-    let v = c.v-in-Int16-2-1.given in
-    let low : SFits w32 o.0.0 = sfits_of c.known_told-in-Int16-o-1.given.0.1 in
-    let high : SFits w32 o.0.1.0 = sfits_of c.known_told-in-Int16-o-1.given.1.0.1 in
-    let value : SFits w16 v.0.0 = sfits_of c.known_told-in-Int16-2-1.given.0.1 in
-    let wide : SFits w32 v.0.0 = sfits_widen tt value in
-    rw (o.1, v.1) (rw (to_z-of_z low, to_z-of_z high, to_z-of_z value, to_z-of_z wide) at c.within-in-Int16-v-2.ensures)
+    let low : SFits w32 c.in-Int16.low = sfits_of c.in-Int16.known_told-in-Int16-o-1-own.given.0.1 in
+    let high : SFits w32 c.in-Int16.high = sfits_of c.in-Int16.known_told-in-Int16-o-1-own.given.1.0.1 in
+    let value : SFits w16 c.in-Int16-v-2.x = sfits_of c.in-Int16-v-2.known_told-in-Int16-2-1-own.given.0.1 in
+    let wide : SFits w32 c.in-Int16-v-2.x = sfits_widen tt value in
+    rw (c.in-Int16.is, c.in-Int16-v-2.is) (rw (to_z-of_z low, to_z-of_z high, to_z-of_z value, to_z-of_z wide) at c.within-in-Int16-v-2.ensures)
 
 pub returns-in-Float32-v-2 : goal.returns-in-Float32-v-2
 unfolding takes

@@ -1,19 +1,21 @@
 -- `analog_outputs::within_float` meets its contract. Assumes nothing.
 use mathlib.Core.Path.{◌≡◌, sym, ◌∙◌}
 use mathlib.Core.Bool.{◌&&◌}
-use mathlib.Core.Logic.{⊎_elim}
 use lib.Ieee.{le}
 use lib.Ieee.Scale.{finite}
 use Rattle.analog_outputs.specs.Output.{within_float}
 use Rattle.analog_outputs.proofs.OutputLaws.{all_pass, one-fails}
 use Rattle.analog_outputs.proofs.within_float.Goals as goal
-use Rattle.analog_outputs.proofs.within_float.Goals.{Joined-is_finite}
+use Rattle.analog_outputs.proofs.within_float.Goals.{Joined-is_finite, then-is_finite, else-is_finite}
 
 -- the first two of the three tests, which `&&` asks in turn
 joined : (c : Joined-is_finite) → c.if-is_finite.value ≡ (finite c.args.v && le c.args.low c.args.v)
 joined c =
     let told : finite c.args.v ≡ c.is_finite.result = sym c.is_finite.ensures in
-    ⊎_elim (λ w. rw (told ∙ w.0.taken) w.1) (λ w. rw (told ∙ w.0.left) (w.1 ∙ w.0.left)) c.if-is_finite.branch
+    elim c.if-is_finite.branch [
+      | then-is_finite w ↦ rw (told ∙ w.if-is_finite.true) w.value-is
+      | else-is_finite w ↦ rw (told ∙ w.if-is_finite.false) (w.value-is ∙ w.if-is_finite.false)
+    ]
 
 pub returns-then-low-v : goal.returns-then-low-v
 unfolding within_float

@@ -1,4 +1,5 @@
 -- `c_api::received_words` meets its contract. Assumes nothing.
+use borrow.Enum.Refused.{opened}
 use Rattle.c_api.proofs.LineLaws.{received-refused}
 use Rattle.c_api.proofs.received_words.Goals as goal
 
@@ -9,4 +10,4 @@ pub returns-in-Fragment : goal.returns-in-Fragment
 returns-in-Fragment c = rw c.in-Fragment.is
 
 pub returns-in_default : goal.returns-in_default
-returns-in_default c = rw (c.refused_segment.ensures, c.received_number.ensures) (received-refused c.args.x c.in_default.keys3)
+returns-in_default c = rw (c.refused_segment.ensures, c.received_number.ensures) (received-refused c.args.x (opened c.in_default.in_default-own.keys3))

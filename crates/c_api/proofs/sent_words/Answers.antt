@@ -1,4 +1,5 @@
 -- `c_api::sent_words` meets its contract. Assumes nothing.
+use borrow.Enum.Refused.{opened}
 use Rattle.c_api.proofs.LineLaws.{sent-refused}
 use Rattle.c_api.proofs.sent_words.Goals as goal
 
@@ -6,4 +7,4 @@ pub returns-in-Segment : goal.returns-in-Segment
 returns-in-Segment c = rw (c.in-Segment.is, c.flag.ensures)
 
 pub returns-in_default : goal.returns-in_default
-returns-in_default c = rw c.sent_number.ensures (sent-refused c.args.x c.in_default.keys2)
+returns-in_default c = rw c.sent_number.ensures (sent-refused c.args.x (opened c.in_default.in_default-own.keys2))

@@ -43,12 +43,12 @@ returns-in-Crob c = rw c.in-Crob.is cc
 
 pub returns-in-Int32 : goal.returns-in-Int32
 returns-in-Int32 c =
-    rw (c.in-Int32.is, to_z-of_z (sfits_of {w = w32} c.signed.type-inv), c.signed.ensures)
+    rw (c.in-Int32.is, to_z-of_z (sfits_of {w = w32} c.signed.type_inv), c.signed.ensures)
     (ap (λ (n : ℕ). C.AnalogOutput (Vs.Int32 (to_z w32 n))) c.take4-in-Int32.ensures)
 
 pub returns-in-Int16 : goal.returns-in-Int16
 returns-in-Int16 c =
-    rw (c.in-Int16.is, to_z-of_z (sfits_of {w = w16} c.signed_16.type-inv), c.signed_16.ensures)
+    rw (c.in-Int16.is, to_z-of_z (sfits_of {w = w16} c.signed_16.type_inv), c.signed_16.ensures)
     (ap (λ (n : ℕ). C.AnalogOutput (Vs.Int16 (to_z w16 n))) c.number.ensures)
 
 pub returns-in-Float32 : goal.returns-in-Float32

@@ -47,11 +47,10 @@ loop-i-preserved-in-AnalogOutput c =
     let few = c.least-n.ensures in
     let a = c.args in
     let h : length a.t1.items ≡ 8 = search (length-mapped, rules) in
-    let told = c.in-AnalogOutput.is in
     let x : ControlObject = get_or a.t1.items c.loop-i.i no_object in (
       taken_more analog_object c.loop-i.next.items c.loop-i.j c.analog_words.result (some x) _ _ (omega (arith, few))
-          (c.analog_words.ensures ∙ (λ k. some (record { index = x.index; status = x.status; command = sym told k })))
-          (ap (map some) (filter-yes is_analog_output a.t1.items n c.loop-i.i (omega arith) (omega (arith, h, few)) (ap (λ (k : Command). not (for_crob k)) told)))
+          (c.analog_words.ensures ∙ (λ k. some (record { index = x.index; status = x.status; command = sym c.in-AnalogOutput.is k })))
+          (ap (map some) (filter-yes is_analog_output a.t1.items n c.loop-i.i (omega arith) (omega (arith, h, few)) (ap (λ (k : Command). not (for_crob k)) c.in-AnalogOutput.is)))
           ∙ c.loop-i.invariant.0,
       simp length-set (omega arith),
       omega arith,

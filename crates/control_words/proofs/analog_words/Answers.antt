@@ -14,7 +14,7 @@ use Rattle.control_words.proofs.analog_words.Goals as goal
 use Rattle.control_words.proofs.analog_words.Goals.{In-Int16}
 
 short : (c : In-Int16) → SFits w16 c.in-Int16.z
-short c = sfits_of c.known_told-in-Int16-1.given.0.1
+short c = sfits_of c.in-Int16.known_told-in-Int16-1-own.given.0.1
 
 pub overflow_cast-z : goal.overflow_cast-z
 overflow_cast-z c = rw (to_z-of_z (short c)) (sfits_widen tt (short c))
@@ -24,7 +24,7 @@ told : {index status : ℕ} {x v : Value} → x ≡ v → some (asked index stat
 told {index = index} {status = status} = ap (λ (v : Value). some (asked index status v))
 
 pub returns-in-Int32 : goal.returns-in-Int32
-returns-in-Int32 c = told (ap Vs.Int32 (c.signed_bits.ensures ∙ to_z-of_z (sfits_of c.known_told-1.given.0.1)) ∙ sym c.in-Int32.is)
+returns-in-Int32 c = told (ap Vs.Int32 (c.signed_bits.ensures ∙ to_z-of_z (sfits_of c.in-Int32.known_told-1-own.given.0.1)) ∙ sym c.in-Int32.is)
 
 pub returns-in-Int16 : goal.returns-in-Int16
 returns-in-Int16 c =

@@ -44,11 +44,10 @@ loop-i-preserved-in-Crob c =
     let few = c.least-n.ensures in
     let a = c.args in
     let h : length a.t1.items ≡ 8 = search (length-mapped, rules) in
-    let told = c.in-Crob.is in
     let x : ControlObject = get_or a.t1.items c.loop-i.i no_object in (
       taken_more crob_object c.loop-i.next.items c.loop-i.j c.crob_words.result x _ _ (omega (arith, few))
-          (c.crob_words.ensures ∙ (λ k. record { index = x.index; status = x.status; command = sym told k }))
-          (filter-yes is_crob a.t1.items n c.loop-i.i (omega arith) (omega (arith, h, few)) (ap for_crob told))
+          (c.crob_words.ensures ∙ (λ k. record { index = x.index; status = x.status; command = sym c.in-Crob.is k }))
+          (filter-yes is_crob a.t1.items n c.loop-i.i (omega arith) (omega (arith, h, few)) (ap for_crob c.in-Crob.is))
           ∙ c.loop-i.invariant.0,
       simp length-set (omega arith),
       omega arith,

@@ -7,9 +7,8 @@ use Rattle.effects.proofs.confirm.Goals as goal
 pub returns-then-is_confirmed : goal.returns-then-is_confirmed
 returns-then-is_confirmed c =
     let a = c.args in
-    let g = c.w-1.given in
     λ w same.
-    confirm-good w a.w a.q.0 a.uns a.time g.0.0 g.0.1.0 g.0.1.1.0 g.0.1.1.1.0 g.1 a.confirm-time same (sym c.is_confirmed.ensures ∙ c.if-is_confirmed.true)
+    confirm-good w a.w a.q.0 a.uns a.time c.in-Awaiting.sequence c.in-Awaiting.sent c.in-Awaiting.showed_overflow c.in-Awaiting.dropped_since c.in-Awaiting.is a.confirm-time same (sym c.is_confirmed.ensures ∙ c.if-is_confirmed.true)
 
 pub returns-in-Idle : goal.returns-in-Idle
 returns-in-Idle c =
@@ -19,6 +18,5 @@ returns-in-Idle c =
 pub returns-else-is_confirmed : goal.returns-else-is_confirmed
 returns-else-is_confirmed c =
     let a = c.args in
-    let g = c.w-1.given in
     λ w same.
-    confirm-late w a.w a.q.0 a.uns a.time g.0.0 g.0.1.0 g.0.1.1.0 g.0.1.1.1.0 g.1 a.confirm-time same (sym c.is_confirmed.ensures ∙ c.if-is_confirmed.false)
+    confirm-late w a.w a.q.0 a.uns a.time c.in-Awaiting.sequence c.in-Awaiting.sent c.in-Awaiting.showed_overflow c.in-Awaiting.dropped_since c.in-Awaiting.is a.confirm-time same (sym c.is_confirmed.ensures ∙ c.if-is_confirmed.false)

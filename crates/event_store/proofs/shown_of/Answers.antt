@@ -6,4 +6,4 @@ pub returns-then-kind-eq3 : goal.returns-then-kind-eq3
 returns-then-kind-eq3 c = rw (eq-eqb _ 3 c.if-kind-eq3.true, c.truth.ensures)
 
 pub returns : goal.returns
-returns c = rw (ne_eqb _ 3 c.if-kind-eq3.false, c.value_of_lem.ensures)
+returns c = rw (ne_eqb _ 3 c.if-kind-eq3.false, c.value_of.ensures)

@@ -57,8 +57,7 @@ returns-then-out-lt-FRAGMENT_MAX c =
 
 pub take_request-requires : goal.take_request-requires
 take_request-requires c =
-    let g = c.kind-in-Request-1.given in
-    let z = request-sized (start (goal.at.take_request-requires c).After-classify-kind).args.f.now c.classify-kind.result g.0.0 g.0.1.0 c.classify-kind.ensures g.1 in
+    let z = request-sized (start (goal.at.take_request-requires c).After-classify-kind).args.f.now c.classify-kind.result c.in-Request.sequence c.in-Request.function c.classify-kind.ensures c.in-Request.is in
     (z.0, z.1, c.if-out-lt-FRAGMENT_MAX.false)
 
 pub returns-in-Malformed : goal.returns-in-Malformed
@@ -74,15 +73,13 @@ pub returns-in-Confirm : goal.returns-in-Confirm
 returns-in-Confirm c =
     let s = start (goal.at.returns-in-Confirm c).After-classify-kind in
     let a = s.args in
-    let g = c.kind-1.given in
     fragment-confirm (was s) a.time a.f.now (length a.out.now) (FragmentMeets (unit s) (answered_by c.take_confirm.result _) a.out.now a.out.now)
-    (in-time (goal.at.returns-in-Confirm c).After-classify-kind) (roomy (goal.at.returns-in-Confirm c).After-classify-kind) c.classify-kind.result c.classify-kind.ensures g.0.0 g.0.1.0 g.1 (given-in a.h (mem s) _ c.take_confirm.result a.out.now a.out.now _ (c.take_confirm.ensures (mem s) a.out.now))
+    (in-time (goal.at.returns-in-Confirm c).After-classify-kind) (roomy (goal.at.returns-in-Confirm c).After-classify-kind) c.classify-kind.result c.classify-kind.ensures c.in-Confirm.sequence c.in-Confirm.unsolicited c.in-Confirm.is (given-in a.h (mem s) _ c.take_confirm.result a.out.now a.out.now _ (c.take_confirm.ensures (mem s) a.out.now))
 
 pub returns-in-Request : goal.returns-in-Request
 returns-in-Request c =
     let s = start (goal.at.returns-in-Request c).After-classify-kind in
     let a = s.args in
-    let g = c.kind-in-Request-1.given in
     let r = c.take_request in
     fragment-request (was s) a.time a.f.now (length a.out.now) (FragmentMeets (unit s) (answered_by r.result _) a.out.now _)
-    (in-time (goal.at.returns-in-Request c).After-classify-kind) (roomy (goal.at.returns-in-Request c).After-classify-kind) c.classify-kind.result c.classify-kind.ensures g.0.0 g.0.1.0 g.1 (given-in a.h (mem s) _ r.result a.out.now _ _ r.ensures)
+    (in-time (goal.at.returns-in-Request c).After-classify-kind) (roomy (goal.at.returns-in-Request c).After-classify-kind) c.classify-kind.result c.classify-kind.ensures c.in-Request.sequence c.in-Request.function c.in-Request.is (given-in a.h (mem s) _ r.result a.out.now _ _ r.ensures)

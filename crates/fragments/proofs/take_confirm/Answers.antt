@@ -16,6 +16,5 @@ returns-in-Refused c =
 pub returns-in-Accepted : goal.returns-in-Accepted
 returns-in-Accepted c =
     let a = c.args in
-    let h = c.c-1.given in
-    confirm-in a.h a.held.now a.q.0 a.uns a.time _ c.confirm-c.result (Cs.Accepted h.0.0 h.0.1.0) c.wait_of.ensures c.confirm-c.ensures
-    h.1 c.accept_confirm.result _ c.accept_confirm.ensures
+    confirm-in a.h a.held.now a.q.0 a.uns a.time _ c.confirm-c.result (Cs.Accepted c.in-Accepted.showed_overflow c.in-Accepted.dropped_since) c.wait_of.ensures c.confirm-c.ensures
+    c.in-Accepted.is c.accept_confirm.result _ c.accept_confirm.ensures

@@ -10,10 +10,10 @@ use Rattle.frame.specs.FrameOutcome.{refused_by}
 use Rattle.frame.specs.declared.Read.{Read}
 use Rattle.frame.proofs.Laws.{decode-lent, decode-room, read_by, fields-checked, refused-lent}
 use Rattle.frame.proofs.read_frame.Goals as goal
-use Rattle.frame.proofs.read_frame.Goals.{In-Frame-2}
+use Rattle.frame.proofs.read_frame.Goals.{In-Frame}
 
 -- a frame that was found is there to its end
-found : (u : In-Frame-2) → let n = u.in-Frame.len in (n ≤ user_max) × (frame_size n ≤ length u.args.s.now)
+found : (u : In-Frame) → (u.in-Frame.len ≤ user_max) × (frame_size u.in-Frame.len ≤ length u.args.s.now)
 found u = subst (λ (r : Read). Whole r u.args.s.now) u.in-Frame.is u.check_frame-r.ensures.1
 
 pub returns-then-out-lt-USER_MAX : goal.returns-then-out-lt-USER_MAX
@@ -29,7 +29,7 @@ returns-in_default c =
     (fields-checked k.result a.s.now k.ensures.1) (refused-lent k.result _ a.s.now a.out.now c.in_default.is)
 
 pub copy_user-requires : goal.copy_user-requires
-copy_user-requires c = let w = found (goal.at.copy_user-requires c).In-Frame-2 in (w.0, w.1, omega arith)
+copy_user-requires c = let w = found (goal.at.copy_user-requires c).In-Frame in (w.0, w.1, omega arith)
 
 pub returns : goal.returns
 returns c =

@@ -6,6 +6,7 @@ use mathlib.Core.List.{[], ◌∷◌}
 use native.Mathlib.Omega.{arith}
 use denote.Enum.Declared.{tag_of}
 use types.Run.{OneOf}
+use borrow.Enum.Refused.{opened}
 use Rattle.frame.specs.declared.FrameRefusal.{FrameRefusal}
 use Rattle.frame.specs.declared.FrameRefusal.TheVariants as F
 use Rattle.frame.specs.FrameOutcome.{refusal_block}
@@ -30,4 +31,4 @@ pub returns-in-BlockCheck : goal.returns-in-BlockCheck
 returns-in-BlockCheck c = rw c.in-BlockCheck.is
 
 pub returns-in_default : goal.returns-in_default
-returns-in_default c = none c.args.why c.in_default.keys2
+returns-in_default c = none c.args.why (opened c.in_default.in_default-own.keys2)

@@ -33,10 +33,9 @@ returns-in-Int32 c =
 pub returns-in-Int16 : goal.returns-in-Int16
 returns-in-Int16 c =
     let a = c.args in
-    let z = c.in-Int16.z in
-    let f : SFits w16 z = search rules in
-    let bits : c.signed_bits-in-Int16.result ≡ of_z w32 z = c.signed_bits-in-Int16.ensures ∙ simp (to_z-of_z f, to_z-of_z (wide f)) in
-    rw c.in-Int16.is (refl, c.put.ensures ∙ ap (λ (b : ℕ). splice a.out.now a.at (le 2 b)) bits ∙ ap (splice a.out.now a.at) (low-bytes z f))
+    let f : SFits w16 c.in-Int16.z = search rules in
+    let bits : c.signed_bits-in-Int16.result ≡ of_z w32 c.in-Int16.z = c.signed_bits-in-Int16.ensures ∙ simp (to_z-of_z f, to_z-of_z (wide f)) in
+    rw c.in-Int16.is (refl, c.put.ensures ∙ ap (λ (b : ℕ). splice a.out.now a.at (le 2 b)) bits ∙ ap (splice a.out.now a.at) (low-bytes c.in-Int16.z f))
 
 pub returns-in-Float32 : goal.returns-in-Float32
 returns-in-Float32 c = rw (c.in-Float32.is, ← c.float_bits.ensures) (refl, c.put4-in-Float32.ensures)

@@ -36,7 +36,7 @@ pub returns-in-Whole : goal.returns-in-Whole
 returns-in-Whole c =
     let i = c.args in
     λ h.
-    in-time (with_changes h i.n i.m) (record { binaries = i.binaries.now; analogs = i.analogs.now; held = i.held.now }) i.r (sym c.bad_time.ensures ∙ c.if-bad_time.false) _ c.in-Whole.is c.apply_whole.result.refusal _ _ (rw (to_z-of_z (sfits_of {w = w32} c.known_told-in-Whole-1.given.0.1)) at (c.apply_whole.ensures h i.binaries.now))
+    in-time (with_changes h i.n i.m) (record { binaries = i.binaries.now; analogs = i.analogs.now; held = i.held.now }) i.r (sym c.bad_time.ensures ∙ c.if-bad_time.false) _ c.in-Whole.is c.apply_whole.result.refusal _ _ (rw (to_z-of_z (sfits_of {w = w32} c.in-Whole.known_told-in-Whole-1-own.given.0.1)) at (c.apply_whole.ensures h i.binaries.now))
 
 pub returns-in-Float : goal.returns-in-Float
 returns-in-Float c =

@@ -13,13 +13,13 @@ use Rattle.point_store.proofs.value_coded.Goals as goal
 use Rattle.point_store.proofs.value_coded.Goals.{In-Int16}
 
 short : (c : In-Int16) → SFits w16 c.in-Int16.z
-short c = sfits_of c.known_told-in-Int16-1.given.0.1
+short c = sfits_of c.in-Int16.known_told-in-Int16-1-own.given.0.1
 
 pub overflow_cast-z : goal.overflow_cast-z
 overflow_cast-z c = rw (to_z-of_z (short c)) (wide (short c))
 
 pub returns-in-Int32 : goal.returns-in-Int32
-returns-in-Int32 c = (ap Vs.Int32 (c.signed_bits.ensures ∙ to_z-of_z (sfits_of c.known_told-1.given.0.1)) ∙ sym c.in-Int32.is, lit< tt)
+returns-in-Int32 c = (ap Vs.Int32 (c.signed_bits.ensures ∙ to_z-of_z {w = w32} (sfits_of c.in-Int32.known_told-1-own.given.0.1)) ∙ sym c.in-Int32.is, lit< tt)
 
 pub returns-in-Int16 : goal.returns-in-Int16
 returns-in-Int16 c =

@@ -12,8 +12,8 @@ returns c = (
   λ k.
       record {
         gate = c.whole_gate_coded-c.ensures.0 k;
-        reported_value = (c.signed_bits.ensures ∙ to_z-of_z {z = c.args.t.reported_value} (sfits_of {w = w32} c.type_inv.t.1.0.1)) k;
-        previous = (c.signed_bits-2.ensures ∙ to_z-of_z {z = c.args.t.previous} (sfits_of {w = w32} c.type_inv.t.1.1.0.1)) k;
+        reported_value = (c.signed_bits.ensures ∙ to_z-of_z {z = c.args.t.reported_value} (sfits_of {w = w32} c.struct_told-1.given.1.0.1)) k;
+        previous = (c.signed_bits-2.ensures ∙ to_z-of_z {z = c.args.t.previous} (sfits_of {w = w32} c.struct_told-2-1.given.1.1.0.1)) k;
         sum = c.args.t.sum;
       },
   c.whole_gate_coded-c.ensures.1,

@@ -12,7 +12,7 @@ returns c =
     λ k.
     record {
       gate = c.whole_gate_of-g.ensures k;
-      reported_value = (to_z-of_z (sfits_of {w = w32} c.signed.type-inv) ∙ c.signed.ensures) k;
-      previous = (to_z-of_z (sfits_of {w = w32} c.signed-2.type-inv) ∙ c.signed-2.ensures) k;
+      reported_value = (to_z-of_z (sfits_of {w = w32} c.signed.type_inv) ∙ c.signed.ensures) k;
+      previous = (to_z-of_z (sfits_of {w = w32} c.signed-2.type_inv) ∙ c.signed-2.ensures) k;
       sum = c.args.w.sum;
     }

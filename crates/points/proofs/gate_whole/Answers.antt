@@ -14,7 +14,7 @@ returns-in-AnyChange c = rw (c.in-AnyChange.is, eq-bits c.ranges.value c.ranges.
 pub returns-in-Beyond : goal.returns-in-Beyond
 returns-in-Beyond c =
     let F = c.ranges in
-    rw (c.in-Beyond.is, rw (to_z-of_z F.value, to_z-of_z F.reported-value) at c.whole_distance.ensures)
+    rw (c.in-Beyond.is, rw (to_z-of_z F.value, to_z-of_z F.reported_value) at c.whole_distance.ensures)
 
 pub returns-then-limit-total : goal.returns-then-limit-total
 returns-then-limit-total c =
