@@ -31,6 +31,7 @@ def mutables():
 
 def decl_of(block):
     for line in block:
+        if line.startswith("module _ "): return "module " + line
         if line.startswith("--") or line.startswith(" ") : continue
         m = re.match(r"(?:(?:abbrev|unfoldable|pub|opaque)\s+)*(%s)(?:\s+\{[^}]*\})?\s*:(?=\s|$)" % W, line)
         if m: return m.group(1)
@@ -138,7 +139,11 @@ def convert(path, names, crate, fn):
     helpers = {}   # helper -> its place, where its first argument is the record
     for b in decls:
         n = decl_of(b)
-        if n and n not in ren and n not in invs:
+        if n and n.startswith("module "):
+            m = re.search(r"\((%s) : tie\.(%s)" % (W, W), n)
+            if m:
+                for x in re.findall(r"(?m)^  (?:abbrev )?(%s)(?: \{.*\})? :" % W, "\n".join(b)): helpers[x] = norm(m.group(2))
+        elif n and n not in ren and n not in invs:
             m = re.search(r":\s*(?:\(%s : )?tie\.(%s)" % (W, W), "\n".join(b))
             if m and not m.group(1).startswith(("Need-", "invariant", "decreases")): helpers[n] = norm(m.group(1))
     called = {norm(pl[2][0]): pl[3] for pl in names["places"] if pl[3]}
@@ -209,7 +214,7 @@ def convert(path, names, crate, fn):
         elif step.lower() in low: parts[0] = low[step.lower()]
         for k in range(1, len(parts)):
             if parts[k - 1] in ("args", "ranges", "new", "utf8", "initial") or (k == 1 and step in loops): parts[k] = parts[k].replace("-", "_")
-        if len(parts) > 2 and parts[1] == "new" and parts[2].isdigit() and step in called:
+        if len(parts) > 2 and parts[1] in ("new", "auto") and parts[2].isdigit() and step in called:
             ms = muts.get(called[step])
             if ms and int(parts[2]) < len(ms): parts[2] = ms[int(parts[2])]
         return "." + ".".join(parts)
@@ -270,19 +275,27 @@ def convert(path, names, crate, fn):
             subs.pop("_", None)
             def sb(mm): return subs.get(mm.group(0), mm.group(0))
             body = re.sub(r"(?<![\w'₀-₉.-])[^\s(){}.;,@\"«»\[\]\\]+", sb, body)
+            body = re.sub(r"([{;]\s*)l\.(?:initial\.)?(\w+) = ", r"\1\2 = ", body)
             iout.append("\n".join(pre + [f"abbrev pub {new} : goal.{new}", unf + f"{new} l ={body}"]))
             continue
         if n in ren:
             # body trivial?
             body = re.sub(r"--[^\n]*\n", "", t)
             m3 = re.search(r"\n%s(?:\s+%s)*\s*=\s*(.*)" % (re.escape(n), W), body, re.S)
-            if m3 and m3.group(1).strip() in ("search rules", "omega arith", "refl", "search (rules)"):
+            if "\nunfolding" not in body and m3 and m3.group(1).strip() in ("search rules", "omega arith", "refl", "search (rules)"):
                 trivial.append(n); continue
             tail = r"((?:\s+(?:%s)(?![\w'-]))*)" % "|".join(re.escape(i) for i in invs) if invs else r"()"
             t = re.sub(r"(?m)^(%s)\s*:\s*tie\.%s%s" % (re.escape(n), W, tail), lambda m: f"pub {ren[n]} : goal.{ren[n]}", t)
         env = {}
         # the clause
         lines = t.split("\n")
+        if n.startswith("module "):
+            for m in re.finditer(r"\((%s) : tie\.(%s)" % (W, W), n): env[m.group(1)] = (m.group(1), norm(m.group(2)))
+            for m in re.finditer(r"(?m)^  (?:abbrev )?(%s) : tie\.(%s)" % (W, W), t): env[m.group(1)] = (m.group(1), norm(m.group(2)))
+            out = []
+            for part in re.split(r"(?m)^(?=  (?:abbrev )?%s(?: \{.*\})? :)" % W, t):
+                out.append(chains(part, dict(env), n, None))
+            t = "".join(out)
         si = next(k for k, l in enumerate(lines) if not l.startswith("--"))
         ci = next((k for k in range(si + 1, len(lines)) if re.match(re.escape(n) + r"(\s|$)", lines[k])), None)
         if ci is not None:
@@ -301,8 +314,15 @@ def convert(path, names, crate, fn):
             sig = chains(sig, dict(env), n, None)
             cl = chains(cl, dict(env), n, None)
             t = sig + "\n" + cl
+        n_open = re.subn(r"(?<![\w.])((?:\w+)(?:\.[\w-]+)+-own\.keys\d+)(?![\w.])", r"(opened \1)", t)
+        if n_open[1]:
+            t = n_open[0]
+            if "use borrow.Enum.Refused.{opened}" not in uses: uses.append("use borrow.Enum.Refused.{opened}")
         if n in ren: t = re.sub(r"(?m)^(%s c) κs\b" % re.escape(n), r"\1", t)
         t = types(t)
+        for old, new in names["args"]:
+            old, new = old.split()[-1], new.split()[-1]
+            t = re.sub(re.escape(old) + r"(?![\w'₀-₉-])", new, t)
         t = "\n".join(l if l.startswith("pub ") and ": goal." in l else rename(l) for l in t.split("\n"))
         aout.append(t)
     # trivial ones cited elsewhere?

@@ -1,6 +1,6 @@
 -- `c_api::received_words` meets its contract. Assumes nothing.
-use borrow.Enum.Refused.{opened}
 use Rattle.c_api.proofs.LineLaws.{received-refused}
+use borrow.Enum.Refused.{opened}
 use Rattle.c_api.proofs.received_words.Goals as goal
 
 pub returns-in-More : goal.returns-in-More

@@ -1,6 +1,6 @@
 -- `c_api::sent_words` meets its contract. Assumes nothing.
-use borrow.Enum.Refused.{opened}
 use Rattle.c_api.proofs.LineLaws.{sent-refused}
+use borrow.Enum.Refused.{opened}
 use Rattle.c_api.proofs.sent_words.Goals as goal
 
 pub returns-in-Segment : goal.returns-in-Segment

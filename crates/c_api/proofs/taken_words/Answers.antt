@@ -1,6 +1,6 @@
 -- `c_api::taken_words` meets its contract. Assumes nothing.
-use borrow.Enum.Refused.{opened}
 use Rattle.c_api.proofs.LineLaws.{taken_refused}
+use borrow.Enum.Refused.{opened}
 use Rattle.c_api.proofs.taken_words.Goals as goal
 
 pub returns-in-UserData : goal.returns-in-UserData

@@ -1,6 +1,6 @@
 -- `c_api::wrote_words` meets its contract. Assumes nothing.
-use borrow.Enum.Refused.{opened}
 use Rattle.c_api.proofs.LineLaws.{wrote-refused}
+use borrow.Enum.Refused.{opened}
 use Rattle.c_api.proofs.wrote_words.Goals as goal
 
 pub returns-in-Size : goal.returns-in-Size

@@ -16,21 +16,21 @@ returns-then-ss-i-ne0 c =
     let n = c.filled-n.result in
     let few = c.filled-n.ensures in
     let a = c.args in
-    let k : length a.t1 ≡ 8 = search rules in
-    sym (zero-stop a.t1 n c.loop-i.i (omega arith) (omega arith) c.if-ss-i-ne0.true) ∙ c.loop-i.invariant.0 ∙ ap all_zero (clamped a.t1 8 a.count n k few)
+    let k : length a.ss ≡ 8 = search rules in
+    sym (zero-stop a.ss n c.loop-i.i (omega arith) (omega arith) c.if-ss-i-ne0.true) ∙ c.loop-i.invariant.0 ∙ ap all_zero (clamped a.ss 8 a.count n k few)
 
 pub loop-i-preserved : goal.loop-i-preserved
 loop-i-preserved c =
     let n = c.filled-n.result in
     let few = c.filled-n.ensures in
     let a = c.args in
-    let k : length a.t1 ≡ 8 = search rules in
-    (zero_more a.t1 n c.loop-i.i (omega arith) (omega arith) c.if-ss-i-ne0.false ∙ c.loop-i.invariant.0, omega arith)
+    let k : length a.ss ≡ 8 = search rules in
+    (zero_more a.ss n c.loop-i.i (omega arith) (omega arith) c.if-ss-i-ne0.false ∙ c.loop-i.invariant.0, omega arith)
 
 pub returns : goal.returns
 returns c =
     let n = c.filled-n.result in
     let few = c.filled-n.ensures in
     let a = c.args in
-    let k : length a.t1 ≡ 8 = search rules in
-    sym (zero-end a.t1 n c.loop-i.i (omega arith) (omega arith)) ∙ c.loop-i.invariant.0 ∙ ap all_zero (clamped a.t1 8 a.count n k few)
+    let k : length a.ss ≡ 8 = search rules in
+    sym (zero-end a.ss n c.loop-i.i (omega arith) (omega arith)) ∙ c.loop-i.invariant.0 ∙ ap all_zero (clamped a.ss 8 a.count n k few)

@@ -53,7 +53,7 @@ put_objects-requires c =
     let a = c.args in
     let fit = formed-fits a.o.now a.kind a.w a.n c.requires.1 in
     let z = ap (λ (k : ℕ). span a.w k a.n) c.value_size.ensures.0 in
-    let m : length a.t6 ≡ 8 = search rules in
+    let m : length a.ss ≡ 8 = search rules in
     (omega (arith, z), simp (length-take, length-drop) (omega (arith, z)), omega (arith, m, fit.few))
 
 pub returns : goal.returns
@@ -61,9 +61,9 @@ returns c =
     let a = c.args in
     let vs = c.value_size in
     let fit = formed-fits a.o.now a.kind a.w a.n c.requires.1 in
-    let m : length a.t6 ≡ 8 = search rules in
-    let k : length (take a.n a.t6) ≡ a.n = length-take-le a.n a.t6 (omega (arith, m, fit.few)) in (
-      echo-pieces a.out.now _ _ a.o.now (take a.n a.t6) a.w vs.result (omega arith) c.copy.ensures c.put_objects.ensures
-          ∙ ap (λ (z : ℕ). splice a.out.now 4 (echo_of a.w z (take a.n a.t6) a.o.now)) vs.ensures.0,
-      sym (echo-length a.w (value_size a.kind) a.n (take a.n a.t6) a.o.now k fit.size),
+    let m : length a.ss ≡ 8 = search rules in
+    let k : length (take a.n a.ss) ≡ a.n = length-take-le a.n a.ss (omega (arith, m, fit.few)) in (
+      echo-pieces a.out.now _ _ a.o.now (take a.n a.ss) a.w vs.result (omega arith) c.copy.ensures c.put_objects.ensures
+          ∙ ap (λ (z : ℕ). splice a.out.now 4 (echo_of a.w z (take a.n a.ss) a.o.now)) vs.ensures.0,
+      sym (echo-length a.w (value_size a.kind) a.n (take a.n a.ss) a.o.now k fit.size),
     )

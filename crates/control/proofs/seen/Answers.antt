@@ -14,13 +14,13 @@ bounds-cs-left c = search (length-mapped, rules)
 pub returns-then-index-c : goal.returns-then-index-c
 returns-then-index-c c =
     let a = c.args in
-    sym (seen_here a.index a.t1.items c.loop-left.left c.loop-left-test.true c.if-index-c.true)
+    sym (seen_here a.index a.cs.items c.loop-left.left c.loop-left-test.true c.if-index-c.true)
     ∙ c.loop-left.invariant.0
 
 pub loop-left-preserved : goal.loop-left-preserved
 loop-left-preserved c =
     let a = c.args in (
-      sym (seen-before a.index a.t1.items c.loop-left.left c.loop-left-test.true c.if-index-c.false)
+      sym (seen-before a.index a.cs.items c.loop-left.left c.loop-left-test.true c.if-index-c.false)
           ∙ c.loop-left.invariant.0,
       omega arith,
     )
@@ -28,4 +28,4 @@ loop-left-preserved c =
 pub returns : goal.returns
 returns c =
     let a = c.args in
-    sym (seen-nowhere a.index a.t1.items c.loop-left.left c.loop-left-test.false) ∙ c.loop-left.invariant.0
+    sym (seen-nowhere a.index a.cs.items c.loop-left.left c.loop-left-test.false) ∙ c.loop-left.invariant.0

@@ -24,10 +24,10 @@ loop-i-preserved-then-s-eq0 c =
     let n = c.filled-n.result in
     let few = c.filled-n.ensures in
     let a = c.args in
-    let h : length a.t1.items ≡ 8 = search (length-mapped, rules) in
-    let k : length a.t2 ≡ 8 = search rules in (
-      stored c.loop-i.next.items c.loop-i.j (get_or a.t1.items c.loop-i.i no_object) _ _ (omega arith)
-          (chosen-yes a.t1.items a.t2 n c.loop-i.i (omega arith) (omega arith) (omega arith) c.if-s-eq0.true)
+    let h : length a.cs.items ≡ 8 = search (length-mapped, rules) in
+    let k : length a.ss ≡ 8 = search rules in (
+      stored c.loop-i.next.items c.loop-i.j (get_or a.cs.items c.loop-i.i no_object) _ _ (omega arith)
+          (chosen-yes a.cs.items a.ss n c.loop-i.i (omega arith) (omega arith) (omega arith) c.if-s-eq0.true)
           ∙ c.loop-i.invariant.0,
       simp length-set (omega arith),
       omega arith,
@@ -39,10 +39,10 @@ loop-i-preserved c =
     let n = c.filled-n.result in
     let few = c.filled-n.ensures in
     let a = c.args in
-    let h : length a.t1.items ≡ 8 = search (length-mapped, rules) in
-    let k : length a.t2 ≡ 8 = search rules in (
+    let h : length a.cs.items ≡ 8 = search (length-mapped, rules) in
+    let k : length a.ss ≡ 8 = search rules in (
       ap (λ (x : List ControlObject). take c.loop-i.j c.loop-i.next.items ++ x)
-          (chosen-no a.t1.items a.t2 n c.loop-i.i (omega arith) (omega arith) (omega arith) c.if-s-eq0.false)
+          (chosen-no a.cs.items a.ss n c.loop-i.i (omega arith) (omega arith) (omega arith) c.if-s-eq0.false)
           ∙ c.loop-i.invariant.0,
       c.loop-i.invariant.1,
       omega arith,
@@ -55,10 +55,10 @@ returns c =
     let n = c.filled-n.result in
     let few = c.filled-n.ensures in
     let a = c.args in
-    let h : length a.t1.items ≡ 8 = search (length-mapped, rules) in
-    let k : length a.t2 ≡ 8 = search rules in
+    let h : length a.cs.items ≡ 8 = search (length-mapped, rules) in
+    let k : length a.ss ≡ 8 = search rules in
     holding _ _ c.loop-i.invariant.1 (omega arith)
     (finished (take c.loop-i.j c.loop-i.next.items) _ _
-    (chosen-end a.t1.items (drop c.loop-i.i (take n a.t2)) n c.loop-i.i (omega arith) (omega arith))
+    (chosen-end a.cs.items (drop c.loop-i.i (take n a.ss)) n c.loop-i.i (omega arith) (omega arith))
     c.loop-i.invariant.0
-    ∙ ap₂ chosen (clamped a.t1.items 8 a.t1.count n h few) (clamped a.t2 8 a.t1.count n k few))
+    ∙ ap₂ chosen (clamped a.cs.items 8 a.cs.count n h few) (clamped a.ss 8 a.cs.count n k few))

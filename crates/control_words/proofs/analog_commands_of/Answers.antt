@@ -25,7 +25,7 @@ offset_bounds-cs-i c = let n = c.least-n.ensures in omega (arith, n)
 pub bounds-cs-i : goal.bounds-cs-i
 bounds-cs-i c =
     let a = c.args in
-    let h : length a.t1.items ≡ 8 = search (length-mapped, rules) in
+    let h : length a.cs.items ≡ 8 = search (length-mapped, rules) in
     let n = c.least-n.ensures in
     omega (arith, h, n)
 
@@ -46,11 +46,11 @@ loop-i-preserved-in-AnalogOutput c =
     let n = c.least-n.result in
     let few = c.least-n.ensures in
     let a = c.args in
-    let h : length a.t1.items ≡ 8 = search (length-mapped, rules) in
-    let x : ControlObject = get_or a.t1.items c.loop-i.i no_object in (
+    let h : length a.cs.items ≡ 8 = search (length-mapped, rules) in
+    let x : ControlObject = get_or a.cs.items c.loop-i.i no_object in (
       taken_more analog_object c.loop-i.next.items c.loop-i.j c.analog_words.result (some x) _ _ (omega (arith, few))
           (c.analog_words.ensures ∙ (λ k. some (record { index = x.index; status = x.status; command = sym c.in-AnalogOutput.is k })))
-          (ap (map some) (filter-yes is_analog_output a.t1.items n c.loop-i.i (omega arith) (omega (arith, h, few)) (ap (λ (k : Command). not (for_crob k)) c.in-AnalogOutput.is)))
+          (ap (map some) (filter-yes is_analog_output a.cs.items n c.loop-i.i (omega arith) (omega (arith, h, few)) (ap (λ (k : Command). not (for_crob k)) c.in-AnalogOutput.is)))
           ∙ c.loop-i.invariant.0,
       simp length-set (omega arith),
       omega arith,
@@ -62,9 +62,9 @@ loop-i-preserved c =
     let n = c.least-n.result in
     let few = c.least-n.ensures in
     let a = c.args in
-    let h : length a.t1.items ≡ 8 = search (length-mapped, rules) in (
+    let h : length a.cs.items ≡ 8 = search (length-mapped, rules) in (
       ap (λ (x : List ControlObject). take c.loop-i.j (map analog_object c.loop-i.next.items) ++ map some x)
-          (filter-no is_analog_output a.t1.items n c.loop-i.i (omega arith) (omega (arith, h, few)) (ap (λ (k : Command). not (for_crob k)) c.in_default.is))
+          (filter-no is_analog_output a.cs.items n c.loop-i.i (omega arith) (omega (arith, h, few)) (ap (λ (k : Command). not (for_crob k)) c.in_default.is))
           ∙ c.loop-i.invariant.0,
       c.loop-i.invariant.1,
       omega arith,
@@ -77,10 +77,10 @@ returns c =
     let n = c.least-n.result in
     let few = c.least-n.ensures in
     let a = c.args in
-    let h : length a.t1.items ≡ 8 = search (length-mapped, rules) in
+    let h : length a.cs.items ≡ 8 = search (length-mapped, rules) in
     let whole =
     taken-map analog_object c.loop-i.next.items c.loop-i.j
     ∙ finished (take c.loop-i.j (map analog_object c.loop-i.next.items)) _ _
-    (ap (map some) (filter-end is_analog_output a.t1.items n c.loop-i.i (omega arith) (omega arith))) c.loop-i.invariant.0
-    ∙ ap (λ (x : List ControlObject). map some (filter is_analog_output x)) (clamped a.t1.items 8 a.t1.count n h few) in
-    record { objects = whole; count = taken-count analog_object c.loop-i.next.items c.loop-i.j some (filter is_analog_output (list_of a.t1)) (omega (arith, few)) whole }
+    (ap (map some) (filter-end is_analog_output a.cs.items n c.loop-i.i (omega arith) (omega arith))) c.loop-i.invariant.0
+    ∙ ap (λ (x : List ControlObject). map some (filter is_analog_output x)) (clamped a.cs.items 8 a.cs.count n h few) in
+    record { objects = whole; count = taken-count analog_object c.loop-i.next.items c.loop-i.j some (filter is_analog_output (list_of a.cs)) (omega (arith, few)) whole }

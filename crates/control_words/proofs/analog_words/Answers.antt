@@ -24,13 +24,13 @@ told : {index status : ℕ} {x v : Value} → x ≡ v → some (asked index stat
 told {index = index} {status = status} = ap (λ (v : Value). some (asked index status v))
 
 pub returns-in-Int32 : goal.returns-in-Int32
-returns-in-Int32 c = told (ap Vs.Int32 (c.signed_bits.ensures ∙ to_z-of_z (sfits_of c.in-Int32.known_told-1-own.given.0.1)) ∙ sym c.in-Int32.is)
+returns-in-Int32 c = told (ap Vs.Int32 (c.signed_bits.ensures ∙ to_z-of_z {w = w32} (sfits_of c.in-Int32.known_told-1-own.given.0.1)) ∙ sym c.in-Int32.is)
 
 pub returns-in-Int16 : goal.returns-in-Int16
 returns-in-Int16 c =
     let s = short (goal.at.returns-in-Int16 c).In-Int16 in
     let e : to_z w32 c.signed_bits-in-Int16.result ≡ c.in-Int16.z =
-    c.signed_bits-in-Int16.ensures ∙ ap (λ (z : ℤ). to_z w32 (of_z w32 z)) (to_z-of_z s) ∙ to_z-of_z (sfits_widen tt s) in
+    c.signed_bits-in-Int16.ensures ∙ ap (λ (z : ℤ). to_z w32 (of_z w32 z)) (to_z-of_z s) ∙ to_z-of_z {w = w32} (sfits_widen {w = w16} {w' = w32} (tt {0}) s) in
     told (ap Vs.Int16 e ∙ sym c.in-Int16.is)
 
 pub returns-in-Float32 : goal.returns-in-Float32

@@ -22,7 +22,7 @@ offset_bounds-cs-i c = let n = c.least-n.ensures in omega (arith, n)
 pub bounds-cs-i : goal.bounds-cs-i
 bounds-cs-i c =
     let a = c.args in
-    let h : length a.t1.items ≡ 8 = search (length-mapped, rules) in
+    let h : length a.cs.items ≡ 8 = search (length-mapped, rules) in
     let n = c.least-n.ensures in
     omega (arith, h, n)
 
@@ -43,11 +43,11 @@ loop-i-preserved-in-Crob c =
     let n = c.least-n.result in
     let few = c.least-n.ensures in
     let a = c.args in
-    let h : length a.t1.items ≡ 8 = search (length-mapped, rules) in
-    let x : ControlObject = get_or a.t1.items c.loop-i.i no_object in (
+    let h : length a.cs.items ≡ 8 = search (length-mapped, rules) in
+    let x : ControlObject = get_or a.cs.items c.loop-i.i no_object in (
       taken_more crob_object c.loop-i.next.items c.loop-i.j c.crob_words.result x _ _ (omega (arith, few))
           (c.crob_words.ensures ∙ (λ k. record { index = x.index; status = x.status; command = sym c.in-Crob.is k }))
-          (filter-yes is_crob a.t1.items n c.loop-i.i (omega arith) (omega (arith, h, few)) (ap for_crob c.in-Crob.is))
+          (filter-yes is_crob a.cs.items n c.loop-i.i (omega arith) (omega (arith, h, few)) (ap for_crob c.in-Crob.is))
           ∙ c.loop-i.invariant.0,
       simp length-set (omega arith),
       omega arith,
@@ -59,9 +59,9 @@ loop-i-preserved c =
     let n = c.least-n.result in
     let few = c.least-n.ensures in
     let a = c.args in
-    let h : length a.t1.items ≡ 8 = search (length-mapped, rules) in (
+    let h : length a.cs.items ≡ 8 = search (length-mapped, rules) in (
       ap (λ (x : List ControlObject). take c.loop-i.j (map crob_object c.loop-i.next.items) ++ x)
-          (filter-no is_crob a.t1.items n c.loop-i.i (omega arith) (omega (arith, h, few)) (ap for_crob c.in_default.is))
+          (filter-no is_crob a.cs.items n c.loop-i.i (omega arith) (omega (arith, h, few)) (ap for_crob c.in_default.is))
           ∙ c.loop-i.invariant.0,
       c.loop-i.invariant.1,
       omega arith,
@@ -74,10 +74,10 @@ returns c =
     let n = c.least-n.result in
     let few = c.least-n.ensures in
     let a = c.args in
-    let h : length a.t1.items ≡ 8 = search (length-mapped, rules) in
+    let h : length a.cs.items ≡ 8 = search (length-mapped, rules) in
     let whole =
     taken-map crob_object c.loop-i.next.items c.loop-i.j
     ∙ finished (take c.loop-i.j (map crob_object c.loop-i.next.items)) _ _
-    (filter-end is_crob a.t1.items n c.loop-i.i (omega arith) (omega arith)) c.loop-i.invariant.0
-    ∙ ap (filter is_crob) (clamped a.t1.items 8 a.t1.count n h few) in
+    (filter-end is_crob a.cs.items n c.loop-i.i (omega arith) (omega arith)) c.loop-i.invariant.0
+    ∙ ap (filter is_crob) (clamped a.cs.items 8 a.cs.count n h few) in
     record { objects = whole; count = taken-length crob_object c.loop-i.next.items c.loop-i.j (omega (arith, few)) ∙ ap length whole }

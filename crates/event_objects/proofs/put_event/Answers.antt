@@ -10,25 +10,25 @@ pub put2-requires : goal.put2-requires
 put2-requires c = omega (arith, length-least c.args.e)
 
 pub bounds-out-at : goal.bounds-out-at
-bounds-out-at c = omega (arith, length-least c.args.e, c.put2.auto.0)
+bounds-out-at c = omega (arith, length-least c.args.e, c.put2.auto.b)
 
 pub put6-requires : goal.put6-requires
-put6-requires c = simp length-set (omega (arith, length-least c.args.e, c.put2.auto.0))
+put6-requires c = simp length-set (omega (arith, length-least c.args.e, c.put2.auto.b))
 
 pub bounds-out-at-in-Analog : goal.bounds-out-at-in-Analog
-bounds-out-at-in-Analog c = omega (arith, length-least c.args.e, c.put2.auto.0)
+bounds-out-at-in-Analog c = omega (arith, length-least c.args.e, c.put2.auto.b)
 
 pub put_value-to-requires : goal.put_value-to-requires
-put_value-to-requires c = simp length-set (omega (arith, length-analog c.args.e _ c.in-Analog.is, c.put2.auto.0))
+put_value-to-requires c = simp length-set (omega (arith, length-analog c.args.e _ c.in-Analog.is, c.put2.auto.b))
 
 pub put6-requires-in-Analog : goal.put6-requires-in-Analog
-put6-requires-in-Analog c = omega (arith, length-analog c.args.e _ c.in-Analog.is, c.put2.auto.0, c.put_value-to.ensures.0, simp length-set at c.put_value-to.auto.0)
+put6-requires-in-Analog c = omega (arith, length-analog c.args.e _ c.in-Analog.is, c.put2.auto.b, c.put_value-to.ensures.0, simp length-set at c.put_value-to.auto.out)
 
 pub overflow_add-result-in-Analog : goal.overflow_add-result-in-Analog
 overflow_add-result-in-Analog c = omega (arith, length-analog c.args.e _ c.in-Analog.is, c.put_value-to.ensures.0)
 
 pub shape_of-out-in-State : goal.shape_of-out-in-State
-shape_of-out-in-State c = c.put6.auto.0 ∙ simp length-set c.put2.auto.0
+shape_of-out-in-State c = c.put6.auto.b ∙ simp length-set c.put2.auto.b
 
 pub returns-in-State : goal.returns-in-State
 returns-in-State c =
@@ -38,7 +38,7 @@ returns-in-State c =
     )
 
 pub shape_of-out-in-Analog : goal.shape_of-out-in-Analog
-shape_of-out-in-Analog c = c.put6-in-Analog.auto.0 ∙ c.put_value-to.auto.0 ∙ simp length-set c.put2.auto.0
+shape_of-out-in-Analog c = c.put6-in-Analog.auto.b ∙ c.put_value-to.auto.out ∙ simp length-set c.put2.auto.b
 
 pub returns-in-Analog : goal.returns-in-Analog
 returns-in-Analog c =

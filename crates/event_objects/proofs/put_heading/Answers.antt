@@ -16,7 +16,7 @@ pub put2-requires : goal.put2-requires
 put2-requires c = simp length-set (omega arith)
 
 pub shape_of-out : goal.shape_of-out
-shape_of-out c = c.put2.auto.0 ∙ simp length-set
+shape_of-out c = c.put2.auto.b ∙ simp length-set
 
 pub returns : goal.returns
 returns c = rw (← c.group.ensures, ← c.variation.ensures) (refl, c.put2.ensures ∙ three-put _ _ _ _ _ _)

@@ -13,7 +13,7 @@ use Rattle.fragments.proofs.answer_read.Goals as goal
 
 pub shape_of-out : goal.shape_of-out
 shape_of-out c =
-    c.put_response_header.auto.0 ∙ c.respond-reply.auto.0
+    c.put_response_header.auto.out ∙ c.respond-reply.auto.out
 
 pub returns : goal.returns
 returns c =

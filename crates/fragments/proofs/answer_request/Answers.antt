@@ -1,30 +1,37 @@
 -- `fragments::answer_request` meets its contract.
 -- Assumes nothing.
--- the answer has at most 113 bytes
-module _ (c : tie.After-put-answer) where
-  abbrev start : tie.Start
-  start = c.before.before.before.before.before.before.before.before.before.before.before.before.before.before.before.before
-  small : c.before.before.before.before.before.before.before.before.before.effect-by.result.size ≤ 113
-  small =
-      let a = start.args in
-      effect-small c.before.before.before.before.before.before.before.before.before.before.before.before.context-of.result a.outputs.now a.q.0 a.function a.time (take (length a.f.now - 2) (drop 2 a.f.now)) c.before.before.before.before.before.before.before.before.before.effect-by.result a.out.now _
-      c.before.before.before.before.before.before.before.before.before.effect-by.ensures
-  less : c.put-answer.result ≤ 113
-  less = kept-most (eqb start.args.function 6) c.put-answer.result c.before.before.before.before.before.before.before.before.before.effect-by.result.size c.put-answer.ensures.1 small
-  same : length c.put-answer.new.0 ≡ length start.args.out.now
-  same = c.put-answer.auto.0 ∙ c.before.before.before.before.before.before.before.before.before.effect-by.auto.1.1.1.1.1.1.0
 use mathlib.Core.List.{List}
-use mathlib.Core.Path.{subst}
+use mathlib.Core.Path.{◌≡◌, subst, ◌∙◌}
 use Prim.Native.Nat.{ℕ, ◌-◌, ◌≤◌}
 use native.Mathlib.Omega.{arith}
-use lib.ListN.{length, take, length-take}
+use lib.Dec.{eqb}
+use lib.ListN.{length, take, drop, length-take}
 use Rattle.laws.proofs.Filling.{to_end}
 use Rattle.events.specs.BufferView.{BufferView}
 use Rattle.outstation.specs.Step.{effect_by}
 use Rattle.effects.specs.Effects.{EffectMeets, context_view}
+use Rattle.fragments.proofs.AnswerLaws.{kept-most}
+use Rattle.effects.proofs.EffectLaws.{effect-small}
 use Rattle.fragments.proofs.PartLaws.{other-in}
 use Rattle.fragments.proofs.answer_request.Goals as goal
-use Rattle.fragments.proofs.answer_request.Goals.{After-put_answer-arg-1, After-put_answer-n}
+use Rattle.fragments.proofs.answer_request.Goals.{After-put_answer-n, Start}
+
+-- the answer has at most 113 bytes
+module _ (c : After-put_answer-n) where
+  abbrev start : Start
+  start = c.before.before.before.before.before.before.before.before.before.before.before.before.before.before.before.before
+
+  small : c.effect_by-d.result.size ≤ 113
+  small =
+      let a = start.args in
+      effect-small c.context_of-seen.result a.outputs.now a.q.0 a.function a.time (take (length a.f.now - 2) (drop 2 a.f.now)) c.effect_by-d.result a.out.now _
+      c.effect_by-d.ensures
+
+  less : c.put_answer-n.result ≤ 113
+  less = kept-most (eqb start.args.function 6) c.put_answer-n.result c.effect_by-d.result.size c.put_answer-n.ensures.1 small
+
+  same : length c.put_answer-n.new.out ≡ length start.args.out.now
+  same = c.put_answer-n.auto.out ∙ c.effect_by-d.auto.1.1.1.1.1.1.0
 
 pub slice_bounds-remember-end : goal.slice_bounds-remember-end
 slice_bounds-remember-end c =
@@ -32,24 +39,24 @@ slice_bounds-remember-end c =
 
 pub slice_bounds-remember-end-2 : goal.slice_bounds-remember-end-2
 slice_bounds-remember-end-2 c =
-    simp length-take (omega (arith, less (goal.at.slice_bounds-remember-end-2 c).After-put_answer-arg-1, same (goal.at.slice_bounds-remember-end-2 c).After-put_answer-arg-1, (start (goal.at.slice_bounds-remember-end-2 c).After-put_answer-arg-1).requires))
+    simp length-take (omega (arith, less (goal.at.slice_bounds-remember-end-2 c).After-put_answer-n, same (goal.at.slice_bounds-remember-end-2 c).After-put_answer-n, (start (goal.at.slice_bounds-remember-end-2 c).After-put_answer-n).requires))
 
 pub remember-kept-requires : goal.remember-kept-requires
 remember-kept-requires c =
-    ((start (goal.at.remember-kept-requires c).After-put_answer-arg-1).requires.1, simp length-take (omega (arith, less (goal.at.remember-kept-requires c).After-put_answer-arg-1)))
+    ((start (goal.at.remember-kept-requires c).After-put_answer-n).requires.1, simp length-take (omega (arith, less (goal.at.remember-kept-requires c).After-put_answer-n)))
 
 pub shape_of-out : goal.shape_of-out
 shape_of-out c =
-    same (goal.at.shape_of-out c).After-put_answer-arg-1
+    same (goal.at.shape_of-out c).After-put_answer-n
 
 pub returns : goal.returns
 returns c =
-    let s = start (goal.at.returns c).After-put_answer-arg-1 in
+    let s = start (goal.at.returns c).After-put_answer-n in
     let a = s.args in
     let dd = c.effect_by-d in
     let seen = c.context_of-seen in
     let pa = c.put_answer-n in
-    let short : length (take pa.result pa.new.0) ≤ 113 = simp length-take (omega (arith, less (goal.at.returns c).After-put_answer-arg-1)) in
+    let short : length (take pa.result pa.new.0) ≤ 113 = simp length-take (omega (arith, less (goal.at.returns c).After-put_answer-n)) in
     other-in a.h a.held.now a.request.now a.answer.now a.objects.now a.outputs.now a.q.0 a.function a.time a.f.now _ _ _ _ dd.result a.out.now _ _
     pa.result _ c.remember-kept.result c.after_request-next.result c.after_request-next.ensures c.remember-kept.ensures s.pre.1 short s.pre.2
     c.answer_as-a.ensures _ seen.result c.buffer_status-t.ensures seen.ensures

@@ -31,13 +31,13 @@ was s = view_of s.args.h (mem s)
 -- a fragment that is classified is in time and has room for its answer
 module _ (c : After-classify-kind) where
   abbrev start : Start
-  start = c.before.before.before.before.before.before
+  start = (goal.at.After-classify-kind c).Start
 
   in-time : bad_time start.args.h.clock start.args.time ≡ false
-  in-time = sym c.before.before.before.bad-time.ensures ∙ c.before.before.if1.false
+  in-time = sym c.bad_time.ensures ∙ c.if-bad_time.false
 
   roomy : ltb (length start.args.out.now) fragment_max ≡ false
-  roomy = le-ltb _ _ c.before.if2.false
+  roomy = le-ltb _ _ c.if-out-lt-FRAGMENT_MAX.false
 
 pub returns-then-bad_time : goal.returns-then-bad_time
 returns-then-bad_time c =

@@ -1,23 +1,25 @@
 -- `select_latch::operate_status` meets its contract: by the tests, in their order.
 -- Assumes nothing.
--- the status that any latch gives
-module _ (c : tie.Start) where
-  abbrev told : LatchView → ℕ
-  told l = operate_status c.args.arm-time l c.args.group c.args.sequence.0 c.args.time c.args.o.now
 use mathlib.Core.Path.{◌≡◌, sym, ap, ◌∙◌}
 use mathlib.Core.Bool.{true}
+use Prim.Native.Nat.{ℕ}
 use native.Mathlib.Omega.{arith}
 use borrow.Author.Rules.{rules}
 use borrow.Author.Tests.{not-true, not-false}
 use lib.ListN.{length, take, length-take}
 use Rattle.laws.specs.Lists.{same}
-use Rattle.select_latch.specs.Select.{same_group, selected, latch_of}
+use Rattle.select_latch.specs.Select.{LatchView, same_group, selected, latch_of, operate_status}
 use Rattle.laws.proofs.Loops.{length-mapped}
 use Rattle.laws.proofs.Filling.{clamped}
 use Rattle.control.specs.Objects.{echo_max}
 use Rattle.select_latch.proofs.Laws.{latch-empty, latch-armed, operate-empty, operate-group, operate-other, operate-sequence, operate-late, operate-good}
 use Rattle.select_latch.proofs.operate_status.Goals as goal
 use Rattle.select_latch.proofs.operate_status.Goals.{After-equal, After-least-n, Else-not-latch, Else-not-same_group, Start}
+
+-- the status that any latch gives
+module _ (c : Start) where
+  abbrev told : LatchView → ℕ
+  told l = operate_status c.args.arm_time l c.args.group c.args.sequence.0 c.args.time c.args.o.now
 
 -- an armed one
 armed : (e : Else-not-latch)

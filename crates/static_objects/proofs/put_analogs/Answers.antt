@@ -49,7 +49,7 @@ end_run-requires c = (
 pub put_point-to-requires-else-k-last : goal.put_point-to-requires-else-k-last
 put_point-to-requires-else-k-last c =
     let f = begun-fits (static_heading true) 7 (heading-length true) c.loop-left.invariant.0 _ _ (points-cons _ _ _ _ c.loop-left-test.true) _ (kind (goal.at.put_point-to-requires-else-k-last c).After-variation-k) _ (ap point_bytes c.analog_shown-s.ensures) c.if-k-last.false in
-    omega (arith, f, c.end_run.auto.0)
+    omega (arith, f, c.end_run.auto.out)
 
 pub loop-left-preserved : goal.loop-left-preserved
 loop-left-preserved c =
@@ -67,7 +67,7 @@ end_run-requires-2 c = (
 )
 
 pub shape_of-out : goal.shape_of-out
-shape_of-out c = c.end_run-2.auto.0 ∙ c.loop-left.invariant.0.long
+shape_of-out c = c.end_run-2.auto.out ∙ c.loop-left.invariant.0.long
 
 pub returns : goal.returns
 unfolding range_bytes

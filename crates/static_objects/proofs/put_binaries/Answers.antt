@@ -26,7 +26,7 @@ pub put_states-requires : goal.put_states-requires
 put_states-requires c =
     let a = c.args in
     let some : 0 < a.n = omega (arith, c.if-n-eq0.false) in
-    (omega (arith, c.requires.0, binaries-length (binaries_alone a.count a.ws.now) a.from a.n some, c.put_heading-to.ensures.0, c.put_heading-to.auto.0), c.requires.1)
+    (omega (arith, c.requires.0, binaries-length (binaries_alone a.count a.ws.now) a.from a.n some, c.put_heading-to.ensures.0, c.put_heading-to.auto.out), c.requires.1)
 
 pub returns : goal.returns
 returns c =

@@ -24,7 +24,7 @@ put_analogs-requires c =
     let a = c.args in
     let some = ap length (binaries-alone a.n a.binaries.now a.analogs.now a.h.binary a.h.binaries) in
     let more = ap length (analogs-alone a.n a.binaries.now a.analogs.now a.h.analog a.h.analogs) in (
-      omega (arith, c.requires, some, more, header-length (points_view_in a.n a.binaries.now a.analogs.now) a.h, c.put_binaries-to.ensures.0, c.put_binaries-to.auto.0),
+      omega (arith, c.requires, some, more, header-length (points_view_in a.n a.binaries.now a.analogs.now) a.h, c.put_binaries-to.ensures.0, c.put_binaries-to.auto.out),
       omega (arith, c.struct_known-4-1.given, c.struct_known-3-1.given),
     )
 
@@ -36,7 +36,7 @@ returns c =
     let some = binaries-alone a.n a.binaries.now a.analogs.now a.h.binary a.h.binaries in
     let more = analogs-alone a.n a.binaries.now a.analogs.now a.h.analog a.h.analogs in (
       omega (arith, header-length i a.h, ap length some, ap length more, c.put_binaries-to.ensures.0, p.ensures.0),
-      header-put i a.out.now c.put_binaries-to.new.out p.new.0 a.at c.put_binaries-to.result a.h
+      header-put i a.out.now c.put_binaries-to.new.out p.new.out a.at c.put_binaries-to.result a.h
           (c.put_binaries-to.ensures.0 ∙ ap (λ (x : List ℕ). a.at + length x) some) (c.put_binaries-to.ensures.1 ∙ ap (splice a.out.now a.at) some)
           (p.ensures.1 ∙ ap (splice c.put_binaries-to.new.out c.put_binaries-to.result) more),
     )

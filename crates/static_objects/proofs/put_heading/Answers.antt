@@ -16,10 +16,10 @@ pub put-requires : goal.put-requires
 put-requires c = simp length-set (omega arith)
 
 pub put-requires-2 : goal.put-requires-2
-put-requires-2 c = omega (arith, simp length-set at c.put.auto.0)
+put-requires-2 c = omega (arith, simp length-set at c.put.auto.b)
 
 pub shape_of-out : goal.shape_of-out
-shape_of-out c = c.put-2.auto.0 ∙ c.put.auto.0 ∙ simp length-set
+shape_of-out c = c.put-2.auto.b ∙ c.put.auto.b ∙ simp length-set
 
 pub returns : goal.returns
 returns c = rw (← c.group.ensures) (refl, heading-put _ _ _ _ _ _ _ _ c.put.ensures c.put-2.ensures)

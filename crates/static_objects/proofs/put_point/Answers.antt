@@ -19,7 +19,7 @@ pub returns-in-Binary : goal.returns-in-Binary
 returns-in-Binary c = (omega (arith, length-binary _ _ c.in-Binary.is), binary-put _ _ _ _ c.in-Binary.is)
 
 pub shape_of-out-in-Analog : goal.shape_of-out-in-Analog
-shape_of-out-in-Analog c = c.put_value.auto.0 ∙ simp length-set
+shape_of-out-in-Analog c = c.put_value.auto.out ∙ simp length-set
 
 pub returns-in-Analog : goal.returns-in-Analog
 returns-in-Analog c = (omega (arith, length-analog _ _ _ c.in-Analog.is, c.put_value.ensures.0), analog-put _ _ _ _ _ _ c.in-Analog.is c.put_value.ensures.1)
