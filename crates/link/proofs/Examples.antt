@@ -1,7 +1,7 @@
 -- The station's rule at frames that were written, and at each case of the rule, by computation.
 -- Assumes nothing.
 use mathlib.Core.Path.{◌≡◌, refl, ap}
-use Prim.Native.Nat.{ℕ, ◌+◌, ◌≤◌, ◌<◌}
+use Prim.Native.Nat.{ℕ, ◌≤◌, ◌<◌}
 use mathlib.Core.List.{List, [], ◌∷◌, ◌++◌}
 use Rattle.laws.specs.Limits.{user_max}
 use Rattle.frame.specs.FrameOutcome.{wrong_block, FrameOutcome, accepted, refused, refused_by}

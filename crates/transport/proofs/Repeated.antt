@@ -15,7 +15,7 @@ use Rattle.laws.proofs.Tests.{passed-no}
 use Rattle.laws.proofs.SameLaws.{same_refl, same-eq}
 use Rattle.octets.specs.Bytes.{splice, AreBytes}
 use Rattle.octets.proofs.Splice.{length-splice, stored-splice, splice-same}
-use Rattle.transport.specs.Segment.{head_of, fin, fir, sequence, data_of, next_sequence, bit_of, transport_header, segment, segment_count, cut, segments_of}
+use Rattle.transport.specs.Segment.{head_of, fin, fir, sequence, data_of, next_sequence, bit_of, transport_header, segment_count, cut, segments_of}
 use Rattle.transport.specs.Receive.{idle, last_segment, Place, behind, ignored, places, receiving, Progress, more, complete, kept_of, received_of, answer_received, assembly_after, lent_after_receive, SegmentReceived}
 use Rattle.transport.specs.Repeated.{LastIsKept, HeardTwice, Repeated, ends, once, again, RepeatedIsReceived}
 use Rattle.transport.specs.declared.Assembly.{Assembly}

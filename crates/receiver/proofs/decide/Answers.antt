@@ -12,10 +12,10 @@ use Rattle.frame.proofs.Laws.{fields-checked}
 use Rattle.receiver.specs.Receiver.{decided, kept_in, lent_after}
 use Rattle.receiver.proofs.KeptLaws.{left-accepted, left-refused}
 use Rattle.receiver.proofs.decide.Goals as goal
-use Rattle.receiver.proofs.decide.Goals.{In-Frame-2}
+use Rattle.receiver.proofs.decide.Goals.{In-Frame}
 
 -- a frame that was found is there to its end
-found : (u : In-Frame-2) → let n = u.in-Frame.len in let a = u.args in (n ≤ user_max) × (frame_size n ≤ length (take a.n a.memory.now))
+found : (u : In-Frame) → let a = u.args in (u.in-Frame.len ≤ user_max) × (frame_size u.in-Frame.len ≤ length (take a.n a.memory.now))
 found u = subst (λ (r : Read). Whole r (take u.args.n u.args.memory.now)) u.in-Frame.is u.requires.0.whole
 
 pub overflow_add-taken : goal.overflow_add-taken
@@ -23,7 +23,7 @@ overflow_add-taken c = let h = c.requires.3 in omega arith
 
 pub copy_user-requires : goal.copy_user-requires
 copy_user-requires c =
-    let w = found (goal.at.copy_user-requires c).In-Frame-2 in
+    let w = found (goal.at.copy_user-requires c).In-Frame in
     let room = c.requires.2 in
     (w.0, w.1, omega arith)
 

@@ -57,4 +57,4 @@ returns c =
     let j : ℕ = c.gather-k.result in
     let count : a.taken + j - 1 + 1 ≡ a.taken + j = omega (arith, one, z.0, h) in
     let k = whole-ends a.memory.now a.n c.requires.0 c.requires.1 a.piece.now _ _ z.0 g.0 h in
-    subst (λ (x : Call). Meets c.decide.result x c.decide.new.memory a.out.now c.decide.new.out.1.1.1.0) (ap₂ ends count e ∙ sym (ap (more a.taken) k)) c.decide.ensures
+    subst (λ (x : Call). Meets c.decide.result x c.decide.new.memory a.out.now c.decide.new.out) (ap₂ ends count e ∙ sym (ap (more a.taken) k)) c.decide.ensures

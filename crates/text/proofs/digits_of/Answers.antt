@@ -1,4 +1,3 @@
-use Prim.Native.Nat.{◌-◌}
 use mathlib.Core.Path.{refl, sym, ◌∙◌}
 use Rattle.text.proofs.DecimalLaws.{whole-within-low, whole-within-high, whole-within-turn, whole-within-past, whole-within-end}
 use native.Mathlib.Omega.{arith}

@@ -1,6 +1,4 @@
 use mathlib.Core.Path.{refl}
-use Prim.Native.Nat.{◌-◌}
-use Rattle.octets.specs.Bytes.{splice}
 use Rattle.octets.proofs.Splice.{splice-end}
 use Rattle.text.proofs.Writing.{put-turn}
 use borrow.Author.Rules.{rules}

@@ -10,5 +10,5 @@ use Rattle.text.proofs.put_decimal.Goals as goal
 
 pub returns : goal.returns
 returns c = let sp = c.spell-from in
-    let e : take (20 - sp.result) (drop sp.result sp.new.0) ≡ decimal_of c.args.v = take_all (20 - sp.result) (drop sp.result sp.new.0) (simp length-drop (omega arith)) ∙ sp.ensures.0 in
+    let e : take (20 - sp.result) (drop sp.result sp.new.t) ≡ decimal_of c.args.v = take_all (20 - sp.result) (drop sp.result sp.new.t) (simp length-drop (omega arith)) ∙ sp.ensures.0 in
     (cc, cc)

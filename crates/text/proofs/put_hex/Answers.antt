@@ -1,5 +1,4 @@
 use mathlib.Core.Path.{refl}
-use Prim.Native.Nat.{◌-◌}
 use Rattle.text.proofs.HexLaws.{hex-turn, hex-end}
 use borrow.Author.Rules.{rules}
 use native.Mathlib.Omega.{arith}

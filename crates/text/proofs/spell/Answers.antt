@@ -2,8 +2,8 @@ use Rattle.text.specs.Words.{shown_by}
 use Rattle.text.proofs.DecimalLaws.{spell-turn, spell-end, wider, tenth}
 use mathlib.Core.Path.{ap, ◌∙◌}
 use mathlib.Core.List.{List, ◌++◌, append-nil}
-use lib.ListN.{length, drop, length-set, drop_of_length-le}
-use Prim.Native.Nat.{ℕ, ◌-◌, ◌≤◌, ◌<◌}
+use lib.ListN.{length, length-set, drop_of_length-le}
+use Prim.Native.Nat.{ℕ, ◌≤◌, ◌<◌}
 use native.Mathlib.Omega.{arith}
 use Rattle.text.proofs.spell.Goals as goal
 

@@ -1,8 +1,7 @@
 use mathlib.Core.Path.{refl}
 use mathlib.Core.Path.{sym, ap, ◌∙◌}
-use Prim.Native.Nat.{◌*◌, ◌-◌}
-use lib.ListN.{length, length-set}
-use Rattle.text.specs.Words.{unhex}
+use Prim.Native.Nat.{◌*◌}
+use lib.ListN.{length-set}
 use Rattle.text.proofs.HexLaws.{first-none, second_none, both-digits, unhex-turn, hex-whole, hex-all, read-room, read-odd, read-not, read_all}
 use Prim.Native.Nat.{◌+◌}
 use Rattle.text.specs.Words.{bytes}

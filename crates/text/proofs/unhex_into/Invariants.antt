@@ -5,7 +5,6 @@ use mathlib.Core.List.{◌++◌}
 use Prim.Native.Nat.{◌*◌, ◌-◌, ◌≤◌}
 use lib.ListN.{length, take, drop}
 use Rattle.text.specs.Words.{unhex, all_hex}
-use Prim.Native.Nat.{◌+◌}
 use Rattle.text.proofs.unhex_into.Given as goal
 
 abbrev pub invariant-loop-i : goal.invariant-loop-i

@@ -6,16 +6,13 @@ use Rattle.laws.specs.Outcome.{accepted, refused}
 use Rattle.transport.specs.Receive.{behind, receiving, places, place_of}
 use Rattle.transport.proofs.Laws.{received-by, got-lent, got-short, got-long, got-first, got-next, place-fits, rest-is, rest-length, rest-length-0}
 use Rattle.transport.proofs.receive.Goals as goal
-use Rattle.transport.proofs.receive.Goals.{Else-header-eq1, In-Behind-2}
+use Rattle.transport.proofs.receive.Goals.{Else-header-eq1}
 
 -- without FIR the data goes where `placed` says
 nexts : (u : Else-header-eq1) → let a = u.args in receiving a.out.now a.a a.segment.now ≡ places a.a a.out.now a.segment.now
 nexts u =
     let a = u.args in
     got-next a.out.now a.a a.segment.now (omega arith) (omega arith) (omega arith) u.if-header-eq1.false
-
-went : (u : In-Behind-2) → let a = u.args in places a.a a.out.now a.segment.now ≡ accepted (behind u.in-Behind.at)
-went u = sym u.placed-p.ensures ∙ ap place_of u.in-Behind.is
 
 pub returns-then-out-lt-FRAGMENT_MAX : goal.returns-then-out-lt-FRAGMENT_MAX
 returns-then-out-lt-FRAGMENT_MAX c =
@@ -42,17 +39,19 @@ returns-then-header-eq1 c =
 pub copy-requires-in-Behind : goal.copy-requires-in-Behind
 copy-requires-in-Behind c =
     let s = c.args.segment.now in
-    simp (rest-is s, rest-length s) (omega (arith, rest-length s, place-fits _ _ _ _ (went (goal.at.copy-requires-in-Behind c).In-Behind-2)))
+    let e = sym c.placed-p.ensures ∙ ap place_of c.in-Behind.is in
+    simp (rest-is s, rest-length s) (omega (arith, rest-length s, place-fits _ _ _ _ e))
 
 pub overflow_add-at : goal.overflow_add-at
 overflow_add-at c =
-    let s = c.args.segment.now in
-    omega (arith, rest-length s, place-fits _ _ _ _ (went (goal.at.overflow_add-at c).In-Behind-2))
+    let e = sym c.placed-p.ensures ∙ ap place_of c.in-Behind.is in
+    omega (arith, rest-length c.args.segment.now, place-fits _ _ _ _ e)
 
 pub returns-in-Behind : goal.returns-in-Behind
 returns-in-Behind c =
     let s = c.args.segment.now in
-    received-by _ _ s _ _ _ (nexts (goal.at.returns-in-Behind c).Else-header-eq1 ∙ went (goal.at.returns-in-Behind c).In-Behind-2)
+    let e = sym c.placed-p.ensures ∙ ap place_of c.in-Behind.is in
+    received-by _ _ s _ _ _ (nexts (goal.at.returns-in-Behind c).Else-header-eq1 ∙ e)
     (rw (rest-length s) c.progressed-in-Behind.ensures.1) (rw (rest-length s) c.progressed-in-Behind.ensures.0) (cc (rest-is s))
 
 pub returns-in-Ignored : goal.returns-in-Ignored

@@ -9,9 +9,6 @@ use Rattle.transport.proofs.write_segment.Goals as goal
 pub copy-requires : goal.copy-requires
 copy-requires c = simp (length-take, length-drop, length-set) (omega arith)
 
-pub shape_of-out : goal.shape_of-out
-shape_of-out c = c.copy.auto.0 ∙ simp length-set
-
 pub returns : goal.returns
 returns c =
     let a = c.args in
