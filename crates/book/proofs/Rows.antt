@@ -92,11 +92,26 @@ carry-collect m k i (r ∷ rs) =
     by (row_held r)
     (λ h. by (is_asked m r.event.class)
     (λ a. by (fits k r.event)
-    (λ f. let skip = collect-skip i (picks m (space_after k r.event) (suc i) rs) (suc i) rs (le_refl _) in
-    rw (h, a, f, eq-eqb i i refl, skip, carry-collect m (space_after k r.event) (suc i) rs))
-    (λ f. rw (h, a, f)))
-    (λ a. rw (h, a, picks-above m k i (suc i) rs (le_refl _), carry-collect m k (suc i) rs)))
-    (λ h. rw (h, carry-collect m k (suc i) rs))
+    (λ f.
+    let rest = picks m (space_after k r.event) (suc i) rs in
+    let picked : picks m k i (r ∷ rs) ≡ i ∷ rest = rw (h, a, f) in
+    let skip = collect-skip i rest (suc i) rs (le_refl _) in
+    let this : carry m k (collect [] i (r ∷ rs)) ≡ collect (i ∷ rest) i (r ∷ rs) = rw (h, a, f, eq-eqb i i refl, skip, carry-collect m (space_after k r.event) (suc i) rs) in
+    this ∙ ap (λ (ws : List ℕ). collect ws i (r ∷ rs)) (sym picked))
+    (λ f.
+    let picked : picks m k i (r ∷ rs) ≡ [] = rw (h, a, f) in
+    let this : carry m k (collect [] i (r ∷ rs)) ≡ collect [] i (r ∷ rs) = rw (h, a, f) in
+    this ∙ ap (λ (ws : List ℕ). collect ws i (r ∷ rs)) (sym picked)))
+    (λ a.
+    let rest = picks m k (suc i) rs in
+    let picked : picks m k i (r ∷ rs) ≡ rest = rw (h, a) in
+    let this : carry m k (collect [] i (r ∷ rs)) ≡ collect rest i (r ∷ rs) = rw (h, a, picks-above m k i (suc i) rs (le_refl _), carry-collect m k (suc i) rs) in
+    this ∙ ap (λ (ws : List ℕ). collect ws i (r ∷ rs)) (sym picked)))
+    (λ h.
+    let rest = picks m k (suc i) rs in
+    let picked : picks m k i (r ∷ rs) ≡ rest = rw h in
+    let this : carry m k (collect [] i (r ∷ rs)) ≡ collect rest i (r ∷ rs) = rw (h, carry-collect m k (suc i) rs) in
+    this ∙ ap (λ (ws : List ℕ). collect ws i (r ∷ rs)) (sym picked))
 
 -- the events that a response carries, and their bytes
 abbrev pub carried_in : List Held → List Event
@@ -122,7 +137,7 @@ carried-events m k pre i (r ∷ rs) e =
     by (row_held r)
     (λ h. by (is_asked m r.event.class)
     (λ a. by (fits k r.event)
-    (λ f. rw (h, a, f, get_or_at pre r rs no_row i e, ← append_snoc pre r rs, carried-events m (space_after k r.event) (pre ++ (r ∷ [])) (suc i) rs l))
+    (λ f. rw (h, a, f, get_or_at pre r rs no_row i e) (ap (λ (es : List Event). r.event ∷ es) (carried-events m (space_after k r.event) (pre ++ (r ∷ [])) (suc i) rs l ∙ ap (λ (z : List Row). map (event_at z) (picks m (space_after k r.event) (suc i) rs)) (append_snoc pre r rs))))
     (λ f. rw (h, a, f, carried_none (suc i) rs)))
     (λ a. rw (h, a) (rw append_snoc at (carried-events m k (pre ++ (r ∷ [])) (suc i) rs l))))
     (λ h. rw h (rw append_snoc at (carried-events m k (pre ++ (r ∷ [])) (suc i) rs l)))

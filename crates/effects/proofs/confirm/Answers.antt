@@ -8,7 +8,7 @@ pub returns-then-is_confirmed : goal.returns-then-is_confirmed
 returns-then-is_confirmed c =
     let a = c.args in
     λ w same.
-    confirm-good w a.w a.q.0 a.uns a.time c.in-Awaiting.sequence c.in-Awaiting.sent c.in-Awaiting.showed_overflow c.in-Awaiting.dropped_since c.in-Awaiting.is a.confirm-time same (sym c.is_confirmed.ensures ∙ c.if-is_confirmed.true)
+    confirm-good w a.w a.q.0 a.uns a.time c.in-Awaiting.sequence c.in-Awaiting.sent c.in-Awaiting.showed_overflow c.in-Awaiting.dropped_since c.in-Awaiting.is a.confirm_time same (sym c.is_confirmed.ensures ∙ c.if-is_confirmed.true)
 
 pub returns-in-Idle : goal.returns-in-Idle
 returns-in-Idle c =
@@ -19,4 +19,4 @@ pub returns-else-is_confirmed : goal.returns-else-is_confirmed
 returns-else-is_confirmed c =
     let a = c.args in
     λ w same.
-    confirm-late w a.w a.q.0 a.uns a.time c.in-Awaiting.sequence c.in-Awaiting.sent c.in-Awaiting.showed_overflow c.in-Awaiting.dropped_since c.in-Awaiting.is a.confirm-time same (sym c.is_confirmed.ensures ∙ c.if-is_confirmed.false)
+    confirm-late w a.w a.q.0 a.uns a.time c.in-Awaiting.sequence c.in-Awaiting.sent c.in-Awaiting.showed_overflow c.in-Awaiting.dropped_since c.in-Awaiting.is a.confirm_time same (sym c.is_confirmed.ensures ∙ c.if-is_confirmed.false)
