@@ -3,3 +3,5 @@ pub mod FragmentLaws
 pub mod TableRecords
 pub mod RestartRecords
 pub mod TakenRecords
+pub mod TableWalk
+pub mod RestartWalk
