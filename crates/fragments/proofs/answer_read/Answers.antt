@@ -22,7 +22,7 @@ returns c =
     let t = c.buffer_status-t in
     let rs = c.con_by-con in
     let g =
-    subst (λ (x : List ℕ). RepliedAs (points_view_in (installed_of a.h) a.binaries.now a.analogs.now) x (buffer_view_in a.held.now t.result) a.out.now re.result (buffer_view_in re.new.1.1.1.1.1.0 t.result) re.new.0)
+    subst (λ (x : List ℕ). RepliedAs (points_view_in (installed_of a.h) a.binaries.now a.analogs.now) x (buffer_view_in a.held.now t.result) a.out.now re.result (buffer_view_in re.new.held t.result) re.new.out)
     (to_end a.f.now 2) re.ensures in
     read-in a.h a.binaries.now a.analogs.now a.held.now a.request.now a.answer.now a.q.0 a.time a.f.now _ _ _ re.result a.out.now _ _ _ _
     c.remember-kept.result c.after_read-next.result c.none-none.result c.none-none.ensures c.after_read-next.ensures c.remember-kept.ensures

@@ -14,36 +14,33 @@ use Rattle.fragments.proofs.AnswerLaws.{kept-most}
 use Rattle.effects.proofs.EffectLaws.{effect-small}
 use Rattle.fragments.proofs.PartLaws.{other-in}
 use Rattle.fragments.proofs.answer_request.Goals as goal
-use Rattle.fragments.proofs.answer_request.Goals.{After-put_answer-n, Start}
+use Rattle.fragments.proofs.answer_request.Goals.{After-put_answer-n}
 
 -- the answer has at most 113 bytes
 module _ (c : After-put_answer-n) where
-  abbrev start : Start
-  start = c.before.before.before.before.before.before.before.before.before.before.before.before.before.before.before.before
-
   small : c.effect_by-d.result.size ≤ 113
   small =
-      let a = start.args in
+      let a = c.args in
       effect-small c.context_of-seen.result a.outputs.now a.q.0 a.function a.time (take (length a.f.now - 2) (drop 2 a.f.now)) c.effect_by-d.result a.out.now _
       c.effect_by-d.ensures
 
   less : c.put_answer-n.result ≤ 113
-  less = kept-most (eqb start.args.function 6) c.put_answer-n.result c.effect_by-d.result.size c.put_answer-n.ensures.1 small
+  less = kept-most (eqb c.args.function 6) c.put_answer-n.result c.effect_by-d.result.size c.put_answer-n.ensures.1 small
 
-  same : length c.put_answer-n.new.out ≡ length start.args.out.now
-  same = c.put_answer-n.auto.out ∙ c.effect_by-d.auto.1.1.1.1.1.1.0
+  same : length c.put_answer-n.new.out ≡ length c.args.out.now
+  same = c.put_answer-n.auto.out ∙ c.effect_by-d.auto.out
 
 pub slice_bounds-remember-end : goal.slice_bounds-remember-end
 slice_bounds-remember-end c =
-    omega (arith, less (goal.at.slice_bounds-remember-end c).After-put_answer-n, same (goal.at.slice_bounds-remember-end c).After-put_answer-n, (start (goal.at.slice_bounds-remember-end c).After-put_answer-n).requires)
+    omega (arith, less (goal.at.slice_bounds-remember-end c).After-put_answer-n, same (goal.at.slice_bounds-remember-end c).After-put_answer-n, c.requires)
 
 pub slice_bounds-remember-end-2 : goal.slice_bounds-remember-end-2
 slice_bounds-remember-end-2 c =
-    simp length-take (omega (arith, less (goal.at.slice_bounds-remember-end-2 c).After-put_answer-n, same (goal.at.slice_bounds-remember-end-2 c).After-put_answer-n, (start (goal.at.slice_bounds-remember-end-2 c).After-put_answer-n).requires))
+    simp length-take (omega (arith, less (goal.at.slice_bounds-remember-end-2 c).After-put_answer-n, same (goal.at.slice_bounds-remember-end-2 c).After-put_answer-n, c.requires))
 
 pub remember-kept-requires : goal.remember-kept-requires
 remember-kept-requires c =
-    ((start (goal.at.remember-kept-requires c).After-put_answer-n).requires.1, simp length-take (omega (arith, less (goal.at.remember-kept-requires c).After-put_answer-n)))
+    (c.requires.1, simp length-take (omega (arith, less (goal.at.remember-kept-requires c).After-put_answer-n)))
 
 pub shape_of-out : goal.shape_of-out
 shape_of-out c =
@@ -51,14 +48,13 @@ shape_of-out c =
 
 pub returns : goal.returns
 returns c =
-    let s = start (goal.at.returns c).After-put_answer-n in
-    let a = s.args in
+    let a = c.args in
     let dd = c.effect_by-d in
     let seen = c.context_of-seen in
     let pa = c.put_answer-n in
-    let short : length (take pa.result pa.new.0) ≤ 113 = simp length-take (omega (arith, less (goal.at.returns c).After-put_answer-n)) in
+    let short : length (take pa.result pa.new.out) ≤ 113 = simp length-take (omega (arith, less (goal.at.returns c).After-put_answer-n)) in
     other-in a.h a.held.now a.request.now a.answer.now a.objects.now a.outputs.now a.q.0 a.function a.time a.f.now _ _ _ _ dd.result a.out.now _ _
-    pa.result _ c.remember-kept.result c.after_request-next.result c.after_request-next.ensures c.remember-kept.ensures s.pre.1 short s.pre.2
+    pa.result _ c.remember-kept.result c.after_request-next.result c.after_request-next.ensures c.remember-kept.ensures c.requires.1 short c.requires.2
     c.answer_as-a.ensures _ seen.result c.buffer_status-t.ensures seen.ensures
-    (λ (u : BufferView). subst (λ (x : List ℕ). EffectMeets dd.result a.out.now dd.new.1.1.1.1.1.1.0 (effect_by (context_view seen.result a.outputs.now u) a.q.0 a.function a.time x)) (to_end a.f.now 2) (dd.ensures u))
+    (λ (u : BufferView). subst (λ (x : List ℕ). EffectMeets dd.result a.out.now dd.new.out (effect_by (context_view seen.result a.outputs.now u) a.q.0 a.function a.time x)) (to_end a.f.now 2) (dd.ensures u))
     c.clear.ensures pa.ensures
