@@ -1,10 +1,9 @@
 use mathlib.Core.Path.{refl}
-use Prim.Native.Nat.{suc, ◌-◌, ◌<◌, zero-le}
+use Prim.Native.Nat.{suc, ◌<◌, zero-le}
 use native.Mathlib.Numerals.{add-one}
 use native.Mathlib.Omega.{arith}
 use lib.ListN.{length, get_or, drop, drop_of_length-le}
 use lib.Seq.{drop-cons}
-use Rattle.crc.specs.Check.{remainder}
 use Rattle.crc.proofs.Laws.{remainder-nil, remainder-cons}
 use Rattle.crc.proofs.bytes_in.Goals as goal
 

@@ -1,10 +1,7 @@
 use mathlib.Core.Path.{refl}
-use Prim.Native.Nat.{◌-◌}
 use native.Mathlib.Omega.{arith}
 use lib.ListN.{drop}
-use Rattle.octets.specs.Bytes.{splice}
 use Rattle.octets.proofs.Splice.{splice-nil}
-use Rattle.frame.specs.Frame.{users}
 use Rattle.frame.proofs.Laws.{users-turn, users-none}
 use Rattle.frame.proofs.copy_users.Goals as goal
 

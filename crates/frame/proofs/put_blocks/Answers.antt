@@ -1,10 +1,7 @@
 use mathlib.Core.Path.{refl}
-use Prim.Native.Nat.{◌-◌}
 use native.Mathlib.Omega.{arith}
 use lib.ListN.{drop}
-use Rattle.octets.specs.Bytes.{splice}
 use Rattle.octets.proofs.Splice.{splice-nil}
-use Rattle.frame.specs.Frame.{blocks}
 use Rattle.frame.proofs.Laws.{blocks-turn, blocks-none}
 use Rattle.frame.proofs.put_blocks.Goals as goal
 

@@ -1,8 +1,7 @@
 use mathlib.Core.Path.{refl, sym, ◌∙◌}
-use Prim.Native.Nat.{◌+◌, ◌-◌, zero-le}
+use Prim.Native.Nat.{◌+◌, zero-le}
 use native.Mathlib.Omega.{arith}
-use lib.ListN.{length, length-set}
-use Rattle.octets.specs.Bytes.{splice}
+use lib.ListN.{length-set}
 use Rattle.octets.proofs.Splice.{splice-start, splice-turn, splice-end}
 use Rattle.octets.proofs.copy.Goals as goal
 

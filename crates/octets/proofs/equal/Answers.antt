@@ -1,8 +1,5 @@
 use mathlib.Core.Path.{refl, sym, ◌∙◌}
-use Prim.Native.Nat.{◌-◌}
 use native.Mathlib.Omega.{arith}
-use lib.ListN.{length}
-use Rattle.laws.specs.Lists.{same}
 use Rattle.laws.proofs.SameLaws.{same-lengths, same_turn, same_stop, same_end}
 use Rattle.octets.proofs.equal.Goals as goal
 

@@ -1,8 +1,8 @@
 use mathlib.Core.Path.{refl}
 use Prim.Native.Nat.{◌-◌, ◌%◌, ◌/◌}
 use native.Mathlib.Omega.{arith}
-use lib.ListN.{length, length-set}
-use Rattle.octets.specs.Bytes.{splice, le}
+use lib.ListN.{length-set}
+use Rattle.octets.specs.Bytes.{le}
 use Rattle.octets.proofs.Splice.{splice-nil, splice-cons}
 use Rattle.octets.proofs.Le.{le-more, le-none}
 use Rattle.octets.proofs.put.Goals as goal

@@ -1,7 +1,7 @@
 -- `octets::put` meets its contract. The invariant: storing what is left from where the loop stands gives what is to be stored in all.
 -- Assumes nothing.
 use mathlib.Core.Path.{◌≡◌}
-use Prim.Native.Nat.{◌+◌, ◌-◌, ◌≤◌}
+use Prim.Native.Nat.{◌+◌, ◌≤◌}
 use lib.ListN.{length}
 use Rattle.octets.specs.Bytes.{splice, le}
 use Rattle.octets.proofs.put.Given as goal

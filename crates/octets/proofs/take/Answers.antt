@@ -1,7 +1,6 @@
 use mathlib.Core.Path.{◌≡◌, sym}
 use Prim.Native.Nat.{ℕ, ◌+◌, ◌-◌, ◌^◌, ◌≤◌, ◌<◌}
 use native.Mathlib.Omega.{arith}
-use Rattle.octets.specs.Bytes.{value_at}
 use Rattle.octets.proofs.Le.{value_at-lt, value_at-more, value_at-none}
 use Rattle.octets.proofs.take.Goals as goal
 use Rattle.octets.proofs.take.Goals.{At-loop-left}
