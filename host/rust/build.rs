@@ -1,4 +1,4 @@
-//! Links the static library: the folder that POMARISCO_LIBRARY names, else the repository's target/staticlib.
+//! Links the static library: the folder that POMARISCO_LIBRARY names, else the repository's crates/c_api/out.
 
 use std::env;
 use std::path::PathBuf;
@@ -7,7 +7,7 @@ fn main() {
     let here = PathBuf::from(env::var("CARGO_MANIFEST_DIR").expect("set by cargo"));
     let folder = match env::var("POMARISCO_LIBRARY") {
         Ok(folder) => PathBuf::from(folder),
-        Err(_) => here.join("../../target/staticlib"),
+        Err(_) => here.join("../../crates/c_api/out"),
     };
     let library = folder.join("libc_api.a");
     assert!(library.is_file(), "no {}: build it by host/build", library.display());

@@ -2,6 +2,8 @@
 // events, is answered with a checksum of the results.
 #![tactic(auto)]
 
+ghost use Rattle.std.specs.Prelude.{◌≤◌, length};
+
 mod class_zero;
 mod event_reads;
 mod frames;
@@ -9,9 +11,12 @@ mod parts;
 mod stations;
 mod sums;
 
-use libc::{STDIN_FILENO, STDOUT_FILENO};
+use std::io::Read;
 
 pub const COUNT_MAX: u64 = 1000000000000;
+
+// The longest text.
+const TEXT_MAX: usize = 4096;
 
 // The work that a line names.
 #[derive(Clone, Copy)]
@@ -101,54 +106,73 @@ fn extent_of(w: Work) -> Extent {
     }
 }
 
-fn say(w: Work, count: u64, size: u64) {
-    io::print_decimal(STDOUT_FILENO, run(w, count, size));
-    io::write_all(STDOUT_FILENO, b"\n");
+// What cannot be written is lost.
+fn say(rt: &impl Print, w: Work, count: u64, size: u64) {
+    let _ = rt.println(run(w, count, size));
 }
 
-fn say_unknown() {
-    io::write_all(STDOUT_FILENO, b"unknown\n");
+fn say_unknown(rt: &impl Print) {
+    let _ = rt.write_all(b"unknown\n");
 }
 
 // COUNT, or COUNT SIZE; with no size it is the full one.
-fn answer_counted(s: &[u8], c: text::Cursor, w: Work, full: u64) {
+fn answer_counted(rt: &impl Print, s: &[u8], c: text::Cursor, w: Work, full: u64) {
     let count = text::take_number(s, c, 32, COUNT_MAX);
     if text::finished(count.next) {
-        return say(w, count.value, full);
+        return say(rt, w, count.value, full);
     }
     let size = text::take_number(s, count.next, 32, full);
     if text::finished(size.next) {
-        return say(w, count.value, size.value);
+        return say(rt, w, count.value, size.value);
     }
-    say_unknown()
+    say_unknown(rt)
 }
 
-fn answer(s: &[u8]) {
+fn answer(rt: &impl Print, s: &[u8]) {
     let name = text::word(s, text::start(), 32);
     let from = name.from;
     let to = name.to;
     let w = work_of(&s[from..to]);
     let e = extent_of(w);
     match e {
-        Extent::UpTo(full) => answer_counted(s, name.next, w, full),
-        Extent::Unknown => say_unknown(),
+        Extent::UpTo(full) => answer_counted(rt, s, name.next, w, full),
+        Extent::Unknown => say_unknown(rt),
     }
 }
 
-fn lines(s: &[u8]) {
+fn lines(rt: &impl Print, s: &[u8]) {
     let mut from: usize = 0;
     while from < s.len() {
         let to = text::until(s, from, 10);
         if s.len() < to {
             return;
         }
-        answer(&s[from..to]);
+        answer(rt, &s[from..to]);
         from = to + 1;
     }
 }
 
-fn main() {
-    let mut t = io::buffer();
-    let n = io::read_full(STDIN_FILENO, &mut t);
-    lines(&t[..n]);
+// Reads until the text is full, the input ends or a read fails, and answers how many bytes were read.
+fn read_full(rt: &impl Input, t: &mut [u8]) -> usize
+    ensures { result ≤ length t.new }
+{
+    let mut reader = rt.reader();
+    let mut done: usize = 0;
+    while done < t.len() {
+        let n = match reader.read(&mut t[done..]) {
+            Ok(n) => n,
+            Err(_) => 0,
+        };
+        if n == 0 {
+            return done;
+        }
+        done += n;
+    }
+    done
+}
+
+fn main(rt: HostRuntime) {
+    let mut t = [0u8; TEXT_MAX];
+    let n = read_full(&rt, &mut t);
+    lines(&rt, &t[..n]);
 }

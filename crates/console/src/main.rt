@@ -13,12 +13,12 @@ use application::FRAGMENT_MAX;
 use control::{ANSWER_MAX, ECHO_MAX};
 use event_store::EVENT_WORDS;
 use frame::FRAME_MAX;
-use libc::STDOUT_FILENO;
 use line_calls::answers::{BYTES_MAX, ROOM_MAX};
 use line_calls::lines::LineCall;
 use line_calls::{answers, lines};
 use names::Command;
 use point_store::{ANALOG_WORDS, BINARY_WORDS};
+use std::io::Read;
 use unit::Unit;
 
 // The longest line, and room for it beside what is read next.
@@ -61,20 +61,20 @@ struct Line {
     to: usize,
 }
 
-// Writes the answers out.
-fn flush(at: usize, out: &[u8]) {
+// Writes the answers out. What cannot be written is lost.
+fn flush(rt: &impl Print, at: usize, out: &[u8]) {
     if at <= out.len() {
-        io::write_all(STDOUT_FILENO, &out[0..at]);
+        let _ = rt.write_all(&out[0..at]);
     }
 }
 
 // Writes the answers out where there is little room left, and answers where the next one goes.
-fn room(at: usize, out: &[u8]) -> usize {
+fn room(rt: &impl Print, at: usize, out: &[u8]) -> usize {
     if out.len() < at {
         return 0;
     }
     if out.len() - at < TOLD_MAX {
-        flush(at, out);
+        flush(rt, at, out);
         return 0;
     }
     at
@@ -88,14 +88,14 @@ fn no_call(p: LineCall, at: usize) -> Looked {
 }
 
 // Looks at a line without its end.
-fn look(w: &[u8], skipping: bool, at: usize, out: &[u8]) -> Looked {
+fn look(rt: &impl Print, w: &[u8], skipping: bool, at: usize, out: &[u8]) -> Looked {
     if skipping {
         return no_call(LineCall::Nothing, at);
     }
     if w.len() == 0 {
         return no_call(LineCall::Nothing, at);
     }
-    let to = room(at, out);
+    let to = room(rt, at, out);
     if LINE_MAX < w.len() {
         return no_call(LineCall::Unknown, to);
     }
@@ -138,7 +138,7 @@ struct Rest {
 }
 
 // The rest of the text is no whole line. Where it is longer than a line may be it is answered at once, and skipped up to its end.
-fn rest_of(r: Reader, at: usize, t: &mut [u8], out: &mut [u8]) -> Rest {
+fn rest_of(rt: &impl Print, r: Reader, at: usize, t: &mut [u8], out: &mut [u8]) -> Rest {
     if r.filled <= r.from {
         return Rest {
             filled: 0,
@@ -161,19 +161,20 @@ fn rest_of(r: Reader, at: usize, t: &mut [u8], out: &mut [u8]) -> Rest {
         at: if r.skipping {
             at
         } else {
-            answers::answer(out, room(at, out), b"fault")
+            answers::answer(out, room(rt, at, out), b"fault")
         },
     }
 }
 
-// Reads once, behind what is there, and answers where the text then ends.
-fn fetch(t: &mut [u8], filled: usize) -> usize {
+// Reads once, behind what is there, and answers where the text then ends. A read that fails gives nothing.
+fn fetch(rt: &impl Input, t: &mut [u8], filled: usize) -> usize {
     if t.len() <= filled {
         return filled;
     }
-    let got = libc::read(0, &mut t[filled..]);
-    let n = io::count(got, &t[filled..]);
-    filled + n
+    match rt.reader().read(&mut t[filled..]) {
+        Ok(n) => filled + n,
+        Err(_) => filled,
+    }
 }
 
 // The line at a place of the text.
@@ -193,22 +194,22 @@ fn line_at(l: Looked, reader: Reader, from: usize, to: usize) -> Line
 }
 
 // The last line: what is left of the text.
-fn last_line(r: Reader, t: &[u8], out: &[u8]) -> Line
+fn last_line(rt: &impl Print, r: Reader, t: &[u8], out: &[u8]) -> Line
     ensures { (result.from ≤ result.to) × (result.to ≤ length t.now) }
 {
     let to = octets::least(r.filled, t.len());
-    let l = look(&t[0..to], r.skipping, 0, out);
+    let l = look(rt, &t[0..to], r.skipping, 0, out);
     line_at(l, r, 0, to)
 }
 
 // Writes the answers out and reads once. Where nothing has come, what is left is the last line.
-fn read_on(r: Reader, at: usize, t: &mut [u8], out: &mut [u8]) -> Line
+fn read_on(rt: &(impl Input + Print), r: Reader, at: usize, t: &mut [u8], out: &mut [u8]) -> Line
     ensures { (result.from ≤ result.to) × (result.to ≤ length t.new) }
 {
-    let rest = rest_of(r, at, t, out);
-    flush(rest.at, out);
+    let rest = rest_of(rt, r, at, t, out);
+    flush(rt, rest.at, out);
     let filled = rest.filled;
-    let end = fetch(t, filled);
+    let end = fetch(rt, t, filled);
     let reader = Reader {
         from: 0,
         filled: end,
@@ -218,18 +219,18 @@ fn read_on(r: Reader, at: usize, t: &mut [u8], out: &mut [u8]) -> Line
     if filled < end {
         return line_at(no_call(LineCall::Nothing, 0), reader, 0, 0);
     }
-    last_line(reader, t, out)
+    last_line(rt, reader, t, out)
 }
 
 // The next line of the text. A line that was looked at ends what is skipped.
-fn next_line(r: Reader, at: usize, t: &mut [u8], out: &mut [u8]) -> Line
+fn next_line(rt: &(impl Input + Print), r: Reader, at: usize, t: &mut [u8], out: &mut [u8]) -> Line
     ensures { (result.from ≤ result.to) × (result.to ≤ length t.new) }
 {
     let from = r.from;
     let end = octets::least(r.filled, t.len());
     let to = text::until(&t[0..end], from, 10);
     if to < end {
-        let l = look(&t[from..to], r.skipping, at, out);
+        let l = look(rt, &t[from..to], r.skipping, at, out);
         let reader = Reader {
             from: to + 1,
             filled: end,
@@ -238,7 +239,7 @@ fn next_line(r: Reader, at: usize, t: &mut [u8], out: &mut [u8]) -> Line
         };
         return line_at(l, reader, from, to);
     }
-    read_on(r, at, t, out)
+    read_on(rt, r, at, t, out)
 }
 
 // One call.
@@ -290,6 +291,7 @@ fn call(
 
 // A proved loop has to end, and nothing says that the input does: the lines are counted down from a number that no run uses up.
 fn serve(
+    rt: &(impl Input + Print),
     t: &mut [u8],
     binaries: &mut [u32; BINARY_WORDS],
     analogs: &mut [u32; ANALOG_WORDS],
@@ -315,7 +317,7 @@ fn serve(
     let mut turns = u64::MAX;
     while turns > 0 {
         let s = u.session;
-        let p = next_line(r, s.at, t, out);
+        let p = next_line(rt, r, s.at, t, out);
         let reader = p.reader;
         r = reader;
         let from = p.from;
@@ -344,7 +346,7 @@ fn serve(
         );
         if r.done {
             let last = u.session;
-            return flush(last.at, out);
+            return flush(rt, last.at, out);
         }
         turns -= 1;
     }
@@ -352,7 +354,7 @@ fn serve(
 
 // The text read; the state that the outstation is lent, and the line that set it up; a call's bytes, its lent bytes, those that segments are
 // put together in, those that the receiver keeps, and the answers.
-fn main() {
+fn main(rt: HostRuntime) {
     let mut t = [0u8; TEXT_MAX];
     let mut binaries = [0u32; BINARY_WORDS];
     let mut analogs = [0u32; ANALOG_WORDS];
@@ -368,6 +370,7 @@ fn main() {
     let mut memory = [0u8; FRAME_MAX];
     let mut out = [0u8; OUT_MAX];
     serve(
+        &rt,
         &mut t,
         &mut binaries,
         &mut analogs,

@@ -5,7 +5,7 @@ use lib.ListN.{length}
 use Rattle.console.proofs.serve.Given as goal
 
 abbrev pub invariant-loop-turns : goal.invariant-loop-turns
-invariant-loop-turns l = length l.t ≡ length l.initial.t
+invariant-loop-turns g l = length l.t ≡ length l.initial.t
 
 abbrev pub decreases-loop-turns : goal.decreases-loop-turns
-decreases-loop-turns l = l.turns
+decreases-loop-turns g l = l.turns
