@@ -25,7 +25,7 @@ use Rattle.control.specs.declared.Form.{Form}
 use Rattle.control.specs.declared.Form.TheVariants.{Wrong, Objects}
 use Rattle.control.proofs.ObjectLaws.{objects-length}
 use Rattle.control.specs.Objects.{formed, objects, objects_by}
-use Rattle.control.specs.Status.{Outputs, statuses, echo_with}
+use Rattle.control.specs.Status.{Outputs, echo_with}
 use Rattle.select_latch.specs.declared.ControlFunction.{ControlFunction}
 use Rattle.select_latch.specs.declared.ControlFunction.TheVariants.{Select, Operate, DirectOperate}
 use Rattle.select_latch.specs.Select.{group_of, LatchView, is_unanswered, statuses_by, operate_status, by_form, control_effect}
