@@ -17,7 +17,7 @@ use mathlib.Core.Bool.{Bool, true, false, not, true≢false, false≢true}
 use lib.IntN.{ℤ, pos, negsuc}
 use lib.Dec.{T, leb, leb→le, nleb→lt, lit≤}
 use lib.Pow.{pow-add, pow_pos, pow_mono}
-use lib.Ieee.{Float, nan, inf, fin, binary32, up, down, lt, le, fits}
+use lib.Ieee.{Float, nan, inf, fin, binary32, up, down, lt, fits}
 use borrow.Author.Tests.{le-ltb}
 use Rattle.points.specs.Scaling.{largest, limited_of}
 use Rattle.points.proofs.Identity.{fits-says}

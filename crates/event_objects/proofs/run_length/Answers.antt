@@ -1,6 +1,5 @@
-use Rattle.event_objects.proofs.KindLaws.{kinds, kinds-long, kind_at, count-end, count-pass, count_same, count-other}
+use Rattle.event_objects.proofs.KindLaws.{kinds-long, kind_at, count-end, count-pass, count_same, count-other}
 use native.Mathlib.Omega.{arith}
-use Prim.Native.Nat.{◌-◌}
 use mathlib.Core.Path.{sym, ◌∙◌}
 use Rattle.event_objects.proofs.run_length.Goals as goal
 

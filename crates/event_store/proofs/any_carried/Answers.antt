@@ -4,7 +4,6 @@ use Rattle.event_store.proofs.EventLaws.{slots_length}
 use Rattle.events.specs.BufferView.{is_carried, no_held}
 use Rattle.laws.proofs.Search.{searching-start, searching-more, searching-found, searching-end}
 use native.Mathlib.Omega.{arith}
-use Prim.Native.Nat.{◌-◌}
 use Rattle.event_store.proofs.any_carried.Goals as goal
 
 pub loop-i-init : goal.loop-i-init

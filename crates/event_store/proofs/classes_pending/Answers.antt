@@ -8,7 +8,7 @@ use Rattle.event_store.specs.EventWords.{slots_in}
 use Rattle.events.proofs.SeenLaws.{noting-start, noting-more, noted}
 use Rattle.events.specs.BufferView.{no_held, is_pending}
 use native.Mathlib.Omega.{arith}
-use Prim.Native.Nat.{ℕ, ◌-◌, ◌≤◌}
+use Prim.Native.Nat.{ℕ, ◌≤◌}
 use Rattle.event_store.proofs.classes_pending.Goals as goal
 
 pub loop-i-init : goal.loop-i-init

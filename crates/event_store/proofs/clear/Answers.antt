@@ -1,8 +1,6 @@
 use mathlib.Core.Path.{refl}
 use native.Mathlib.Omega.{arith}
 use Rattle.event_store.proofs.LentLaws.{lent-start, lent-rewritten, clears}
-use mathlib.Core.Bool.{false}
-use Prim.Native.Nat.{◌-◌}
 use Rattle.event_store.proofs.clear.Goals as goal
 
 pub loop-i-init : goal.loop-i-init

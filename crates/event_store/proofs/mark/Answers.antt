@@ -1,10 +1,8 @@
 use Rattle.events.proofs.CarryLaws.{carry-nil}
 use mathlib.Core.Path.{sym, ap, ◌∙◌}
 use Rattle.event_store.proofs.LentLaws.{lent-start, lent-rewritten, marks, skips, stops}
-use Rattle.events.specs.BufferView.{carry}
 use Rattle.events.specs.Placing.{place_event}
 use native.Mathlib.Omega.{arith}
-use Prim.Native.Nat.{◌-◌}
 use Rattle.event_store.proofs.mark.Goals as goal
 
 pub loop-i-init : goal.loop-i-init

@@ -4,8 +4,6 @@ use native.Mathlib.Omega.{arith}
 use Rattle.event_store.proofs.LentLaws.{lent-start, lent-shortened, moves, goes}
 use Rattle.events.specs.BufferView.{not_carried}
 use Rattle.laws.proofs.Loops.{filter-nil}
-use Rattle.laws.specs.Lists.{filter}
-use Prim.Native.Nat.{◌-◌}
 use Rattle.event_store.proofs.release.Goals as goal
 
 pub loop-i-init : goal.loop-i-init

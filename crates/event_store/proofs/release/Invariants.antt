@@ -1,5 +1,4 @@
 -- `event_store::release` meets its contract. Assumes nothing.
-use mathlib.Core.Bool.{not}
 use Rattle.event_store.proofs.LentLaws.{Lent}
 use Rattle.events.specs.BufferView.{not_carried}
 use Rattle.laws.specs.Lists.{filter}
