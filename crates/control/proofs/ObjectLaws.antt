@@ -17,7 +17,6 @@ use Rattle.control.specs.declared.ObjectKind.{ObjectKind}
 use Rattle.control.specs.declared.ObjectKind.TheVariants as K
 use Rattle.control.specs.declared.ControlObject.{ControlObject}
 use Rattle.control.specs.declared.ControlObjects.{ControlObjects}
-use Rattle.control.specs.declared.Form.{Form}
 use Rattle.control.specs.declared.Form.TheVariants.{Wrong, Objects}
 use Rattle.control.specs.Objects.{
   objects_max,

@@ -3,7 +3,7 @@ use mathlib.Core.List.{◌∷◌}
 use Prim.Native.Nat.{ℕ, ◌+◌, ◌-◌}
 use native.Mathlib.Omega.{arith}
 use borrow.Author.Rules.{rules}
-use lib.ListN.{length, take, drop, length-set, length-take, length-drop}
+use lib.ListN.{take, drop, length-set, length-take, length-drop}
 use Rattle.control.specs.Objects.{value_size, span, object_at, objects, list_of}
 use Rattle.control.specs.declared.ControlObject.{ControlObject}
 use Rattle.laws.proofs.Loops.{length-mapped}

@@ -1,9 +1,9 @@
 -- `control_words::analog_commands_of` meets its contract. The invariant: the objects taken, followed by those to be taken of what is left, are the whole.
 -- Assumes nothing.
-use mathlib.Core.Path.{◌≡◌, ap}
+use mathlib.Core.Path.{◌≡◌}
 use mathlib.Core.Option.{some}
 use mathlib.Core.List.{◌++◌, map}
-use Prim.Native.Nat.{◌≤◌, ◌+◌, ◌-◌}
+use Prim.Native.Nat.{◌≤◌, ◌-◌}
 use lib.ListN.{length, take, drop}
 use Rattle.laws.specs.Lists.{filter}
 use Rattle.control.specs.Objects.{is_analog_output}

@@ -14,7 +14,7 @@ use Rattle.control.specs.Status.{outputs_of, echo_of}
 use Rattle.control.proofs.FormLaws.{formed-fits}
 use Rattle.control.proofs.ObjectLaws.{objects-length}
 use Rattle.select_latch.specs.declared.ControlGroup.{ControlGroup}
-use Rattle.select_latch.specs.Select.{group_of, latch_of, operate_status, statuses_by, echo_by, carried_by, latch_by}
+use Rattle.select_latch.specs.Select.{latch_of, operate_status, statuses_by, echo_by, carried_by, latch_by}
 use Rattle.select_latch.proofs.Laws.{effect-wrong, effect-objects}
 use Rattle.select_latch.proofs.control_effect.Goals as goal
 use Rattle.select_latch.proofs.control_effect.Goals.{In-Objects}
