@@ -9,7 +9,7 @@ use native.Mathlib.Omega.{arith}
 use lib.Dec.{eqb}
 use lib.ListN.{drop}
 use Rattle.laws.specs.Lists.{filter}
-use Rattle.laws.proofs.Choices.{by, split}
+use Rattle.laws.proofs.Choices.{split}
 use Rattle.control.specs.declared.ObjectKind.{ObjectKind}
 use Rattle.control.specs.declared.ObjectKind.TheVariants as K
 use Rattle.control.specs.declared.ControlObject.{ControlObject}
@@ -19,8 +19,8 @@ use Rattle.control.specs.Objects.{objects, is_crob, is_analog_output, formed}
 use Rattle.control.specs.Status.{Outputs, chosen}
 use Rattle.select_latch.specs.declared.ControlFunction.{ControlFunction}
 use Rattle.select_latch.specs.declared.ControlFunction.TheVariants.{Select, Operate, DirectOperate, DirectOperateNoResponse}
-use Rattle.select_latch.specs.Select.{LatchView, is_select, statuses_by, operate_status, group_of, carried_by, by_form, control_effect}
-use Rattle.last_request.specs.Requests.{Request, Acted, sequence_in, function_in, objects_in, acted, controls, remembered_after, repeated, hands_over}
+use Rattle.select_latch.specs.Select.{LatchView, is_select, by_form, control_effect}
+use Rattle.last_request.specs.Requests.{Request, Acted, sequence_in, function_in, objects_in, acted, remembered_after, repeated, hands_over}
 use Rattle.outstation.specs.Step.{Answer}
 use Rattle.operate_safety.specs.Operated.{Apart, Handing}
 

@@ -26,7 +26,7 @@ use Rattle.last_request.proofs.Controls.{controls-safe}
 use Rattle.outstation.specs.declared.Reading.{Reading}
 use Rattle.outstation.specs.declared.Wait.{Wait}
 use Rattle.outstation.specs.declared.Wait.TheVariants.{Idle, Awaiting}
-use Rattle.outstation.specs.Setup.{Setup, analog_outputs, outputs_set_up}
+use Rattle.outstation.specs.Setup.{Setup, outputs_set_up}
 use Rattle.outstation.specs.OutstationView.{OutstationView, MasterView, with_master, restarted}
 use Rattle.outstation.specs.Readings.{bad_time, ReadingEffect, apply_reading}
 use Rattle.outstation.specs.Requests.{Ask, malformed, confirms, asks, ask, read_ask, is_confirmed}

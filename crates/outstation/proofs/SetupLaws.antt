@@ -1,6 +1,6 @@
 -- Laws of a setup: what its limits tell, and the outstation that it gives.
 -- Assumes nothing.
-use mathlib.Core.Path.{◌≡◌, refl, sym, ◌∙◌}
+use mathlib.Core.Path.{◌≡◌, refl, sym}
 use mathlib.Core.Bool.{Bool, true, false, not, ◌&&◌}
 use mathlib.Core.List.{map}
 use Prim.Native.Nat.{ℕ, ◌≤◌}

@@ -1,9 +1,7 @@
 use mathlib.Core.Path.{sym, ◌∙◌}
 use mathlib.Core.Bool.{false≢true}
-use Prim.Native.Nat.{◌-◌}
 use native.Mathlib.Numerals.{add-one}
 use native.Mathlib.Omega.{arith}
-use Rattle.points.specs.Setup.{class_ok, fresh_binary}
 use Rattle.point_store.proofs.PointLaws.{binaries-length}
 use Rattle.restart.proofs.StoringLaws.{storing-start, storing-more, storing-fails, storing-end}
 use Rattle.restart.proofs.fresh_binaries.Goals as goal

@@ -1,6 +1,5 @@
-use Prim.Native.Nat.{◌-◌}
 use native.Mathlib.Omega.{arith}
-use lib.ListN.{length, length-set}
+use lib.ListN.{length-set}
 use borrow.Author.Rules.{rules}
 use Rattle.laws.proofs.Loops.{length-mapped}
 use Rattle.point_calls.proofs.outputs.taken.Goals as goal
