@@ -1,7 +1,7 @@
 #!/usr/bin/env python3
 """Respells the repository's own definitions and lemmas: lower camel case becomes snake case.
 
-usage: python3 tools/respell.py        at the top of a repository that /opt/rattle/port/port.py has turned, once
+usage: python3 tools/respell.py        at the top of a repository that the kit's port.py has turned, once
 
 It goes over each .antt, .rt and .edit file below crates/. A name is respelled if it stands in an .antt file there; code has none of
 this form. Before that it gives other names to locals that would fall together with a definition (LOCALS), and renames a module whose

@@ -84,6 +84,12 @@ picks-below m k j i (r ∷ rs) =
     (λ e. omega (arith, eqb-true j i e))
     (λ e. omega (arith, picks-below m (space_after k r.event) j (suc i) rs (rw e at h)))))
 
+-- what the outstation carries is what the picks collect, once it is that of what they are
+by-picks : (m : Classes) (k : Space) (i : ℕ) (rows : List Row) (ws : List ℕ) → picks m k i rows ≡ ws
+    → carry m k (collect [] i rows) ≡ collect ws i rows
+    → carry m k (collect [] i rows) ≡ collect (picks m k i rows) i rows
+by-picks m k i rows ws picked carried = carried ∙ ap (λ (l : List ℕ). collect l i rows) (sym picked)
+
 -- the marks that the outstation sets are the book's picks
 pub carry-collect : (m : Classes) (k : Space) (i : ℕ) (rows : List Row) → carry m k (collect [] i rows) ≡ collect (picks m k i rows) i rows
 unfolding carry
@@ -94,24 +100,11 @@ carry-collect m k i (r ∷ rs) =
     (λ a. by (fits k r.event)
     (λ f.
     let rest = picks m (space_after k r.event) (suc i) rs in
-    let picked : picks m k i (r ∷ rs) ≡ i ∷ rest = rw (h, a, f) in
     let skip = collect-skip i rest (suc i) rs (le_refl _) in
-    let this : carry m k (collect [] i (r ∷ rs)) ≡ collect (i ∷ rest) i (r ∷ rs) = rw (h, a, f, eq-eqb i i refl, skip, carry-collect m (space_after k r.event) (suc i) rs) in
-    this ∙ ap (λ (ws : List ℕ). collect ws i (r ∷ rs)) (sym picked))
-    (λ f.
-    let picked : picks m k i (r ∷ rs) ≡ [] = rw (h, a, f) in
-    let this : carry m k (collect [] i (r ∷ rs)) ≡ collect [] i (r ∷ rs) = rw (h, a, f) in
-    this ∙ ap (λ (ws : List ℕ). collect ws i (r ∷ rs)) (sym picked)))
-    (λ a.
-    let rest = picks m k (suc i) rs in
-    let picked : picks m k i (r ∷ rs) ≡ rest = rw (h, a) in
-    let this : carry m k (collect [] i (r ∷ rs)) ≡ collect rest i (r ∷ rs) = rw (h, a, picks-above m k i (suc i) rs (le_refl _), carry-collect m k (suc i) rs) in
-    this ∙ ap (λ (ws : List ℕ). collect ws i (r ∷ rs)) (sym picked)))
-    (λ h.
-    let rest = picks m k (suc i) rs in
-    let picked : picks m k i (r ∷ rs) ≡ rest = rw h in
-    let this : carry m k (collect [] i (r ∷ rs)) ≡ collect rest i (r ∷ rs) = rw (h, carry-collect m k (suc i) rs) in
-    this ∙ ap (λ (ws : List ℕ). collect ws i (r ∷ rs)) (sym picked))
+    by-picks m k i (r ∷ rs) (i ∷ rest) (rw (h, a, f)) (rw (h, a, f, eq-eqb i i refl, skip, carry-collect m (space_after k r.event) (suc i) rs)))
+    (λ f. by-picks m k i (r ∷ rs) [] (rw (h, a, f)) (rw (h, a, f))))
+    (λ a. by-picks m k i (r ∷ rs) (picks m k (suc i) rs) (rw (h, a)) (rw (h, a, picks-above m k i (suc i) rs (le_refl _), carry-collect m k (suc i) rs))))
+    (λ h. by-picks m k i (r ∷ rs) (picks m k (suc i) rs) (rw h) (rw (h, carry-collect m k (suc i) rs)))
 
 -- the events that a response carries, and their bytes
 abbrev pub carried_in : List Held → List Event
