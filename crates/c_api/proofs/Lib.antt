@@ -1,4 +1,3 @@
-pub mod LineLaws
 pub mod FragmentLaws
 pub mod TableRecords
 pub mod RestartRecords
