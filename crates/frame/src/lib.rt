@@ -163,7 +163,7 @@ pub fn write_frame(
     if USER_MAX < n {
         return Err(WriteRefusal::UserTooLong);
     }
-    let k = (n + 15) / BLOCK;
+    let k = n.div_ceil(BLOCK);
     let h = link_header(n, control, destination, source);
     put_with_crc(out, 0, &h);
     put_blocks(out, 10, user);
@@ -201,7 +201,7 @@ fn check_body(s: &[u8], n: usize) -> Result<Frame, FrameRefusal>
     requires { (10 ≤ length s.now) × (n ≤ user_max) }
     ensures { (checked_of result s.now ≡ decode_body n s.now) × Whole result s.now }
 {
-    let k = (n + 15) / BLOCK;
+    let k = n.div_ceil(BLOCK);
     let size = 10 + n + 2 * k;
     if s.len() < size {
         return Err(FrameRefusal::TooShort);
@@ -243,7 +243,7 @@ pub fn copy_user(out: &mut [u8], s: &[u8], n: usize)
     requires { (n ≤ user_max) × (frame_size n ≤ length s.now) × (n ≤ length out.old) }
     ensures { out.new ≡ splice out.old 0 (user_of n s.now) }
 {
-    let size = 10 + n + 2 * ((n + 15) / BLOCK);
+    let size = 10 + n + 2 * n.div_ceil(BLOCK);
     let mut to = 0;
     for block in s[10..size].chunks(BLOCK + 2) {
         let user = &block[..block.len() - 2];

@@ -17,6 +17,8 @@ pub fn put(b: &mut [u8], at: usize, n: usize, v: u64)
     }
 }
 
+// `put` is of any width. These four say it by a number's type, so that no caller converts: one function over the types would need a trait of its own
+// with an impl for each, longer than they are.
 pub fn put2(b: &mut [u8], at: usize, v: u16)
     requires { at + 2 ≤ length b.old }
     ensures { b.new ≡ splice b.old at (le 2 v) }

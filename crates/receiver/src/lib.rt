@@ -21,7 +21,7 @@ ghost use Rattle.receiver.specs.Receiver.{
   PieceReceived,
 };
 
-use frame::{FRAME_MAX, Frame, FrameRefusal};
+use frame::{BLOCK, FRAME_MAX, Frame, FrameRefusal};
 
 // The bytes of a frame's header, with its check.
 const HEADER: usize = 10;
@@ -88,7 +88,7 @@ fn stated_size(length: u8) -> usize
     ensures { (result ≡ frame_size (length - 5)) × (result ≤ frame_max) }
 {
     let n = usize::from(length) - 5;
-    HEADER + n + 2 * ((n + 15) / 16)
+    HEADER + n + 2 * n.div_ceil(BLOCK)
 }
 
 // The memory's first byte is given up, and nine stay.
@@ -191,8 +191,8 @@ fn receive_from(memory: &mut [u8; FRAME_MAX], n: usize, piece: &[u8], out: &mut 
     decide(memory, HEADER, r, k - 1, out)
 }
 
-// Takes a piece off the wire, up to its first frame or refusal. What is kept between calls is the first `kept` bytes of the memory; a frame's user data
-// goes to the front of the lent output.
+// Takes a piece off the wire, up to its first frame or refusal. What is kept between calls is the first `kept` bytes of the memory, both kept by the
+// host, which may be in C; a frame's user data goes to the front of the lent output.
 pub fn receive(memory: &mut [u8; FRAME_MAX], kept: usize, piece: &[u8], out: &mut [u8]) -> Reception
     ensures { PieceReceived result kept memory.old memory.new piece.now out.old out.new }
 {
