@@ -1,5 +1,6 @@
 use mathlib.Core.Path.{◌≡◌, sym, ap, ◌∙◌}
 use native.Mathlib.Omega.{arith}
+use borrow.Author.Rules.{rules}
 use Prim.Native.Nat.{ℕ, ◌+◌, ◌-◌, ◌*◌}
 use lib.ListN.{drop}
 use Rattle.frame.specs.Frame.{first_wrong}
@@ -12,7 +13,8 @@ returns-then-not-crc_ok c =
     let i = c.loop-i.i in
     let t = sym c.crc_ok.ensures ∙ c.if-not-crc_ok.true in
     let z = wrong-stop (18 * i) c.min-e.result (a.k - i) a.b.now (omega arith) (omega arith) c.min-e.ensures t in
-    (omega (arith, z, c.loop-i.invariant), omega arith)
+    let e : i ≡ first_wrong a.k a.b.now = omega (arith, z, c.loop-i.invariant) in
+    search rules
 
 pub loop-i-preserved : goal.loop-i-preserved
 loop-i-preserved c =
