@@ -1,9 +1,11 @@
 // The call `frag`: a fragment, its answer, and the objects carried out.
 use crate::Console;
+use crate::unit::Unit;
 use control::{Command, ControlObject, ControlObjects, Crob, OBJECTS_MAX};
 use fragments::{FragmentAnswer, FragmentRefusal, FragmentResult};
 use line_calls::answers;
 use line_calls::answers::{FILL, NotMade, Refusal};
+use outstation::Head;
 use points::Value;
 use text::{Answers, Words};
 
@@ -14,14 +16,35 @@ impl Console {
         let (size, n) = answers::lending(&mut words, &mut self.bytes)?;
         words.finish()?;
         let head = self.need_head()?;
-        let room = size.min(self.lent.len());
-        let lent = &mut self.lent[..room];
-        lent.fill(FILL);
-        let r = self.unit.fragment(head, time, &self.bytes[..n], lent);
-        let used = put_result(&mut self.out, &r, lent);
-        answers::end_past(&mut self.out, used, lent);
+        exchange(
+            &mut self.unit,
+            head,
+            time,
+            &self.bytes[..n],
+            size,
+            &mut self.lent,
+            &mut self.out,
+        );
         Ok(())
     }
+}
+
+// The fragment, with so many bytes lent for its answer.
+fn exchange(
+    unit: &mut Unit,
+    head: Head,
+    time: u64,
+    f: &[u8],
+    size: usize,
+    lent: &mut [u8],
+    out: &mut Answers,
+) {
+    let room = size.min(lent.len());
+    let lent = &mut lent[..room];
+    lent.fill(FILL);
+    let r = unit.fragment(head, time, f, lent);
+    let used = put_result(out, &r, lent);
+    answers::end_past(out, used, lent);
 }
 
 // What the fragment came to. Says how many of the lent bytes are the answer.

@@ -12,10 +12,10 @@ impl LineSession {
     pub fn seg(&mut self, segment: &[u8], before: &mut [u8], out: &mut Answers) {
         let room = before.len().min(self.gathered.len());
         let before = &mut before[..room];
+        let assembly = self.assembly;
         let gathered = &mut self.gathered[..room];
         before.copy_from_slice(gathered);
-        let r = transport::receive(self.assembly, segment, gathered);
-        self.assembly = r.assembly;
+        let r = transport::receive(assembly, segment, gathered);
         let used = match r.answer {
             // The bytes used are those put together so far.
             Ok(None) => {
@@ -26,6 +26,7 @@ impl LineSession {
             Err(why) => answers::put_outcome(out, Err(Refusal::from(why)), b"", gathered),
         };
         answers::end_with(out, gathered[used..] != before[used..]);
+        self.assembly = r.assembly;
     }
 
     // send: the segments of a fragment, each into lent bytes that are filled anew; a refusal is told instead
