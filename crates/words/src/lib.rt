@@ -2,11 +2,58 @@
 // so that any lent memory stands for some state.
 #![tactic(auto)]
 
-ghost use Rattle.std.specs.Prelude.{◌≡◌};
+ghost use Rattle.std.specs.Prelude.{◌≡◌, ℕ};
 ghost use Rattle.std.specs.Float.{binary32};
 ghost use Rattle.std.specs.Float.Ieee.{of_bits, to_bits};
 ghost use Rattle.std.specs.Int.{w32};
 ghost use Rattle.std.proofs.Common.{to_z};
+
+// A number that a word holds: each word stands for one.
+pub trait Word: Copy {
+    ghost of_word: { ℕ → Self };
+
+    fn from_word(w: u32) -> Self
+        ensures { result ≡ of_word w };
+
+    fn into_word(self) -> u32
+        ensures { of_word result ≡ self };
+}
+
+impl Word for u32 {
+    ghost of_word = { λ w. w };
+
+    fn from_word(w: u32) -> u32 {
+        w
+    }
+
+    fn into_word(self) -> u32 {
+        self
+    }
+}
+
+impl Word for i32 {
+    ghost of_word = { to_z w32 };
+
+    fn from_word(w: u32) -> i32 {
+        signed(w)
+    }
+
+    fn into_word(self) -> u32 {
+        signed_bits(self)
+    }
+}
+
+impl Word for f32 {
+    ghost of_word = { of_bits binary32 };
+
+    fn from_word(w: u32) -> f32 {
+        float(w)
+    }
+
+    fn into_word(self) -> u32 {
+        float_bits(self)
+    }
+}
 
 // The signed number of these bits, two's complement.
 pub fn signed(bits: u32) -> i32
