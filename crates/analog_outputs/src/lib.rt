@@ -51,6 +51,7 @@ pub fn output_of(kind: u32, low: u32, high: u32) -> AnalogOutput
 }
 
 // A whole number from the first end to the second.
+#[tactic(auto, unfolding(crate::specs::Output::within))]
 fn within(low: i32, high: i32, v: i32) -> bool
     ensures { result ≡ within low high v }
 {
@@ -58,6 +59,7 @@ fn within(low: i32, high: i32, v: i32) -> bool
 }
 
 // A finite float from the first end to the second.
+#[tactic(auto, unfolding(crate::specs::Output::within_float))]
 fn within_float(low: f32, high: f32, v: f32) -> bool
     ensures { result ≡ within_float low high v }
 {
@@ -72,6 +74,7 @@ fn holds_16(v: i32) -> bool
 }
 
 // Whether a setup may have this output.
+#[tactic(auto, unfolding(crate::specs::Output::output_ok))]
 pub fn output_ok(o: AnalogOutput) -> bool
     ensures { result ≡ output_ok o }
 {
@@ -85,6 +88,7 @@ pub fn output_ok(o: AnalogOutput) -> bool
 }
 
 // Whether an output takes this value: it is of the output's kind, and not outside the ends.
+#[tactic(auto, unfolding(crate::specs::Output::takes))]
 pub fn takes(o: AnalogOutput, v: Value) -> bool
     ensures { result ≡ takes o v }
 {

@@ -118,11 +118,13 @@ pub fn installed(count: usize) -> usize
     count.min(POINTS_MAX)
 }
 
-// Why a point does not take a reading.
+// Why a reading is refused. The time is tested before the point.
 #[derive(Clone, Copy)]
 pub enum ReadingRefusal {
+    // 1: time at or above 2^48, or before the last accepted call's.
+    Time,
     // 2: no such point of that kind.
-    OtherKind,
+    NoSuchPoint,
     // 3: float reading not finite.
     NotFinite,
     // 4: host flags above 31.
@@ -137,7 +139,8 @@ impl ReadingRefusal {
         ensures { result ≡ reading_refusal_number self }
     {
         match self {
-            ReadingRefusal::OtherKind => 2,
+            ReadingRefusal::Time => 1,
+            ReadingRefusal::NoSuchPoint => 2,
             ReadingRefusal::NotFinite => 3,
             ReadingRefusal::HostFlags => 4,
         }
@@ -471,7 +474,7 @@ pub fn read_whole(
     match p.gate_state {
         AnalogState::Int32(t) => read_int32(p, t, z, flags),
         AnalogState::Int16(t) => read_int16(p, t, z, flags),
-        AnalogState::Float32(_, _) => Err(ReadingRefusal::OtherKind),
+        AnalogState::Float32(_, _) => Err(ReadingRefusal::NoSuchPoint),
     }
 }
 
@@ -484,7 +487,7 @@ pub fn read_float(
     ensures { taken_of result ≡ read_float p x flags }
 {
     match p.gate_state {
-        AnalogState::Int32(_) | AnalogState::Int16(_) => Err(ReadingRefusal::OtherKind),
+        AnalogState::Int32(_) | AnalogState::Int16(_) => Err(ReadingRefusal::NoSuchPoint),
         AnalogState::Float32(t, s) => read_float32(p, t, s, x, flags),
     }
 }

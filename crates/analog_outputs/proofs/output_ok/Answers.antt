@@ -3,6 +3,7 @@ use mathlib.Core.Path.{◌≡◌, sym, ◌∙◌}
 use mathlib.Core.Bool.{◌&&◌}
 use lib.Ieee.{le}
 use lib.Ieee.Scale.{finite}
+use Rattle.analog_outputs.specs.Output.{output_ok}
 use Rattle.points.proofs.StdLaws.{finite-is}
 use Rattle.analog_outputs.proofs.OutputLaws.{all_pass, one-fails}
 use Rattle.analog_outputs.proofs.output_ok.Goals as goal
@@ -18,9 +19,11 @@ joined c =
     ]
 
 pub returns-then-is_finite-2 : goal.returns-then-is_finite-2
+unfolding output_ok
 returns-then-is_finite-2 c =
     rw c.in-Float32.is (all_pass (finite c.in-Float32.low) (finite c.in-Float32.high) (le c.in-Float32.low c.in-Float32.high) (joined (goal.at.returns-then-is_finite-2 c).Joined-is_finite) c.if-is_finite-2.true)
 
 pub returns-else-is_finite-2 : goal.returns-else-is_finite-2
+unfolding output_ok
 returns-else-is_finite-2 c =
     rw c.in-Float32.is (one-fails (finite c.in-Float32.low) (finite c.in-Float32.high) (le c.in-Float32.low c.in-Float32.high) (joined (goal.at.returns-else-is_finite-2 c).Joined-is_finite) c.if-is_finite-2.false)

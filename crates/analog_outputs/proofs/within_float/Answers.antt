@@ -3,6 +3,7 @@ use mathlib.Core.Path.{◌≡◌, sym, ◌∙◌}
 use mathlib.Core.Bool.{◌&&◌}
 use lib.Ieee.{le}
 use lib.Ieee.Scale.{finite}
+use Rattle.analog_outputs.specs.Output.{within_float}
 use Rattle.points.proofs.StdLaws.{finite-is}
 use Rattle.analog_outputs.proofs.OutputLaws.{all_pass, one-fails}
 use Rattle.analog_outputs.proofs.within_float.Goals as goal
@@ -18,11 +19,13 @@ joined c =
     ]
 
 pub returns-then-low-v : goal.returns-then-low-v
+unfolding within_float
 returns-then-low-v c =
     let a = c.args in
     all_pass (finite a.v) (le a.low a.v) (le a.v a.high) (joined (goal.at.returns-then-low-v c).Joined-is_finite) c.if-low-v.true
 
 pub returns-else-low-v : goal.returns-else-low-v
+unfolding within_float
 returns-else-low-v c =
     let a = c.args in
     one-fails (finite a.v) (le a.low a.v) (le a.v a.high) (joined (goal.at.returns-else-low-v c).Joined-is_finite) c.if-low-v.false
