@@ -191,7 +191,7 @@ events-front (suc n) (h ∷ hs) rest l c =
     two j = omega arith
 
 last-for : (m : LastRequestView)
-    → last_in (padded fragment_max (request_in m)) (padded answer_max (answer_in m)) (record { held = holds (bit (is_kept m)); request_len = length (request_in m); answer_len = length (answer_in m) })
+    → last_in (padded fragment_max (request_in m)) (padded answer_max (answer_in m)) (cond (holds (bit (is_kept m))) (Some (record { request_len = length (request_in m); answer_len = length (answer_in m) })) None)
     ≡ m
 unfolding last_in
 last-for nothing = refl
