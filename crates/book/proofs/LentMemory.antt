@@ -5,6 +5,7 @@ use Prim.Native.Nat.{ℕ, zero, suc, ◌+◌, ◌*◌, ◌-◌, ◌/◌, ◌%◌
 use mathlib.Core.Path.{◌≡◌, refl, sym, ap, ◌∙◌}
 use mathlib.Core.Bool.{Bool, true, false, cond}
 use mathlib.Core.List.{List, [], ◌∷◌, ◌++◌}
+use Rattle.std.proofs.Common.{Some, None}
 use native.Mathlib.Nat.{le_of_suc-le-suc, not-suc-le-zero}
 use native.Mathlib.Omega.{arith}
 use lib.Dec.{eqb}
@@ -191,7 +192,7 @@ events-front (suc n) (h ∷ hs) rest l c =
     two j = omega arith
 
 last-for : (m : LastRequestView)
-    → last_in (padded fragment_max (request_in m)) (padded answer_max (answer_in m)) (record { held = holds (bit (is_kept m)); request_len = length (request_in m); answer_len = length (answer_in m) })
+    → last_in (padded fragment_max (request_in m)) (padded answer_max (answer_in m)) (cond (holds (bit (is_kept m))) (Some (record { request_len = length (request_in m); answer_len = length (answer_in m) })) None)
     ≡ m
 unfolding last_in
 last-for nothing = refl

@@ -16,7 +16,9 @@ use Rattle.points.specs.PointsView.{PointsView}
 use Rattle.events.specs.declared.Classes.{Classes}
 use Rattle.events.specs.declared.Held.{Held}
 use Rattle.events.specs.declared.Shown.TheVariants.{State}
+use Rattle.events.specs.declared.EventKind.TheVariants as EventKind
 use Rattle.events.specs.Placing as E
+use Rattle.std.proofs.Common.{Some}
 use Rattle.events.specs.BufferView as K
 use Rattle.application.specs.Fragment as F
 use Rattle.application.specs.Response as I
@@ -201,8 +203,8 @@ unmarked c (suc n) t on l = rw (unmarked c n (suc t) (not on) l)
 
 -- while there is room, each costs 9 bytes, and the first of them 5 more
 more-fit : (n r t : ℕ) (on : Bool) (l : List Held)
-    → K.carry class1 (record { left = n * 9 + r; kind = 1 }) (events false n t on ++ l)
-    ≡ events true n t on ++ K.carry class1 (record { left = r; kind = 1 }) l
+    → K.carry class1 (record { left = n * 9 + r; kind = Some EventKind.Binary }) (events false n t on ++ l)
+    ≡ events true n t on ++ K.carry class1 (record { left = r; kind = Some EventKind.Binary }) l
 unfolding K.carry E.fits E.space_after E.cost_of
 more-fit zero r t on l = let e : 0 * 9 + r ≡ r = omega arith in rw e
 more-fit (suc n) r t on l =
@@ -211,13 +213,13 @@ more-fit (suc n) r t on l =
 
 first-fit : (n r t : ℕ) (on : Bool) (l : List Held)
     → K.carry class1 (E.empty_space (n * 9 + r + 14)) (events false (suc n) t on ++ l)
-    ≡ events true (suc n) t on ++ K.carry class1 (record { left = r; kind = 1 }) l
+    ≡ events true (suc n) t on ++ K.carry class1 (record { left = r; kind = Some EventKind.Binary }) l
 unfolding K.carry E.fits E.space_after E.cost_of
 first-fit n r t on l =
     let e : n * 9 + r + 14 - 14 ≡ n * 9 + r = omega arith in
     rw (le-leb 14 (n * 9 + r + 14) (omega arith), e, more-fit n r (suc t) (not on) l)
 
-none-fits : (n t : ℕ) (on : Bool) → K.carry class1 (record { left = 5; kind = 1 }) (events false (suc n) t on) ≡ events false (suc n) t on
+none-fits : (n t : ℕ) (on : Bool) → K.carry class1 (record { left = 5; kind = Some EventKind.Binary }) (events false (suc n) t on) ≡ events false (suc n) t on
 unfolding K.carry E.fits E.space_after E.cost_of
 none-fits n t on = refl
 

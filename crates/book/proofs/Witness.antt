@@ -14,7 +14,9 @@ use Rattle.laws.specs.Lists.{is_nil, same, count}
 use Rattle.points.specs.Reading as P
 use Rattle.events.specs.declared.Event.{Event}
 use Rattle.events.specs.declared.Shown.TheVariants.{State}
+use Rattle.events.specs.declared.EventKind.TheVariants as EventKind
 use Rattle.events.specs.Placing as E
+use Rattle.std.proofs.Common.{Some}
 use Rattle.application.specs.Fragment as F
 use Rattle.read_headers.specs.Headers.{events_of}
 use Rattle.read_headers.specs.Parse as A
@@ -60,8 +62,8 @@ up_to (suc n) i = i ∷ up_to n (suc i)
 
 -- while there is room, each costs 9 bytes, and the first of them 5 more
 more-picked : (n r i t : ℕ) (on : Bool) (l : List Row)
-    → picks class1 (record { left = n * 9 + r; kind = 1 }) i (rows_at held n t on ++ l)
-    ≡ up_to n i ++ picks class1 (record { left = r; kind = 1 }) (n + i) l
+    → picks class1 (record { left = n * 9 + r; kind = Some EventKind.Binary }) i (rows_at held n t on ++ l)
+    ≡ up_to n i ++ picks class1 (record { left = r; kind = Some EventKind.Binary }) (n + i) l
 unfolding E.fits E.space_after E.cost_of
 more-picked zero r i t on l = let e : 0 * 9 + r ≡ r = omega arith in let j : 0 + i ≡ i = omega arith in rw (e, j)
 more-picked (suc n) r i t on l =
@@ -71,13 +73,13 @@ more-picked (suc n) r i t on l =
 
 first-picked : (n r i t : ℕ) (on : Bool) (l : List Row)
     → picks class1 (E.empty_space (n * 9 + r + 14)) i (rows_at held (suc n) t on ++ l)
-    ≡ up_to (suc n) i ++ picks class1 (record { left = r; kind = 1 }) (n + suc i) l
+    ≡ up_to (suc n) i ++ picks class1 (record { left = r; kind = Some EventKind.Binary }) (n + suc i) l
 unfolding E.fits E.space_after E.cost_of
 first-picked n r i t on l =
     let e : n * 9 + r + 14 - 14 ≡ n * 9 + r = omega arith in
     rw (le-leb 14 (n * 9 + r + 14) (omega arith), e, more-picked n r (suc i) (suc t) (not on) l)
 
-none-picked : (n i t : ℕ) (on : Bool) (l : List Row) → picks class1 (record { left = 5; kind = 1 }) i (rows_at held (suc n) t on ++ l) ≡ []
+none-picked : (n i t : ℕ) (on : Bool) (l : List Row) → picks class1 (record { left = 5; kind = Some EventKind.Binary }) i (rows_at held (suc n) t on ++ l) ≡ []
 unfolding E.fits E.space_after E.cost_of
 none-picked n i t on l = refl
 

@@ -3,6 +3,7 @@
 use mathlib.Core.Path.{◌≡◌, refl, sym, ap, subst, ◌∙◌}
 use mathlib.Core.Bool.{Bool, true, false, cond}
 use mathlib.Core.List.{List, []}
+use Rattle.std.proofs.Common.{Option}
 use Prim.Native.Nat.{ℕ, ◌≤◌}
 use native.Mathlib.Omega.{arith}
 use lib.Dec.{eqb}
@@ -19,7 +20,7 @@ use Rattle.outstation.specs.declared.Wait.TheVariants.{Idle, Awaiting}
 use Rattle.outstation.specs.Requests.{is_confirmed}
 use Rattle.outstation.specs.OutstationView.{OutstationView}
 use Rattle.outstation.specs.Step.{Result, refusal, control_request_effect, write_effect, plain_effect, effect_by, confirmed_step, confirm_step}
-use Rattle.effects.specs.declared.Confirmation.{Confirmation}
+use Rattle.effects.specs.declared.Confirmed.{Confirmed}
 use Rattle.effects.specs.declared.RequestEffect.{RequestEffect}
 use Rattle.effects.specs.declared.RequestContext.{RequestContext}
 use Rattle.effects.specs.Effects.{EffectMeetsWith, context_view, confirm_by, Confirms}
@@ -42,9 +43,9 @@ module _ (w : OutstationView) (v : Wait) (q : ℕ) (uns : Bool) (time : ℕ) whe
     confirm-good t = rw (e, same, t)
 
 -- the step of a CONFIRM, by what it comes to
-pub confirm-given : (w : OutstationView) (P : Result → Type 0) (v : Wait) (q : ℕ) (uns : Bool) (time : ℕ) (x y : Confirmation)
+pub confirm-given : (w : OutstationView) (P : Result → Type 0) (v : Wait) (q : ℕ) (uns : Bool) (time : ℕ) (x y : Option Confirmed)
     → Confirms x w.shared.confirm_time v q uns time → x ≡ y → P (confirm_by y w time) → P (confirm_step w v q uns time)
-confirm-given w P v q uns time x y is e h = subst P (sym (is w refl ∙ ap (λ (z : Confirmation). confirm_by z w time) e)) h
+confirm-given w P v q uns time x y is e h = subst P (sym (is w refl ∙ ap (λ (z : Option Confirmed). confirm_by z w time) e)) h
 
 -- ---- an effect's objects
 

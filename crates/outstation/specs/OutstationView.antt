@@ -4,7 +4,7 @@ use Rattle.std.specs.Prelude.{ℕ, Bool, true, false, [], map, replicate}
 use Rattle.laws.specs.Limits.{points_max}
 use Rattle.points.specs.PointsView.{PointsView}
 use Rattle.points.specs.Setup.{fresh_binary, fresh_analog}
-use Rattle.points.specs.declared.WholeGate.TheVariants as W
+use Rattle.points.specs.declared.Gate.TheVariants as W
 use Rattle.points.specs.declared.AnalogKind.TheVariants as Ks
 use Rattle.events.specs.BufferView.{BufferView}
 use Rattle.select_latch.specs.Select.{LatchView, no_select}

@@ -1,7 +1,5 @@
--- `outstation::wait_of` meets its contract.
--- Assumes nothing.
+-- `outstation::wait_of` meets its contract. Assumes nothing.
 use borrow.Author.Tests.{eq-eqb, ne_eqb}
-use Rattle.outstation.specs.declared.Wait.TheVariants.{Awaiting}
 use Rattle.outstation.specs.Lent.{wait_of}
 use Rattle.outstation.proofs.wait_of.Goals as goal
 
@@ -11,6 +9,4 @@ returns-then-h-eq0 c = rw (eq-eqb _ 0 c.if-h-eq0.true)
 
 pub returns : goal.returns
 unfolding wait_of
-returns c =
-    let h = c.args.h in
-    rw (ne_eqb _ 0 c.if-h-eq0.false) (λ k. Awaiting (record { 0 = h.wait_sequence }) h.wait_time (c.truth.ensures k) (c.truth-2.ensures k))
+returns c = rw (ne_eqb _ 0 c.if-h-eq0.false)
