@@ -6,7 +6,7 @@ use mathlib.Core.Bool.{Bool, true, false, cond, not, ◌&&◌, ◌||◌}
 use mathlib.Core.List.{List, []}
 use Prim.Native.Nat.{ℕ, ◌+◌, ◌≤◌}
 use native.Mathlib.Omega.{arith}
-use Rattle.std.proofs.Common.{Option, Some, Ok, Err}
+use Rattle.std.proofs.Common.{Option, Some, None, Ok, Err}
 use lib.Dec.{eqb}
 use lib.ListN.{length, take}
 use Rattle.laws.specs.Limits.{events_max, fragment_max}
@@ -31,12 +31,10 @@ use Rattle.select_latch.specs.declared.Latch.{Latch}
 use Rattle.select_latch.specs.declared.ControlGroup.TheVariants as G
 use Rattle.select_latch.specs.Select.{no_select, selected, latch_of}
 use Rattle.last_request.specs.Repeat.{kept, last_in, kept_answer}
-use Rattle.outstation.specs.declared.Wait.{Wait}
-use Rattle.outstation.specs.declared.Wait.TheVariants.{Idle, Awaiting}
+use Rattle.outstation.specs.declared.Awaited.{Awaited}
 use Rattle.outstation.specs.OutstationView.{OutstationView}
-use Rattle.outstation.specs.Step.{Result, refusal, indications_of, confirmed_step, confirm_step, effect_by}
+use Rattle.outstation.specs.Step.{Result, refusal, indications_of, confirmed_step, confirm_step, effect_by, newly_sent}
 use Rattle.effects.specs.declared.RequestEffect.{RequestEffect}
-use Rattle.effects.specs.declared.Confirmed.{Confirmed}
 use Rattle.fragments.specs.declared.FragmentRefusal.{FragmentRefusal}
 use Rattle.fragments.specs.declared.FragmentAnswer.{FragmentAnswer}
 use Rattle.fragments.specs.declared.FragmentAnswer.TheVariants as Fs
@@ -149,7 +147,7 @@ confirmed-in h e e₁ time showed_overflow dropped_since t t₁ byte none same g
 -- ---- READ
 
 -- the effect of a READ: it hands nothing over, and empties the latch
-abbrev effect_for : Fault → (con : Bool) → (size : ℕ) → Wait → (restarted : Bool) → RequestEffect
+abbrev effect_for : Fault → (con : Bool) → (size : ℕ) → Option Awaited → (restarted : Bool) → RequestEffect
 effect_for f con size wait restarted =
     record {
       fault = f;
@@ -162,8 +160,8 @@ effect_for f con size wait restarted =
     }
 
 module _ (w : OutstationView) (q time : ℕ) (b a : List ℕ) (k : BufferView) (f : Fault) (con carried : Bool) (size : ℕ) (is : carried ≡ some is_carried k.held) where
-  abbrev wait_by : Bool → Wait
-  wait_by x = cond x (Awaiting (record { 0 = q }) time k.overflow false) Idle
+  abbrev wait_by : Bool → Option Awaited
+  wait_by x = cond x (Some (newly_sent (record { 0 = q }) time k.overflow)) None
 
   -- what is put for a READ that is parsed as p, and what it says by the fault that the code has
   abbrev WorkedBy : Parsed → Type 0
@@ -184,7 +182,7 @@ module _ (w : OutstationView) (q time : ℕ) (b a : List ℕ) (k : BufferView) (
         operated = record { objects = refl; count = refl };
         wait =
             ap wait_by c
-            ∙ ap (λ (x : BufferView). cond (some is_carried x.held || x.overflow) (Awaiting (record { 0 = q }) time x.overflow false) Idle) marked;
+            ∙ ap (λ (x : BufferView). cond (some is_carried x.held || x.overflow) (Some (newly_sent (record { 0 = q }) time x.overflow)) None) marked;
         latch = refl;
         counted = omega arith;
         restarted = refl;
@@ -216,7 +214,7 @@ memory_of b a e p s o u = record { binaries = b; analogs = a; held = e; request 
 
 -- a READ, of its reply r, the header put in front and the head that it leaves
 module _ (h : Head) (bw aw e p s : List ℕ) (q time : ℕ) (f e₁ p₁ s₁ : List ℕ) (r : Reply) (b a₁ a₂ : List ℕ) (con carried : Bool) (k : LastLengths)
-    (h₁ : Head) (none : ControlObjects) (hands : Holding none []) (left : ReadLeft h time (cond con (Awaiting (record { 0 = q }) time (holds h.overflow) false) Idle) k h₁)
+    (h₁ : Head) (none : ControlObjects) (hands : Holding none []) (left : ReadLeft h time (cond con (Some (newly_sent (record { 0 = q }) time (holds h.overflow))) None) k h₁)
     (keeps : (last_in p₁ s₁ (Some k) ≡ kept f []) × (k.request_len ≡ length f) × (k.answer_len ≡ 0)) (short : length f ≤ fragment_max) (room : fragment_max ≤ length b) where
   -- the rest of what is known, by the status and the restart flag that the code has
   abbrev ReadBy : BufferStatus → Bool → Type 0
@@ -305,7 +303,7 @@ repeated-in h p s function time none b a n is hands put room said m =
 -- ---- any other request
 
 module _ (h : Head) (e p s o ws : List ℕ) (q function time : ℕ) (f e₁ p₁ s₁ o₁ : List ℕ) (r : RequestEffect) (b a₁ a₂ : List ℕ) (n : ℕ) (is : FragmentAnswer)
-    (k : LastLengths) (h₁ : Head) (left : LeftIn h time r.restarted Idle k (latch_of r.latch) r.latch.len h₁ o₁)
+    (k : LastLengths) (h₁ : Head) (left : LeftIn h time r.restarted None k (latch_of r.latch) r.latch.len h₁ o₁)
     (keeps : (last_in p₁ s₁ (Some k) ≡ kept f (take n a₂)) × (k.request_len ≡ length f) × (k.answer_len ≡ length (take n a₂))) (short : length f ≤ fragment_max)
     (small : length (take n a₂) ≤ answer_max) (room : fragment_max ≤ length b) (said : is ≡ cond (eqb function 6) Fs.Silent (Fs.Answer n)) where
   -- the rest of what is known, by the status and the part of the state that the code has
@@ -322,7 +320,7 @@ module _ (h : Head) (e p s o ws : List ℕ) (q function time : ℕ) (f e₁ p₁
       let w : OutstationView = view_of h (memory_of x y e p s o ws) in
       let worked : EffectMeets r b a₁ (effect_by w q function time (objects_of f)) = all (buffer_view_in e (buffer_status h)) in
       let marked : buffer_view_in e₁ (buffer_status h) ≡ (effect_by w q function time (objects_of f)).buffer = clears ∙ effect-buffer w q function time (objects_of f) in
-      let idle : Idle ≡ r.wait = sym (worked.wait ∙ effect-idle w q function time (objects_of f)) in
+      let idle : None ≡ r.wait = sym (worked.wait ∙ effect-idle w q function time (objects_of f)) in
       let size : r.size ≤ answer_max = effect-small (context_in h o) ws q function time (objects_of f) r b a₁ all in
       record {
         result =
@@ -339,10 +337,10 @@ module _ (h : Head) (e p s o ws : List ℕ) (q function time : ℕ) (f e₁ p₁
 -- ---- the head that a request leaves
 
 -- a wait in a head: its kind says whether there is one
-wait_told : (n : ℕ) (con : Bool) (v : Wait) → holds n ≡ con → cond (eqb n 0) Idle v ≡ cond con v Idle
-wait_told n con v h = go (eqb n 0) ∙ ap (λ (b : Bool). cond b v Idle) h
+wait_told : (n : ℕ) (con : Bool) (v : Option Awaited) → holds n ≡ con → cond (eqb n 0) None v ≡ cond con v None
+wait_told n con v h = go (eqb n 0) ∙ ap (λ (b : Bool). cond b v None) h
   where
-    go : (b : Bool) → cond b Idle v ≡ cond (not b) v Idle
+    go : (b : Bool) → cond b None v ≡ cond (not b) v None
     go true = refl
     go false = refl
 
@@ -383,7 +381,7 @@ latch-left l n e =
 
 module _ (h : Head) (time : ℕ) (k : LastLengths) where
   pub after_read : (q : ApplicationSequence) (con : Bool) (kind : ℕ) → holds kind ≡ con
-      → ReadLeft h time (cond con (Awaiting q time (holds h.overflow) false) Idle) k
+      → ReadLeft h time (cond con (Some (newly_sent q time (holds h.overflow))) None) k
       (left_head h time h.restarted kind q.0 time h.overflow 0 k 0 h.latch_sequence h.latch_time h.latch_len)
   unfolding wait_of latch_of
   after_read q con kind e o =
@@ -398,7 +396,7 @@ module _ (h : Head) (time : ℕ) (k : LastLengths) where
                     session =
                         record {
                           restarted = holds h.restarted;
-                          wait = wait_told kind con (Awaiting q time (holds h.overflow) false) e i;
+                          wait = wait_told kind con (Some (newly_sent q time (holds h.overflow))) e i;
                           last = last_in m.request m.answer (Some k);
                           latch = no_select;
                         };
@@ -411,7 +409,7 @@ module _ (h : Head) (time : ℕ) (k : LastLengths) where
 
   pub after-request : (restarted : Bool) (latch : Latch) (again armed : ℕ) → holds again ≡ restarted
       → (holds armed ≡ latch.armed) × (latch.armed ≡ true → group_in armed ≡ latch.group)
-      → LeftIn h time restarted Idle k (latch_of latch) latch.len
+      → LeftIn h time restarted None k (latch_of latch) latch.len
       (left_head h time again 0 h.wait_sequence h.wait_time h.showed_overflow h.dropped_since k armed latch.sequence.0 latch.time latch.len)
       latch.objects
   unfolding wait_of
@@ -427,7 +425,7 @@ module _ (h : Head) (time : ℕ) (k : LastLengths) where
                     session =
                         record {
                           restarted = er i;
-                          wait = Idle;
+                          wait = None;
                           last = last_in m.request m.answer (Some k);
                           latch = latch-left latch armed ea i;
                         };
@@ -440,9 +438,9 @@ module _ (h : Head) (time : ℕ) (k : LastLengths) where
 
 -- ---- the step of a CONFIRM, by what it comes to
 
-pub confirm-in : (h : Head) (e : List ℕ) (q : ℕ) (uns : Bool) (time : ℕ) (v : Wait) (x y : Option Confirmed) → v ≡ wait_of h
+pub confirm-in : (h : Head) (e : List ℕ) (q : ℕ) (uns : Bool) (time : ℕ) (v : Option Awaited) (x y : Option Awaited) → v ≡ wait_of h
     → Confirms x h.confirm_time v q uns time → x ≡ y → (r : FragmentResult) (e₁ : List ℕ)
     → ((m : Lent) (out : List ℕ) → PartMeets h r (with_held e₁ m) out out (confirm_by y (view_of h (with_held e m)) time)) → ConfirmHolds h e q uns time r e₁
 confirm-in h e q uns time v x y same is ey r e₁ given m out =
-    subst (λ (u : Wait). PartMeets h r (with_held e₁ m) out out (confirm_step (view_of h (with_held e m)) u q uns time)) same
+    subst (λ (u : Option Awaited). PartMeets h r (with_held e₁ m) out out (confirm_step (view_of h (with_held e m)) u q uns time)) same
     (confirm-given (view_of h (with_held e m)) (PartMeets h r (with_held e₁ m) out out) v q uns time x y is ey (given m out))

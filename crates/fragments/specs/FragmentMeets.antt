@@ -20,7 +20,7 @@ use Rattle.last_request.specs.declared.LastLengths.{LastLengths}
 use Rattle.words.specs.Numbers.{holds}
 use Rattle.event_store.specs.EventWords.{buffer_view_in}
 use Rattle.outstation.specs.declared.Head.{Head}
-use Rattle.outstation.specs.declared.Wait.{Wait}
+use Rattle.outstation.specs.declared.Awaited.{Awaited}
 use Rattle.outstation.specs.OutstationView.{OutstationView, SessionView, with_clock, with_inputs, with_buffer, with_session, with_shared, with_master}
 use Rattle.outstation.specs.Lent.{Lent, Outstation, outstation_view, HeadCountsWithin, CountsWithin, buffer_status, output_counts, group_in, wait_of, view_of}
 use Rattle.outstation.specs.Step.{Answer, took, answers, silent, accepts, refuses, handed, output_after, Result, fragment, step, read_effect, plain_effect, read_step, repeat_step, request_step, effect_by, confirm_step, confirmed_step}
@@ -201,7 +201,7 @@ abbrev pub with_objects : List ℕ → Lent → Lent
 with_objects o m =
     record { binaries = m.binaries; analogs = m.analogs; held = m.held; request = m.request; answer = m.answer; objects = o; outputs = m.outputs }
 
-pub record LeftIn (h : Head) (time : ℕ) (restarted : Bool) (wait : Wait) (k : LastLengths) (l : LatchView) (n : ℕ) (r : Head) (o : List ℕ) : Type 0 where
+pub record LeftIn (h : Head) (time : ℕ) (restarted : Bool) (wait : P.Option Awaited) (k : LastLengths) (l : LatchView) (n : ℕ) (r : Head) (o : List ℕ) : Type 0 where
   pub view : (m : Lent)
       → view_of r (with_objects o m)
       ≡ left_with (view_of h m) time (view_of h m).shared.inputs (buffer_view_in m.held (buffer_status h))
@@ -209,5 +209,5 @@ pub record LeftIn (h : Head) (time : ℕ) (restarted : Bool) (wait : Wait) (k : 
   pub counted : k.request_len ≤ fragment_max → k.answer_len ≤ answer_max → n ≤ echo_max → HeadCountsWithin h → HeadCountsWithin r
 
 -- a READ leaves no select, whatever the latch's bytes
-abbrev pub ReadLeft : Head → (time : ℕ) → Wait → LastLengths → Head → Type 0
+abbrev pub ReadLeft : Head → (time : ℕ) → P.Option Awaited → LastLengths → Head → Type 0
 ReadLeft h time wait k r = (o : List ℕ) → LeftIn h time (holds h.restarted) wait k no_select h.latch_len r o
