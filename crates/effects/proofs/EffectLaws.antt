@@ -2,6 +2,7 @@
 -- Assumes nothing.
 use mathlib.Core.Path.{◌≡◌, refl, sym, ap, subst, ◌∙◌}
 use mathlib.Core.Bool.{Bool, true, false, cond}
+use Rattle.std.specs.Prelude.{Some}
 use mathlib.Core.List.{List, []}
 use Prim.Native.Nat.{ℕ, ◌≤◌}
 use native.Mathlib.Omega.{arith}
@@ -62,7 +63,7 @@ objects-most w q function time o = go (eqb function 2) (eqb function 3) (eqb fun
         (cond c (control_request_effect w Operate q time o)
         (cond d (control_request_effect w DirectOperate q time o)
         (cond e (control_request_effect w DirectOperateNoResponse q time o)
-        (plain_effect w FunctionUnknown w.master.session.restarted)))))).objects ≤ 109
+        (plain_effect w (Some FunctionUnknown) w.master.session.restarted)))))).objects ≤ 109
     go true b c d e = omega arith
     go false true c d e = most Select
     go false false true d e = most Operate
@@ -87,7 +88,7 @@ effect-buffer w q function time o = go (eqb function 2) (eqb function 3) (eqb fu
         (cond c (control_request_effect w Operate q time o)
         (cond d (control_request_effect w DirectOperate q time o)
         (cond e (control_request_effect w DirectOperateNoResponse q time o)
-        (plain_effect w FunctionUnknown w.master.session.restarted)))))).buffer
+        (plain_effect w (Some FunctionUnknown) w.master.session.restarted)))))).buffer
     go true b c d e = refl
     go false true c d e = refl
     go false false true d e = refl
@@ -105,7 +106,7 @@ effect-idle w q function time o = go (eqb function 2) (eqb function 3) (eqb func
         (cond c (control_request_effect w Operate q time o)
         (cond d (control_request_effect w DirectOperate q time o)
         (cond e (control_request_effect w DirectOperateNoResponse q time o)
-        (plain_effect w FunctionUnknown w.master.session.restarted)))))).wait
+        (plain_effect w (Some FunctionUnknown) w.master.session.restarted)))))).wait
         ≡ Idle
     go true b c d e = refl
     go false true c d e = refl

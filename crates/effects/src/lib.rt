@@ -36,7 +36,7 @@ pub struct RequestContext {
 // What a request does beside the events, before its answer is put together.
 #[derive(Clone, Copy)]
 pub struct RequestEffect {
-    pub fault: Fault,
+    pub fault: Option<Fault>,
     pub con: bool,
     pub size: usize,
     pub operated: ControlObjects,
@@ -110,7 +110,7 @@ pub fn confirm(
 // ---- what a request does
 
 // A request without objects in its answer: it ends the wait and empties the latch.
-fn plain_effect(fault: Fault, restarted: bool) -> RequestEffect
+fn plain_effect(fault: Option<Fault>, restarted: bool) -> RequestEffect
     ensures { EffectMeetsStill result (λ w. plain_effect w fault restarted) }
 {
     let w = Wait::Idle;
@@ -130,11 +130,9 @@ fn plain_effect(fault: Fault, restarted: bool) -> RequestEffect
 fn write_effect(restarted: bool, s: &[u8]) -> RequestEffect
     ensures { EffectMeetsStill result (λ w. write_effect_by w restarted s.now) }
 {
-    let fault = application::write_fault(s);
-    if application::is_faultless(fault) {
-        plain_effect(fault, false)
-    } else {
-        plain_effect(fault, restarted)
+    match application::write_fault(s) {
+        None => plain_effect(None, false),
+        Some(fault) => plain_effect(Some(fault), restarted),
     }
 }
 
@@ -166,12 +164,6 @@ fn control_request_effect(
         latch: after,
         restarted: seen.restarted,
     }
-}
-
-pub fn either(a: bool, b: bool) -> bool
-    ensures { result ≡ (a || b) }
-{
-    if a { true } else { b }
 }
 
 // What a request other than READ does, by its function, of the bytes after control and function.
@@ -210,5 +202,5 @@ pub fn effect_by(
             out,
         );
     }
-    plain_effect(Fault::FunctionUnknown, seen.restarted)
+    plain_effect(Some(Fault::FunctionUnknown), seen.restarted)
 }

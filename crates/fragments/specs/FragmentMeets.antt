@@ -1,6 +1,6 @@
 -- What a fragment's call gives: one definition for the call, and the same for its parts, which are lent less.
 -- Assumes nothing.
-use Rattle.std.specs.Prelude.{ℕ, ◌≤◌, ◌≡◌, Bool, ◌&&◌, ◌||◌, List, [], ◌∷◌, eqb, length, take}
+use Rattle.std.specs.Prelude.{ℕ, ◌≤◌, ◌≡◌, Bool, Option, Some, ◌&&◌, ◌||◌, List, [], ◌∷◌, eqb, length, take}
 use Rattle.laws.specs.First.{first, ◌⇒◌}
 use Rattle.laws.specs.Limits.{fragment_max}
 use Rattle.points.specs.PointsView.{PointsView}
@@ -112,7 +112,7 @@ left_with w time i k x =
 -- a READ, faultless or not
 abbrev pub read_effect_by : OutstationView → ℕ → ℕ → Parsed → S.RequestEffect
 read_effect_by w q time (headers hs) = read_effect w q time hs
-read_effect_by w q time (fault f) = plain_effect w f w.master.session.restarted
+read_effect_by w q time (fault f) = plain_effect w (Some f) w.master.session.restarted
 
 -- a request by its function: a READ, a repeat, or another
 abbrev pub request_by : OutstationView → ℕ → ℕ → ℕ → List ℕ → Result
@@ -143,7 +143,7 @@ abbrev pub RequestHolds : Head → Lent → (q function time : ℕ) (f : List �
 RequestHolds h m q function time f r m₁ before after = PartMeets h r m₁ before after (request_by (view_of h m) q function time f)
 
 -- "CON is set exactly on a faultless READ's answer with an event or IIN2.3."
-abbrev pub con_by : Fault → (carried overflow : Bool) → Bool
+abbrev pub con_by : Option Fault → (carried overflow : Bool) → Bool
 con_by f carried overflow = is_faultless f && (carried || overflow)
 
 -- of a READ, whatever the latch's bytes and the analog outputs' words
