@@ -13,7 +13,8 @@ use borrow.Author.Tests.{ltb-false, eqb-true}
 use Rattle.laws.specs.Lists.{same}
 use Rattle.points.specs.PointsView.{PointsView}
 use Rattle.application.specs.declared.Fault.{Fault}
-use Rattle.application.specs.declared.Fault.TheVariants.{Faultless, FunctionUnknown, ObjectUnknown, BadParameter}
+use Rattle.application.specs.declared.Fault.TheVariants.{FunctionUnknown, ObjectUnknown, BadParameter}
+use Rattle.std.specs.Prelude.{Option, Some, None}
 use Rattle.application.specs.declared.Indications.{Indications}
 use Rattle.application.specs.Fragment as F
 use Rattle.application.specs.Fragment.{classified, function_of, sequence_of, control_of, is_confirm, objects_of}
@@ -73,11 +74,10 @@ or_left false b h = refl
 
 -- fewer than two bytes are malformed
 well-long : (f : List ℕ) → F.malformed f ≡ false → 0 < length f
-unfolding F.malformed
 well-long f h = let l = ltb-false (length f) 2 (or_left (ltb (length f) 2) _ h) in omega arith
 
 pub asks-inverse : (i : PointsView) (f : List ℕ) (q function : ℕ) → ask i f ≡ asks q function → Asks f function
-unfolding ask classified
+unfolding ask
 asks-inverse i f q function =
     by (F.malformed f)
     (λ t. rw t (λ e. absurd (let z : ◌≡◌ {A = ℕ} 0 1 = cc in omega arith)))
@@ -97,7 +97,7 @@ NoRead (asks q function) = Unit {0}
 
 -- the function of a READ
 read-function : (i : PointsView) (f : List ℕ) → (NoRead (ask i f) → ⊥) → eqb (function_of f) 1 ≡ true
-unfolding ask classified
+unfolding ask
 read-function i f =
     by (F.malformed f)
     (λ t. rw t (λ n. absurd (n tt)))
@@ -184,25 +184,25 @@ effect-bears w q function time o t₆ =
 -- ---- its response
 
 -- four bytes, then the objects
-pub response-long : (q : ℕ) (con : Bool) (i : Indications) (f : Fault) (o : List ℕ) → length (response_of q con i f ++ o) ≡ 4 + length o
+pub response-long : (q : ℕ) (con : Bool) (i : Indications) (f : Option Fault) (o : List ℕ) → length (response_of q con i f ++ o) ≡ 4 + length o
 unfolding response_of
 response-long q con i f o = omega arith
 
-pub response-objects : (q : ℕ) (con : Bool) (i : Indications) (f : Fault) (o : List ℕ) → drop 4 (response_of q con i f ++ o) ≡ o
+pub response-objects : (q : ℕ) (con : Bool) (i : Indications) (f : Option Fault) (o : List ℕ) → drop 4 (response_of q con i f ++ o) ≡ o
 unfolding response_of
 response-objects q con i f o = refl
 
 -- the bit IIN2.3 beside a fault's
-bit-beside : (f : Fault) (t : Bool) → eqb ((fault_bits f + weight t 8) / 8 % 2) 1 ≡ t
-bit-beside Faultless true = refl
-bit-beside Faultless false = refl
-bit-beside FunctionUnknown true = refl
-bit-beside FunctionUnknown false = refl
-bit-beside ObjectUnknown true = refl
-bit-beside ObjectUnknown false = refl
-bit-beside BadParameter true = refl
-bit-beside BadParameter false = refl
+bit-beside : (f : Option Fault) (t : Bool) → eqb ((fault_bits f + weight t 8) / 8 % 2) 1 ≡ t
+bit-beside None true = refl
+bit-beside None false = refl
+bit-beside (Some FunctionUnknown) true = refl
+bit-beside (Some FunctionUnknown) false = refl
+bit-beside (Some ObjectUnknown) true = refl
+bit-beside (Some ObjectUnknown) false = refl
+bit-beside (Some BadParameter) true = refl
+bit-beside (Some BadParameter) false = refl
 
-pub response-bit : (q : ℕ) (con : Bool) (i : Indications) (f : Fault) (o : List ℕ) → overflow_bit (response_of q con i f ++ o) ≡ i.dropped
+pub response-bit : (q : ℕ) (con : Bool) (i : Indications) (f : Option Fault) (o : List ℕ) → overflow_bit (response_of q con i f ++ o) ≡ i.dropped
 unfolding response_of
 response-bit q con i f o = bit-beside f i.dropped

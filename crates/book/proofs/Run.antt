@@ -20,10 +20,8 @@ use Rattle.events.specs.declared.EventKind.TheVariants as EventKind
 use Rattle.events.specs.Placing as E
 use Rattle.std.proofs.Common.{Option, Some, None}
 use Rattle.events.specs.BufferView as K
-use Rattle.application.specs.Fragment as F
 use Rattle.application.specs.Response as I
-use Rattle.application.specs.declared.Fault.TheVariants.{Faultless}
-use Rattle.read_headers.specs.Headers as H
+use Rattle.std.specs.Prelude.{None}
 use Rattle.read_headers.specs.Headers.{events_of}
 use Rattle.read_headers.specs.Parse as A
 use Rattle.objects.specs.Runs.{encoded, runs, all_bytes}
@@ -270,7 +268,7 @@ module _ (clock time q : ℕ) (f : List ℕ) (held after : List Held) (x : Sessi
       → step (fragment time f fragment_max) (state_at clock held true x)
       ≡ record {
         state = state_at time after true (session_with x.restarted (awaits q time) (kept f []));
-        answer = answers (I.response_of q true (S.indications_of (record { held = after; overflow = true }) x.restarted) Faultless ++ (carried_bytes after ++ [])) [];
+        answer = answers (I.response_of q true (S.indications_of (record { held = after; overflow = true }) x.restarted) None ++ (carried_bytes after ++ [])) [];
       }
   unfolding S.step S.fragment_step S.read_step A.asks_for static_bytes range_bytes point_objects encoded runs all_bytes
   read_at b a e = rw (b, a, e, or-true (some K.is_carried after))
@@ -280,11 +278,11 @@ abbrev pub points : PointsView
 points = (state_at 0 [] false (session_with true None nothing)).shared.inputs
 
 pub asks₁ : Q.ask points (read 0xC1) ≡ Q.reads 1 (events_of 1 ∷ [])
-unfolding Q.ask F.classified F.malformed A.headers_of H.front_header H.object_of H.class_header A.asks_for static_bytes range_bytes point_objects encoded runs all_bytes
+unfolding Q.ask A.headers_of A.asks_for static_bytes range_bytes point_objects encoded runs all_bytes
 asks₁ = refl
 
 pub asks₂ : Q.ask points (read 0xC2) ≡ Q.reads 2 (events_of 1 ∷ [])
-unfolding Q.ask F.classified F.malformed A.headers_of H.front_header H.object_of H.class_header A.asks_for static_bytes range_bytes point_objects encoded runs all_bytes
+unfolding Q.ask A.headers_of A.asks_for static_bytes range_bytes point_objects encoded runs all_bytes
 asks₂ = refl
 
 pub in-time : (R.bad_time 257 2000 ≡ false) × (R.bad_time 2000 8000 ≡ false)
@@ -293,9 +291,9 @@ in-time = (refl, refl)
 
 -- the bytes: the front as computed, then the events
 read-bytes : (q control : ℕ)
-    → I.response_of q true (S.indications_of (record { held = all256 true; overflow = true }) true) Faultless ≡ control ∷ 0x81 ∷ 0x82 ∷ 0x08 ∷ []
+    → I.response_of q true (S.indications_of (record { held = all256 true; overflow = true }) true) None ≡ control ∷ 0x81 ∷ 0x82 ∷ 0x08 ∷ []
     → ◌≡◌ {A = Answer}
-    (answers (I.response_of q true (S.indications_of (record { held = all256 true; overflow = true }) true) Faultless ++ (carried_bytes (all256 true) ++ [])) [])
+    (answers (I.response_of q true (S.indications_of (record { held = all256 true; overflow = true }) true) None ++ (carried_bytes (all256 true) ++ [])) [])
     (read_answer control)
 read-bytes q control e =
     ap (λ (l : List ℕ). answers (l ++ (carried_bytes (all256 true) ++ [])) []) e
@@ -320,13 +318,13 @@ by-read₂ =
 
 pub by-late : (held : List Held) (m : LastRequestView) → let w = state_at 2000 held true (session_with true (awaits 1 2000) m) in
     step (fragment 7001 (confirm 0xC1) fragment_max) w ≡ record { state = w; answer = refuses 32 }
-unfolding S.step S.fragment_step S.confirm_step R.bad_time Q.ask Q.is_confirmed F.classified F.malformed
+unfolding S.step S.fragment_step S.confirm_step R.bad_time Q.ask Q.is_confirmed
 by-late held m = refl
 
 confirm-at : (held : List Held) (m : LastRequestView)
     → step (fragment 9000 (confirm 0xC2) fragment_max) (state_at 8000 held true (session_with true (awaits 2 8000) m))
     ≡ record { state = state_at 9000 (filter K.not_carried held) false (session_with true None m); answer = accepts }
-unfolding S.step S.fragment_step S.confirm_step S.confirmed_step R.bad_time Q.ask Q.is_confirmed F.classified F.malformed
+unfolding S.step S.fragment_step S.confirm_step S.confirmed_step R.bad_time Q.ask Q.is_confirmed
 confirm-at held m = refl
 
 pub by-confirm : step (fragment 9000 (confirm 0xC2) fragment_max) w₄ ≡ record { state = w₅; answer = accepts }
@@ -337,9 +335,9 @@ by-confirm =
 -- ---- WRITE, and its repeat
 
 pub by-write : step (fragment 9500 write fragment_max) w₅ ≡ record { state = w₆; answer = answers written [] }
-unfolding S.step S.fragment_step S.request_step R.bad_time Q.ask F.classified F.malformed I.response_of I.write_fault is_repeat same
+unfolding S.step S.fragment_step S.request_step R.bad_time Q.ask I.response_of is_repeat same
 by-write = refl
 
 pub by-repeat : step (fragment 9600 write fragment_max) w₆ ≡ record { state = w₇; answer = answers written [] }
-unfolding S.step S.fragment_step S.repeat_step R.bad_time Q.ask F.classified F.malformed is_repeat same
+unfolding S.step S.fragment_step S.repeat_step R.bad_time Q.ask is_repeat same
 by-repeat = refl

@@ -3,6 +3,7 @@
 use Prim.Native.Nat.{ℕ, suc, ◌+◌, ◌≤◌, ◌<◌}
 use mathlib.Core.Path.{◌≡◌, refl, sym, ap, ◌∙◌, subst}
 use mathlib.Core.Logic.{◌↔◌}
+use Rattle.std.specs.Prelude.{Some}
 use mathlib.Core.Bool.{Bool, true, false, not, cond, ◌&&◌, ◌||◌}
 use mathlib.Core.List.{List, [], ◌∷◌, ◌++◌, map, append-nil}
 use native.Mathlib.Omega.{arith}
@@ -419,7 +420,7 @@ module _ (h : List HistoryEntry) (last : Answer) (b : Book) (x : Extra) (i : Fit
   ask-ok (confirms q uns) time f e = confirm-ok h last q uns time b x b.master.wait refl i
   ask-ok (reads q hs) time f e = read_ok q time hs b x h last f (reads-function b.shared.inputs f q hs e) p
   ask-ok (misreads q n) time f e =
-      misread-ok h last q time f b x (S.plain_effect (view b x) n x.restarted) (record { buffer = refl; wait = refl }) p refl
+      misread-ok h last q time f b x (S.plain_effect (view b x) (Some n) x.restarted) (record { buffer = refl; wait = refl }) p refl
       (misreads-function b.shared.inputs f q n e)
   ask-ok (asks q function) time f e =
       let a = asks-inverse b.shared.inputs f q function e in

@@ -17,7 +17,6 @@ use Rattle.events.specs.declared.Shown.TheVariants.{State}
 use Rattle.events.specs.declared.EventKind.TheVariants as EventKind
 use Rattle.events.specs.Placing as E
 use Rattle.std.proofs.Common.{Some, None}
-use Rattle.application.specs.Fragment as F
 use Rattle.read_headers.specs.Headers.{events_of}
 use Rattle.read_headers.specs.Parse as A
 use Rattle.objects.specs.Runs.{encoded, runs, all_bytes}
@@ -117,23 +116,23 @@ module _ (rows : List Row) where
 
   book-late : (ws : List ℕ) (n k : ℕ) (last : List ℕ) (built : ℕ) → let b = book_at 2000 rows (awaiting 1 2000 ws n k) true last built in
       (enter (fragment 7001 (confirm 0xC1) fragment_max) b).book ≡ b
-  unfolding B.enter B.fragment_entry B.confirm_entry R.bad_time Q.ask Q.is_confirmed F.classified F.malformed
+  unfolding B.enter B.fragment_entry B.confirm_entry R.bad_time Q.ask Q.is_confirmed
   book-late ws n k last built = refl
 
   book-confirm : (ws : List ℕ) (n k : ℕ) (last : List ℕ) (built : ℕ)
       → (enter (fragment 9000 (confirm 0xC2) fragment_max) (book_at 8000 rows (awaiting 2 8000 ws n k) true last built)).book
       ≡ book_at 9000 (release ws 0 rows) idle (cond (drop_since n rows) true false) last built
-  unfolding B.enter B.fragment_entry B.confirm_entry B.confirmed_entry R.bad_time Q.ask Q.is_confirmed F.classified F.malformed
+  unfolding B.enter B.fragment_entry B.confirm_entry B.confirmed_entry R.bad_time Q.ask Q.is_confirmed
   book-confirm ws n k last built = refl
 
   book-write : (warning : Bool) (built : ℕ)
       → (enter (fragment 9500 write fragment_max) (book_at 9000 rows idle warning (read 0xC2) built)).book ≡ book_at 9500 rows idle warning write (suc built)
-  unfolding B.enter B.fragment_entry B.other_entry R.bad_time Q.ask F.classified F.malformed same
+  unfolding B.enter B.fragment_entry B.other_entry R.bad_time Q.ask same
   book-write warning built = refl
 
   book-repeat : (warning : Bool) (built : ℕ)
       → (enter (fragment 9600 write fragment_max) (book_at 9500 rows idle warning write built)).book ≡ book_at 9600 rows idle warning write built
-  unfolding B.enter B.fragment_entry B.repeat_entry R.bad_time Q.ask F.classified F.malformed same
+  unfolding B.enter B.fragment_entry B.repeat_entry R.bad_time Q.ask same
   book-repeat warning built = refl
 
 -- the rows after the calls

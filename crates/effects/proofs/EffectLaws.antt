@@ -2,6 +2,7 @@
 -- Assumes nothing.
 use mathlib.Core.Path.{◌≡◌, refl, sym, ap, subst, ◌∙◌}
 use mathlib.Core.Bool.{Bool, true, false, cond}
+use Rattle.std.specs.Prelude.{Some}
 use mathlib.Core.List.{List, []}
 use Rattle.std.proofs.Common.{Option, Some, None}
 use Prim.Native.Nat.{ℕ, ◌≤◌}
@@ -60,7 +61,7 @@ objects-most w q function time o = go (eqb function 2) (eqb function 3) (eqb fun
         (cond c (control_request_effect w Operate q time o)
         (cond d (control_request_effect w DirectOperate q time o)
         (cond e (control_request_effect w DirectOperateNoResponse q time o)
-        (plain_effect w FunctionUnknown w.master.session.restarted)))))).objects ≤ 109
+        (plain_effect w (Some FunctionUnknown) w.master.session.restarted)))))).objects ≤ 109
     go true b c d e = omega arith
     go false true c d e = most Select
     go false false true d e = most Operate
@@ -85,7 +86,7 @@ effect-buffer w q function time o = go (eqb function 2) (eqb function 3) (eqb fu
         (cond c (control_request_effect w Operate q time o)
         (cond d (control_request_effect w DirectOperate q time o)
         (cond e (control_request_effect w DirectOperateNoResponse q time o)
-        (plain_effect w FunctionUnknown w.master.session.restarted)))))).buffer
+        (plain_effect w (Some FunctionUnknown) w.master.session.restarted)))))).buffer
     go true b c d e = refl
     go false true c d e = refl
     go false false true d e = refl
@@ -103,7 +104,7 @@ effect-idle w q function time o = go (eqb function 2) (eqb function 3) (eqb func
         (cond c (control_request_effect w Operate q time o)
         (cond d (control_request_effect w DirectOperate q time o)
         (cond e (control_request_effect w DirectOperateNoResponse q time o)
-        (plain_effect w FunctionUnknown w.master.session.restarted)))))).wait
+        (plain_effect w (Some FunctionUnknown) w.master.session.restarted)))))).wait
         ≡ None
     go true b c d e = refl
     go false true c d e = refl

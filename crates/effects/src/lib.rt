@@ -26,7 +26,7 @@ pub struct RequestContext {
 // What a request does beside the events, before its answer is put together.
 #[derive(Clone, Copy)]
 pub struct RequestEffect {
-    pub fault: Fault,
+    pub fault: Option<Fault>,
     pub con: bool,
     pub size: usize,
     pub operated: ControlObjects,
@@ -77,7 +77,7 @@ pub fn confirm(
 // ---- what a request does
 
 // A request without objects in its answer: it ends the wait and empties the latch.
-fn plain_effect(fault: Fault, restarted: bool) -> RequestEffect
+fn plain_effect(fault: Option<Fault>, restarted: bool) -> RequestEffect
     ensures { EffectMeetsStill result (λ w. plain_effect w fault restarted) }
 {
     RequestEffect {
@@ -94,11 +94,9 @@ fn plain_effect(fault: Fault, restarted: bool) -> RequestEffect
 fn write_effect(restarted: bool, s: &[u8]) -> RequestEffect
     ensures { EffectMeetsStill result (λ w. write_effect_by w restarted s.now) }
 {
-    let fault = application::write_fault(s);
-    if application::is_faultless(fault) {
-        plain_effect(fault, false)
-    } else {
-        plain_effect(fault, restarted)
+    match application::write_fault(s) {
+        None => plain_effect(None, false),
+        Some(fault) => plain_effect(Some(fault), restarted),
     }
 }
 
@@ -155,7 +153,7 @@ pub fn effect_by(
         4 => ControlFunction::Operate,
         5 => ControlFunction::DirectOperate,
         6 => ControlFunction::DirectOperateNoResponse,
-        _ => return plain_effect(Fault::FunctionUnknown, seen.restarted),
+        _ => return plain_effect(Some(Fault::FunctionUnknown), seen.restarted),
     };
     control_request_effect(seen, ws, f, q, time, s, out)
 }

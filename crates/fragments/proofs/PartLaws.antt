@@ -14,16 +14,14 @@ use Rattle.laws.specs.Lists.{some}
 use Rattle.laws.proofs.Choices.{by}
 use Rattle.octets.specs.Bytes.{splice}
 use Rattle.application.specs.declared.Fault.{Fault}
-use Rattle.application.specs.declared.Fault.TheVariants.{Faultless}
+use Rattle.std.specs.Prelude.{Option, Some, None}
 use Rattle.application.specs.declared.ApplicationSequence.{ApplicationSequence}
 use Rattle.application.specs.Fragment.{objects_of}
-use Rattle.application.specs.Response.{response_of, is_faultless}
+use Rattle.application.specs.Response.{response_of}
 use Rattle.events.specs.BufferView.{BufferView, buffer_view, released, cleared, is_carried}
 use Rattle.read_headers.specs.declared.Header.{Header}
 use Rattle.read_headers.specs.Parse.{Parsed, headers, fault, fault_in}
-use Rattle.read_headers.proofs.ParseLaws.{Told}
 use Rattle.static_objects.specs.Static.{asked_of}
-use Rattle.read.proofs.AskLaws.{told-asked}
 use Rattle.read.specs.Response.{buffer_after, response_objects, RepliedAs}
 use Rattle.control.specs.declared.ControlObjects.{ControlObjects}
 use Rattle.control.specs.Objects.{answer_max, list_of, Holding}
@@ -147,7 +145,7 @@ confirmed-in h e e₁ time showed_overflow dropped_since t t₁ byte none same g
 -- ---- READ
 
 -- the effect of a READ: it hands nothing over, and empties the latch
-abbrev effect_for : Fault → (con : Bool) → (size : ℕ) → Option Awaited → (restarted : Bool) → RequestEffect
+abbrev effect_for : Option Fault → (con : Bool) → (size : ℕ) → Option Awaited → (restarted : Bool) → RequestEffect
 effect_for f con size wait restarted =
     record {
       fault = f;
@@ -159,7 +157,7 @@ effect_for f con size wait restarted =
       restarted = restarted;
     }
 
-module _ (w : OutstationView) (q time : ℕ) (b a : List ℕ) (k : BufferView) (f : Fault) (con carried : Bool) (size : ℕ) (is : carried ≡ some is_carried k.held) where
+module _ (w : OutstationView) (q time : ℕ) (b a : List ℕ) (k : BufferView) (f : Option Fault) (con carried : Bool) (size : ℕ) (is : carried ≡ some is_carried k.held) where
   abbrev wait_by : Bool → Option Awaited
   wait_by x = cond x (Some (newly_sent (record { 0 = q }) time k.overflow)) None
 
@@ -170,10 +168,10 @@ module _ (w : OutstationView) (q time : ℕ) (b a : List ℕ) (k : BufferView) (
       → size ≡ 4 + length (response_objects w.shared.inputs p w.master.buffer) → a ≡ splice b 4 (response_objects w.shared.inputs p w.master.buffer)
       → EffectMeets (effect_for f con size (wait_by con) w.master.session.restarted) b a (read_effect_by w q time p)
 
-  faultless : f ≡ Faultless → (hs : List Header) → WorkedBy (headers hs)
+  faultless : f ≡ None → (hs : List Header) → WorkedBy (headers hs)
   unfolding list_of latch_of
   faultless e hs ec marked sized put =
-      let c : con ≡ (some is_carried k.held || k.overflow) = ec ∙ ap (λ (x : Fault). con_by x carried k.overflow) e ∙ ap (λ (x : Bool). x || k.overflow) is in
+      let c : con ≡ (some is_carried k.held || k.overflow) = ec ∙ ap (λ (x : Option Fault). con_by x carried k.overflow) e ∙ ap (λ (x : Bool). x || k.overflow) is in
       record {
         fault = e;
         con = c ∙ ap (λ (x : BufferView). some is_carried x.held || x.overflow) marked;
@@ -188,12 +186,12 @@ module _ (w : OutstationView) (q time : ℕ) (b a : List ℕ) (k : BufferView) (
         restarted = refl;
       }
 
-  faulty : is_faultless f ≡ false → WorkedBy (fault f)
+  faulty : (g : Fault) → f ≡ Some g → WorkedBy (fault g)
   unfolding list_of latch_of
-  faulty e ec marked sized put =
-      let c : con ≡ false = ec ∙ ap (λ (x : Bool). x && (carried || k.overflow)) e in
+  faulty g e ec marked sized put =
+      let c : con ≡ false = ec ∙ ap (λ (x : Option Fault). con_by x carried k.overflow) e in
       record {
-        fault = refl;
+        fault = e;
         con = c;
         size = sized;
         lent = put;
@@ -204,9 +202,9 @@ module _ (w : OutstationView) (q time : ℕ) (b a : List ℕ) (k : BufferView) (
         restarted = refl;
       }
 
-  read-worked : (p : Parsed) → Told p → f ≡ fault_in p → WorkedBy p
-  read-worked (headers hs) t e = faultless e hs
-  read-worked (fault g) t e = subst (λ (x : Fault). WorkedBy (fault x)) e (faulty (ap is_faultless e ∙ t))
+  read-worked : (p : Parsed) → f ≡ fault_in p → WorkedBy p
+  read-worked (headers hs) e = faultless e hs
+  read-worked (fault g) e = faulty g e
 
 -- the memory of a READ, by the latch's bytes and the analog outputs' words
 abbrev pub memory_of : (binaries analogs held request answer : List ℕ) → (objects outputs : List ℕ) → Lent
@@ -229,7 +227,7 @@ module _ (h : Head) (bw aw e p s : List ℕ) (q time : ℕ) (f e₁ p₁ s₁ : 
       let w : OutstationView = view_of h (memory_of bw aw e p s o v) in
       let y : Parsed = asked_of w.shared.inputs (objects_of f) in
       let d : RequestEffect = effect_for r.fault con r.size (wait_by w q time b a₁ u r.fault con carried r.size is con) (holds h.restarted) in
-      let worked : EffectMeets d b a₁ (read_effect_by w q time y) = read-worked w q time b a₁ u r.fault con carried r.size is y (told-asked w.shared.inputs (objects_of f)) g.fault ec g.events g.size g.bytes in
+      let worked : EffectMeets d b a₁ (read_effect_by w q time y) = read-worked w q time b a₁ u r.fault con carried r.size is y g.fault ec g.events g.size g.bytes in
       let marked : u ≡ (read_effect_by w q time y).buffer = g.events ∙ sym (read-buffer w q time y) in
       let fits : r.size ≤ length b = omega (arith, read-most w q time (objects_of f), worked.size, room) in
       record {

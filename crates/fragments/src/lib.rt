@@ -87,7 +87,7 @@ pub struct FragmentResult {
 // What an answer says beside its objects and the indications of the state.
 #[derive(Clone, Copy)]
 pub struct ResponseFlags {
-    pub fault: Fault,
+    pub fault: Option<Fault>,
     pub con: bool,
 }
 
@@ -141,10 +141,10 @@ fn take_confirm(
 // ---- READ
 
 // CON is set exactly on a faultless READ's answer with an event or IIN2.3.
-fn con_by(f: Fault, carried: bool, overflow: bool) -> bool
+fn con_by(f: Option<Fault>, carried: bool, overflow: bool) -> bool
     ensures { result ≡ con_by f carried overflow }
 {
-    application::is_faultless(f) && (carried || overflow)
+    f.is_none() && (carried || overflow)
 }
 
 // Puts the response header in front of the objects; the carried events are marked.
@@ -493,8 +493,10 @@ pub fn fragment(
     if out.len() < FRAGMENT_MAX {
         return refuse(h, FragmentRefusal::OutputTooSmall);
     }
-    match application::classify(f) {
-        Fragment::Malformed => refuse(h, FragmentRefusal::Malformed),
+    let Some(kind) = application::classify(f) else {
+        return refuse(h, FragmentRefusal::Malformed);
+    };
+    match kind {
         Fragment::Confirm {
             sequence,
             unsolicited,

@@ -2,6 +2,7 @@
 -- Assumes nothing.
 use Prim.Native.Nat.{ℕ, suc, ◌≤◌}
 use mathlib.Core.Path.{◌≡◌, refl, sym, ap, ◌∙◌}
+use Rattle.std.specs.Prelude.{Some}
 use mathlib.Core.Bool.{Bool, true, false, cond}
 use mathlib.Core.List.{List, [], ◌∷◌, ◌++◌}
 use borrow.Author.Tests.{eqb-true, ne_eqb}
@@ -112,7 +113,7 @@ over_effect P (refused n) p q = q n
 -- what holds of every case of a fragment
 ask-split : (P : Ask → Type 0) (i : PointsView) (f : List ℕ) → P malformed → ((q : ℕ) (uns : Bool) → P (confirms q uns))
     → (eqb (function_of f) 1 ≡ true → (q : ℕ) (p : Parsed) → P (read_ask q p)) → P (asks (sequence_of (control_of f)) (function_of f)) → P (ask i f)
-unfolding ask classified
+unfolding ask
 ask-split P i f m d r o =
     by (F.malformed f) (λ t. rw t m)
     (λ t. rw t (by (is_confirm f) (λ c. rw c (d (sequence_of (control_of f)) (eqb (F.uns_of (control_of f)) 1)))
@@ -280,7 +281,7 @@ module _ (outputs : Outputs) (arm : ℕ) where
     reads_ok e q (headers hs) =
         read_ok h x k time in-time f (S.read_effect (view h x) q time hs) (read-new (remembered_after outputs arm h).last f e) q (eqb-true (function_of f) 1 e) refl
     reads_ok e q (fault n) =
-        read_ok h x k time in-time f (S.plain_effect (view h x) n x.restarted) (read-new (remembered_after outputs arm h).last f e) q
+        read_ok h x k time in-time f (S.plain_effect (view h x) (Some n) x.restarted) (read-new (remembered_after outputs arm h).last f e) q
         (eqb-true (function_of f) 1 e) refl
 
     abbrev effect : RequestEffect
