@@ -4,7 +4,7 @@ use Rattle.std.specs.Prelude.{ℕ, Bool, true, false, [], map, replicate, Option
 use Rattle.laws.specs.Limits.{points_max}
 use Rattle.points.specs.PointsView.{PointsView}
 use Rattle.points.specs.Setup.{fresh_binary, fresh_analog}
-use Rattle.points.specs.declared.WholeGate.TheVariants as W
+use Rattle.points.specs.declared.Gate.TheVariants as G
 use Rattle.points.specs.declared.AnalogKind.TheVariants as Ks
 use Rattle.events.specs.BufferView.{BufferView}
 use Rattle.select_latch.specs.Select.{LatchView, no_select}
@@ -92,7 +92,7 @@ bare_setup =
       binary_count = 0;
       analog_count = 0;
       classes = replicate points_max 0;
-      analogs = replicate points_max (record { class = 0; kind = Ks.Int32 W.Never });
+      analogs = replicate points_max (record { class = 0; kind = Ks.Int32 G.Never });
       analog_output_count = 0;
       analog_outputs = replicate analog_outputs_max no_output;
     }
