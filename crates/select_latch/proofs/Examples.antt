@@ -5,7 +5,8 @@ use mathlib.Core.List.{List, [], ◌∷◌, ◌++◌}
 use Prim.Native.Nat.{ℕ}
 use Rattle.octets.specs.Bytes.{value}
 use Rattle.laws.specs.Lists.{same}
-use Rattle.application.specs.declared.Fault.TheVariants.{Faultless, ObjectUnknown, BadParameter}
+use Rattle.application.specs.declared.Fault.TheVariants.{ObjectUnknown, BadParameter}
+use Rattle.std.specs.Prelude.{Some, None}
 use lib.IntN.{pos, negsuc}
 use lib.Ieee.{binary32, of_bits, le}
 use Rattle.points.specs.declared.Value.TheVariants as Vs
@@ -35,7 +36,7 @@ pub asked : ControlObject
 asked = record { index = 5; status = 0; command = C.Crob (record { code = 3; count = 1; on_time = 0; off_time = 0 }) }
 
 pub did : List ℕ → List ControlObject → LatchView → ControlEffect
-did e c l = record { fault = Faultless; echo = e; carried = c; latch = l }
+did e c l = record { fault = None; echo = e; carried = c; latch = l }
 
 pub record Rows (t : ℕ) : Type 0 where
   -- g. C4 03: the same objects, and the latch armed
@@ -72,19 +73,19 @@ unfolding control_effect formed formed_as exact width_of span value objects stat
 silent = refl
 
 -- faults: under 3 bytes; another object; a byte after; count 0
-short : (control_effect outputs 0 no_select Select 0 0 (0x0C ∷ 0x01 ∷ [])).fault ≡ BadParameter
+short : (control_effect outputs 0 no_select Select 0 0 (0x0C ∷ 0x01 ∷ [])).fault ≡ Some BadParameter
 unfolding control_effect formed formed_as exact width_of span value
 short = refl
 
-other : (control_effect outputs 0 no_select Select 0 0 (0x0C ∷ 0x02 ∷ 0x17 ∷ [])).fault ≡ ObjectUnknown
+other : (control_effect outputs 0 no_select Select 0 0 (0x0C ∷ 0x02 ∷ 0x17 ∷ [])).fault ≡ Some ObjectUnknown
 unfolding control_effect formed formed_as exact width_of span value
 other = refl
 
-longer : (control_effect outputs 0 no_select Select 0 0 (crob 0 ++ 0 ∷ [])).fault ≡ BadParameter
+longer : (control_effect outputs 0 no_select Select 0 0 (crob 0 ++ 0 ∷ [])).fault ≡ Some BadParameter
 unfolding control_effect formed formed_as exact width_of span value crob
 longer = refl
 
-empty : (control_effect outputs 0 no_select Select 0 0 (0x0C ∷ 0x01 ∷ 0x17 ∷ 0x00 ∷ [])).fault ≡ BadParameter
+empty : (control_effect outputs 0 no_select Select 0 0 (0x0C ∷ 0x01 ∷ 0x17 ∷ 0x00 ∷ [])).fault ≡ Some BadParameter
 unfolding control_effect formed formed_as exact width_of span value
 empty = refl
 
@@ -125,7 +126,7 @@ record Answered : Type 0 where
   kind : (control_effect outputs 0 no_select DirectOperate 0 0 (shorts 1 0 0 0)).echo ≡ shorts 1 0 0 4
   missing : (control_effect outputs 0 no_select DirectOperate 0 0 (shorts 3 0 1 9)).echo ≡ shorts 3 4 1 3
   -- 41 variation 4 is no object of these
-  fourth : (control_effect outputs 0 no_select Select 0 0 (0x29 ∷ 0x04 ∷ 0x17 ∷ [])).fault ≡ ObjectUnknown
+  fourth : (control_effect outputs 0 no_select Select 0 0 (0x29 ∷ 0x04 ∷ 0x17 ∷ [])).fault ≡ Some ObjectUnknown
 
 whole_numbers : Answered
 unfolding control_effect formed formed_as exact width_of span value objects statuses status_of analog_can takes within within_float of_bits le echoed ints shorts outputs

@@ -8,6 +8,7 @@ use borrow.Author.Tests.{eq-eqb, ne_eqb, le-leb, lt-leb}
 use lib.ListN.{take, drop}
 use Rattle.laws.specs.Lists.{same}
 use Rattle.application.specs.Fragment.{next_of}
+use Rattle.std.specs.Prelude.{Some}
 use Rattle.application.specs.declared.Fault.{Fault}
 use Rattle.control.specs.declared.ObjectKind.{ObjectKind}
 use Rattle.control.specs.declared.Form.TheVariants.{Wrong, Objects}
@@ -57,7 +58,7 @@ module _ (arm : ℕ) (h : ControlGroup) (q t : ℕ) (s : List ℕ) (g : ControlG
 
 module _ (u : Outputs) (arm : ℕ) (l : LatchView) (f : ControlFunction) (sequence time : ℕ) (o : List ℕ) where
   pub effect-wrong : (x : Fault) → formed o ≡ Wrong x
-      → control_effect u arm l f sequence time o ≡ record { fault = x; echo = []; carried = []; latch = no_select }
+      → control_effect u arm l f sequence time o ≡ record { fault = Some x; echo = []; carried = []; latch = no_select }
   unfolding control_effect
   effect-wrong x e = rw e
 

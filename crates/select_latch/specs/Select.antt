@@ -1,12 +1,11 @@
 -- The select latch, and what a control request does: "SELECT, OPERATE, DIRECT OPERATE, and the last with no response (3 to 6)".
 -- Assumes nothing.
-use Rattle.std.specs.Prelude.{◌≡◌, ℕ, ◌+◌, ◌-◌, ◌≤◌, Bool, true, false, cond, List, [], ◌∷◌, length, take, drop, replicate, leb, eqb}
+use Rattle.std.specs.Prelude.{◌≡◌, ℕ, ◌+◌, ◌-◌, ◌≤◌, Bool, true, false, cond, Option, Some, None, List, [], ◌∷◌, length, take, drop, replicate, leb, eqb}
 use Rattle.octets.specs.Bytes.{splice}
 use Rattle.laws.specs.First.{first, ◌⇒◌}
 use Rattle.laws.specs.Lists.{all, same}
 use Rattle.application.specs.Fragment.{next_of}
 use Rattle.application.specs.declared.Fault.{Fault}
-use Rattle.application.specs.declared.Fault.TheVariants.{Faultless}
 use Rattle.control.specs.declared.ObjectKind.{ObjectKind}
 use Rattle.control.specs.declared.ObjectKind.TheVariants as K
 use Rattle.control.specs.declared.ControlObject.{ControlObject}
@@ -97,7 +96,7 @@ latch_by f g ss sequence time o = cond (all (is_select f ∷ all_zero ss ∷ [])
 
 -- the fault, the object bytes of the answer, the objects handed to the host, the latch
 pub record ControlEffect : Type 0 where
-  pub fault : Fault
+  pub fault : Option Fault
   pub echo : List ℕ
   pub carried : List ControlObject
   pub latch : LatchView
@@ -106,7 +105,7 @@ pub record ControlEffect : Type 0 where
 abbrev pub control_effect_with : ControlFunction → ℕ → ℕ → List ℕ → ObjectKind → ℕ → List ControlObject → List ℕ → ControlEffect
 control_effect_with f sequence time o k w cs ss =
     record {
-      fault = Faultless;
+      fault = None;
       echo = echo_by f (echo_of w (value_size k) ss o);
       carried = carried_by f cs ss;
       latch = latch_by f (group_of k) ss sequence time o;
@@ -114,7 +113,7 @@ control_effect_with f sequence time o k w cs ss =
 
 -- a fault: "no objects"
 abbrev pub by_form : Form → Outputs → ℕ → LatchView → ControlFunction → ℕ → ℕ → List ℕ → ControlEffect
-by_form (Wrong x) outputs arm l f sequence time o = record { fault = x; echo = []; carried = []; latch = no_select }
+by_form (Wrong x) outputs arm l f sequence time o = record { fault = Some x; echo = []; carried = []; latch = no_select }
 by_form (Objects k w n) outputs arm l f sequence time o =
     control_effect_with f sequence time o k w (objects k w n (drop (3 + w) o))
     (statuses_by f outputs (operate_status arm l (group_of k) sequence time o) (objects k w n (drop (3 + w) o)))

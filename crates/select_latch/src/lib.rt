@@ -57,7 +57,7 @@ pub struct Latch {
 // What a control request does. The echo of so many bytes is in the lent bytes from 4.
 #[derive(Clone, Copy)]
 pub struct Controlled {
-    pub fault: Fault,
+    pub fault: Option<Fault>,
     pub len: usize,
     pub carried: ControlObjects,
     pub latch: Latch,
@@ -285,7 +285,7 @@ pub fn control_effect(
 {
     match control::header(o) {
         Form::Wrong(fault) => Controlled {
-            fault: fault,
+            fault: Some(fault),
             len: 0,
             carried: control::none(),
             latch: empty(),
@@ -297,7 +297,7 @@ pub fn control_effect(
             let ss = statuses_by(f, cs, counts, ws, s);
             let len = answer(f, out, o, kind, width, count, ss);
             Controlled {
-                fault: Fault::Faultless,
+                fault: None,
                 len: len,
                 carried: carry(f, cs, ss),
                 latch: latch_after(f, group, ss, count, sequence, time, o),
