@@ -20,12 +20,12 @@ same_refl (x ∷ xs) = rw (eq-eqb x x refl) (same_refl xs)
 
 -- bytes that compare equal are equal
 -- std's `==` on slices of bytes
-pub same-pointwise : (a b : List ℕ) → pointwise eqb a b ≡ same a b
+pub same_as_eq : (a b : List ℕ) → pointwise eqb a b ≡ same a b
 unfolding same
-same-pointwise [] [] = refl
-same-pointwise [] (y ∷ ys) = refl
-same-pointwise (x ∷ xs) [] = refl
-same-pointwise (x ∷ xs) (y ∷ ys) = ap (λ (t : Bool). eqb x y && t) (same-pointwise xs ys)
+same_as_eq [] [] = refl
+same_as_eq [] (y ∷ ys) = refl
+same_as_eq (x ∷ xs) [] = refl
+same_as_eq (x ∷ xs) (y ∷ ys) = ap (λ t. eqb x y && t) (same_as_eq xs ys)
 
 pub same-eq : (a b : List ℕ) → same a b ≡ true → a ≡ b
 unfolding same
