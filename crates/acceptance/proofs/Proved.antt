@@ -9,9 +9,7 @@ use Rattle.points.specs.Reading as P
 use Rattle.points.specs.Scaling.{limited_of}
 use Rattle.events.specs.Placing as E
 use Rattle.events.specs.BufferView as K
-use Rattle.application.specs.Fragment as F
 use Rattle.application.specs.Response as I
-use Rattle.read_headers.specs.Headers as H
 use Rattle.read_headers.specs.Parse as A
 use Rattle.objects.specs.Runs.{encoded, runs, all_bytes, object_bytes}
 use Rattle.event_objects.specs.Events.{event_bytes, carried_events, carried_objects, carried_bytes}

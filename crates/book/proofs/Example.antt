@@ -8,13 +8,11 @@ use mathlib.Core.List.{List, [], ◌∷◌}
 use lib.ListN.{replicate}
 use Rattle.laws.specs.Limits.{fragment_max, points_max}
 use Rattle.points.specs.Reading as P
-use Rattle.points.specs.declared.WholeGate.TheVariants as W
+use Rattle.points.specs.declared.Gate.TheVariants as G
 use Rattle.points.specs.declared.AnalogKind.TheVariants as Ks
 use Rattle.events.specs.declared.Shown.TheVariants.{State}
 use Rattle.events.specs.Placing as E
-use Rattle.read_headers.specs.Headers as H
 use Rattle.read_headers.specs.Parse as A
-use Rattle.application.specs.Fragment as F
 use Rattle.objects.specs.Runs.{encoded, runs, all_bytes}
 use Rattle.static_objects.specs.Static.{static_bytes, range_bytes, point_objects}
 use Rattle.outstation.specs.Setup.{Setup}
@@ -41,7 +39,7 @@ one_binary =
       binary_count = 1;
       analog_count = 0;
       classes = 1 ∷ replicate 63 0;
-      analogs = replicate points_max (record { class = 0; kind = Ks.Int32 W.Never });
+      analogs = replicate points_max (record { class = 0; kind = Ks.Int32 G.Never });
       analog_output_count = 0;
       analog_outputs = replicate analog_outputs_max no_output;
     }

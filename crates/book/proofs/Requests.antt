@@ -34,7 +34,7 @@ use Rattle.last_request.specs.Repeat.{LastRequestView, nothing, kept, is_repeat,
 use Rattle.last_request.proofs.ReplyLaws.{length-by}
 use Rattle.events.specs.BufferView.{BufferView, cleared}
 use Rattle.static_objects.specs.Static.{asked_of}
-use Rattle.outstation.specs.declared.Wait.TheVariants.{Idle}
+use Rattle.std.proofs.Common.{None}
 use Rattle.outstation.specs.OutstationView.{OutstationView}
 use Rattle.outstation.specs.Requests.{Ask, malformed, confirms, reads, misreads, asks, ask, read_ask}
 use Rattle.outstation.specs.Step.{RequestEffect, effect_by}
@@ -121,7 +121,7 @@ repeated (kept bytes answer) f l e = rw (same-eq f bytes e)
 -- a request that is no READ ends the wait and takes the marks away
 pub record Ends (k : BufferView) (d : RequestEffect) : Type 0 where
   pub buffer : d.buffer ≡ cleared k
-  pub wait : d.wait ≡ Idle
+  pub wait : d.wait ≡ None
 
 pub effect-ends : (w : OutstationView) (q function time : ℕ) (o : List ℕ) → Ends w.master.buffer (effect_by w q function time o)
 effect-ends w q function time o =

@@ -28,8 +28,8 @@ use Rattle.static_objects.specs.Static.{static_bytes}
 use Rattle.read_headers.specs.declared.Header.{Header}
 use Rattle.outstation.specs.Setup.{Setup, outputs_set_up}
 use Rattle.outstation.specs.declared.Reading.{Reading}
-use Rattle.outstation.specs.declared.Wait as D
-use Rattle.outstation.specs.declared.Wait.TheVariants.{Idle, Awaiting}
+use Rattle.outstation.specs.declared.Awaited.{Awaited}
+use Rattle.std.proofs.Common.{Option, Some, None}
 use Rattle.outstation.specs.OutstationView.{OutstationView, with_master, restarted}
 use Rattle.outstation.specs.Readings.{bad_time, ReadingEffect, apply_reading}
 use Rattle.read.specs.Response.{classes_of, room_beside}
@@ -64,9 +64,9 @@ abbrev pub wait_from : B.BookWait → ℕ
 wait_from B.idle = 0
 wait_from (B.awaiting q t ws n k) = n
 
-abbrev pub wait_view : Bool → List Row → B.BookWait → D.Wait
-wait_view shown rows B.idle = Idle
-wait_view shown rows (B.awaiting q t ws n k) = Awaiting (record { 0 = q }) t shown (drop_since n rows)
+abbrev pub wait_view : Bool → List Row → B.BookWait → Option Awaited
+wait_view shown rows B.idle = None
+wait_view shown rows (B.awaiting q t ws n k) = Some (record { sequence = record { 0 = q }; time = t; showed_overflow = shown; dropped_since = drop_since n rows })
 
 abbrev pub view : Book → Extra → OutstationView
 view b x =

@@ -25,8 +25,8 @@ use Rattle.last_request.specs.Requests as Q
 use Rattle.last_request.specs.Requests.{Request, Acted, sequence_in, function_in, objects_in, InOrder, acted_by, acted, remembered_after, repeated}
 use Rattle.last_request.proofs.Controls.{controls-safe}
 use Rattle.outstation.specs.declared.Reading.{Reading}
-use Rattle.outstation.specs.declared.Wait.{Wait}
-use Rattle.outstation.specs.declared.Wait.TheVariants.{Idle, Awaiting}
+use Rattle.outstation.specs.declared.Awaited.{Awaited}
+use Rattle.std.proofs.Common.{Option, Some, None}
 use Rattle.outstation.specs.Setup.{Setup, outputs_set_up}
 use Rattle.outstation.specs.OutstationView.{OutstationView, MasterView, with_master, restarted}
 use Rattle.outstation.specs.Readings.{bad_time, ReadingEffect, apply_reading}
@@ -102,7 +102,7 @@ pub record Extra : Type 0 where
   pub inputs : PointsView
   pub buffer : BufferView
   pub restarted : Bool
-  pub wait : Wait
+  pub wait : Option Awaited
 
 -- what holds of both cases of a reading
 over_effect {ℓ} : {A : Type 0} (P : A → Type ℓ) (v : Outcome ReadingEffect) {x : ReadingEffect → A} {y : ℕ → A}
@@ -158,7 +158,7 @@ module _ (outputs : Outputs) (arm : ℕ) where
   effect_at x time i =
       record { confirm_time = x.confirm_time; clock = time; inputs = i; buffer = x.buffer; restarted = x.restarted; wait = x.wait }
 
-  abbrev raised_to : Extra → BufferView → Wait → Extra
+  abbrev raised_to : Extra → BufferView → Option Awaited → Extra
   raised_to x k v =
       record { confirm_time = x.confirm_time; clock = x.clock; inputs = x.inputs; buffer = k; restarted = x.restarted; wait = v }
 
@@ -196,20 +196,20 @@ module _ (outputs : Outputs) (arm : ℕ) where
 
   -- ---- CONFIRM: neither the last request nor the latch changes
 
-  confirm-ok : (h : List Request) (x : Extra) → Since x.clock h → (v : Wait) (q : ℕ) (uns : Bool) (time : ℕ) → x.clock ≤ time
+  confirm-ok : (h : List Request) (x : Extra) → Since x.clock h → (v : Option Awaited) (q : ℕ) (uns : Bool) (time : ℕ) → x.clock ≤ time
       → Does h [] (S.confirm_step (view h x) v q uns time)
   unfolding S.confirm_step S.confirmed_step
-  confirm-ok h x k Idle q uns time l = none-ok h x k (S.refuses 32) refl refl
-  confirm-ok h x k (Awaiting awaited sent shown since) q uns time l =
-      split (Does h []) (is_confirmed x.confirm_time q uns time awaited.0 sent)
+  confirm-ok h x k None q uns time l = none-ok h x k (S.refuses 32) refl refl
+  confirm-ok h x k (Some a) q uns time l =
+      split (Does h []) (is_confirmed x.confirm_time q uns time a.sequence.0 a.time)
       (λ _. none-ok h
       (record {
         confirm_time = x.confirm_time;
         clock = time;
         inputs = x.inputs;
-        buffer = S.clearing shown since (released x.buffer);
+        buffer = S.clearing a.showed_overflow a.dropped_since (released x.buffer);
         restarted = x.restarted;
-        wait = Idle;
+        wait = None;
       })
       (since-later h x.clock time l k) S.accepts refl refl)
       (λ _. none-ok h x k (S.refuses 32) refl refl)
@@ -333,7 +333,7 @@ start-ok u =
             inputs = (restarted u).shared.inputs;
             buffer = record { held = []; overflow = false };
             restarted = true;
-            wait = Idle;
+            wait = None;
           };
       is = refl;
       since = since-start 0;
