@@ -5,8 +5,7 @@ use Rattle.std.specs.Float.{binary32}
 use Rattle.std.specs.Float.Ieee.{of_bits}
 use Rattle.laws.specs.Limits.{fragment_max, points_max}
 use Rattle.frame.specs.Frame.{frame_size}
-use Rattle.points.specs.declared.WholeGate.TheVariants as W
-use Rattle.points.specs.declared.FloatGate.TheVariants as F
+use Rattle.points.specs.declared.Gate.TheVariants as G
 use Rattle.points.specs.declared.AnalogKind.TheVariants as Ks
 use Rattle.points.specs.declared.AnalogSetup.{AnalogSetup}
 use Rattle.control.specs.declared.Command.TheVariants as C
@@ -49,7 +48,7 @@ table_setup binaries analogs classes kinds =
 
 -- a place of the array that is not used
 abbrev pub unused : AnalogSetup
-unused = record { class = 0; kind = Ks.Int32 W.Never }
+unused = record { class = 0; kind = Ks.Int32 G.Never }
 
 -- "4 binaries", "binary 3, class 1"
 abbrev pub four_binaries : Setup
@@ -57,7 +56,7 @@ four_binaries = table_setup 4 0 (0 ∷ 0 ∷ 0 ∷ 1 ∷ replicate (points_max -
 
 -- gain 1.0 and offset 0.0
 abbrev pub float_point : AnalogSetup
-float_point = record { class = 1; kind = Ks.Float32 F.AnyChange (record { gain = of_bits binary32 0x3F800000; offset = of_bits binary32 0 }) }
+float_point = record { class = 1; kind = Ks.Float32 G.AnyChange (record { gain = of_bits binary32 0x3F800000; offset = of_bits binary32 0 }) }
 
 -- j: "one binary", "one float point"
 abbrev pub one_of_each : Setup

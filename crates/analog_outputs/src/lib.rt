@@ -34,25 +34,24 @@ pub struct AnalogOutputWords {
 pub fn output_of(kind: u32, low: u32, high: u32) -> AnalogOutput
     ensures { result ≡ output_of kind low high }
 {
-    if kind == 0 {
-        return AnalogOutput::Int32 {
+    match kind {
+        0 => AnalogOutput::Int32 {
             low: words::signed(low),
             high: words::signed(high),
-        };
-    }
-    if kind == 1 {
-        return AnalogOutput::Int16 {
+        },
+        1 => AnalogOutput::Int16 {
             low: words::signed(low),
             high: words::signed(high),
-        };
-    }
-    AnalogOutput::Float32 {
-        low: words::float(low),
-        high: words::float(high),
+        },
+        _ => AnalogOutput::Float32 {
+            low: words::float(low),
+            high: words::float(high),
+        },
     }
 }
 
 // A whole number from the first end to the second.
+#[tactic(auto, unfolding(crate::specs::Output::within))]
 fn within(low: i32, high: i32, v: i32) -> bool
     ensures { result ≡ within low high v }
 {
@@ -60,10 +59,11 @@ fn within(low: i32, high: i32, v: i32) -> bool
 }
 
 // A finite float from the first end to the second.
+#[tactic(auto, unfolding(crate::specs::Output::within_float))]
 fn within_float(low: f32, high: f32, v: f32) -> bool
     ensures { result ≡ within_float low high v }
 {
-    points::is_finite(v) && low <= v && v <= high
+    v.is_finite() && low <= v && v <= high
 }
 
 // A number that 16 bits hold.
@@ -74,6 +74,7 @@ fn holds_16(v: i32) -> bool
 }
 
 // Whether a setup may have this output.
+#[tactic(auto, unfolding(crate::specs::Output::output_ok))]
 pub fn output_ok(o: AnalogOutput) -> bool
     ensures { result ≡ output_ok o }
 {
@@ -81,45 +82,22 @@ pub fn output_ok(o: AnalogOutput) -> bool
         AnalogOutput::Int32 { low, high } => low <= high,
         AnalogOutput::Int16 { low, high } => holds_16(low) && holds_16(high) && low <= high,
         AnalogOutput::Float32 { low, high } => {
-            points::is_finite(low) && points::is_finite(high) && low <= high
+            low.is_finite() && high.is_finite() && low <= high
         }
     }
 }
 
 // Whether an output takes this value: it is of the output's kind, and not outside the ends.
+#[tactic(auto, unfolding(crate::specs::Output::takes))]
 pub fn takes(o: AnalogOutput, v: Value) -> bool
     ensures { result ≡ takes o v }
 {
-    match o {
-        AnalogOutput::Int32 { low, high } => match v {
-            Value::Int32(x) => within(low, high, x),
-            Value::Int16(short) => false,
-            Value::Float32(x) => false,
-        },
-        AnalogOutput::Int16 { low, high } => match v {
-            Value::Int32(x) => false,
-            Value::Int16(x) => within(low, high, x as i32),
-            Value::Float32(x) => false,
-        },
-        AnalogOutput::Float32 { low, high } => match v {
-            Value::Int32(x) => false,
-            Value::Int16(x) => false,
-            Value::Float32(x) => within_float(low, high, x),
-        },
+    match (o, v) {
+        (AnalogOutput::Int32 { low, high }, Value::Int32(x)) => within(low, high, x),
+        (AnalogOutput::Int16 { low, high }, Value::Int16(x)) => within(low, high, i32::from(x)),
+        (AnalogOutput::Float32 { low, high }, Value::Float32(x)) => within_float(low, high, x),
+        _ => false,
     }
-}
-
-// For proofs alone: a lent array tells a proof no length, and a call of these does. They compile to nothing.
-fn count_of(ws: &[u32]) -> usize
-    ensures { result ≡ length ws.now }
-{
-    ws.len()
-}
-
-fn outputs_length(ws: &[u32; ANALOG_OUTPUT_WORDS]) -> usize
-    ensures { length ws.now ≡ 3 * analog_outputs_max }
-{
-    count_of(ws)
 }
 
 // The i-th output, installed or not.
@@ -136,9 +114,8 @@ pub fn store_output(ws: &mut [u32; ANALOG_OUTPUT_WORDS], i: usize, w: AnalogOutp
     requires { i < analog_outputs_max }
     ensures { outputs_in ws.new ≡ set (outputs_in ws.old) i (output_given w) }
 {
-    outputs_length(ws);
     let at = 3 * i;
-    ws[at] = w.kind as u32;
+    ws[at] = u32::from(w.kind);
     ws[at + 1] = w.low;
     ws[at + 2] = w.high;
 }

@@ -1,22 +1,21 @@
 -- What a fragment's call gives the host: numbers, and the objects to be carried out.
 -- Assumes nothing.
-use Rattle.std.specs.Prelude.{ℕ, ◌≡◌, List, length}
+use Rattle.std.specs.Prelude.{ℕ, ◌≡◌, List, length, Ok, Err}
 use Rattle.control_words.specs.Operated.{OperatedAs}
 use Rattle.outstation.specs.declared.Head.{Head}
 use Rattle.outstation.specs.Lent.{Lent, Outstation, outstation_view, CountsWithin, view_of}
 use Rattle.outstation.specs.Step.{Answer, took, answers, silent, accepts, refuses, handed, output_after, Result, fragment, step}
-use Rattle.fragments.specs.declared.FragmentAnswer.{FragmentAnswer}
 use Rattle.fragments.specs.declared.FragmentAnswer.TheVariants as Fs
-use Rattle.fragments.specs.FragmentMeets.{fragment_refusal_number}
+use Rattle.fragments.specs.FragmentMeets.{fragment_refusal_number, Answering}
 use Rattle.c_api.specs.declared.FragmentWords.{FragmentWords}
 use Rattle.c_api.specs.declared.AnswerWords.{AnswerWords}
 
 -- the numbers of each answer
-abbrev pub answer_words : FragmentAnswer → FragmentWords
-answer_words (Fs.Answer n) = record { length = n; kind = 0; refusal = 0 }
-answer_words Fs.Silent = record { length = 0; kind = 1; refusal = 0 }
-answer_words Fs.Confirmed = record { length = 0; kind = 2; refusal = 0 }
-answer_words (Fs.Refused why) = record { length = 0; kind = 3; refusal = fragment_refusal_number why }
+abbrev pub answer_words : Answering → FragmentWords
+answer_words (Ok (Fs.Answer n)) = record { length = n; kind = 0; refusal = 0 }
+answer_words (Ok Fs.Silent) = record { length = 0; kind = 1; refusal = 0 }
+answer_words (Ok Fs.Confirmed) = record { length = 0; kind = 2; refusal = 0 }
+answer_words (Err why) = record { length = 0; kind = 3; refusal = fragment_refusal_number why }
 
 -- what a call gives for a step's answer, every field in every case: kind 0, answered with the first `length` lent bytes; 1, not
 -- answered; 2, a CONFIRM accepted; 3, refused. (A reading's answer is none of a fragment's.)

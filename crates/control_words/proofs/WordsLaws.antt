@@ -4,26 +4,37 @@ use mathlib.Core.Path.{◌≡◌, refl, sym, ap, ◌∙◌}
 use mathlib.Core.Bool.{Bool, true, false}
 use mathlib.Core.List.{List, [], ◌∷◌, ◌++◌, map}
 use Prim.Native.Nat.{ℕ, zero, suc, ◌+◌, ◌≤◌, ◌<◌}
-use lib.ListN.{length, get_or, take, drop, set, length-map}
+use lib.ListN.{length, get_or, take, drop, set, length-map, drop_of_length-le}
 use lib.Seq.{length-take-le}
 use Rattle.laws.specs.Lists.{filter}
-use Rattle.laws.proofs.Filling.{part-front, part_none, stored, map-take}
+use Rattle.std.proofs.Common.{add-one, drop-cons}
+use Rattle.std.proofs.Math.Option.{some}
+use Rattle.laws.proofs.Filling.{stored, map-take}
 use Rattle.control.specs.declared.ControlObject.{ControlObject}
-use Rattle.control.specs.Objects.{no_object}
 
-module _ (p : ControlObject → Bool) (cs : List ControlObject) (n i : ℕ) where
-  pub filter-yes : i < n → n ≤ length cs → p (get_or cs i no_object) ≡ true
-      → filter p (drop i (take n cs)) ≡ get_or cs i no_object ∷ filter p (drop (i + 1) (take n cs))
-  unfolding filter
-  filter-yes h k e = rw (part-front cs n i no_object h k, e)
+module _ (p : ControlObject → Bool) (xs : List ControlObject) (i : ℕ) where
+  module _ (d : ControlObject) (below : i < length xs) where
+    front : drop i xs ≡ get_or xs i d ∷ drop (i + 1) xs
+    front = rw (add-one, drop-cons xs i d) refl
 
-  pub filter-no : i < n → n ≤ length cs → p (get_or cs i no_object) ≡ false → filter p (drop (i + 1) (take n cs)) ≡ filter p (drop i (take n cs))
-  unfolding filter
-  filter-no h k e = rw (part-front cs n i no_object h k, e)
+    pub filter-yes : p (get_or xs i d) ≡ true → filter p (drop i xs) ≡ get_or xs i d ∷ filter p (drop (i + 1) xs)
+    unfolding filter
+    filter-yes e = rw (front, e)
 
-  pub filter-end : i ≤ n → n ≤ i → filter p (drop i (take n cs)) ≡ []
+    pub filter-no : p (get_or xs i d) ≡ false → filter p (drop (i + 1) xs) ≡ filter p (drop i xs)
+    unfolding filter
+    filter-no e = rw (front, e)
+
+  pub filter-end : length xs ≤ i → filter p (drop i xs) ≡ []
   unfolding filter
-  filter-end h k = rw (part_none cs n i h k)
+  filter-end h = rw (drop_of_length-le xs h) refl
+
+-- objects that all are some
+pub map-some : {W : Type 0} (f : W → ControlObject) (ws : List W) (xs : List ControlObject) → map (λ w. some (f w)) ws ≡ map some xs → map f ws ≡ xs
+map-some f [] [] e = refl
+map-some f [] (x ∷ xs) e = cc
+map-some f (w ∷ ws) [] e = cc
+map-some f (w ∷ ws) (x ∷ xs) e = let t : map f ws ≡ xs = map-some f ws xs cc in cc
 
 module _ {W X : Type 0} (f : W → X) where
   map-set : (ws : List W) (j : ℕ) (w : W) → map f (set ws j w) ≡ set (map f ws) j (f w)

@@ -1,6 +1,7 @@
 -- The objects to be carried out as plain numbers: what numbers stand for which object, and which objects are handed over so.
 -- Assumes nothing.
-use Rattle.std.specs.Prelude.{ℕ, ◌≡◌, List, [], ◌∷◌, map, eqb, length, take}
+use Rattle.std.specs.Prelude.{ℕ, ◌≡◌, Bool, true, false, List, [], ◌∷◌, map, eqb, length, take}
+use Rattle.std.specs.Prelude as P
 use Rattle.std.proofs.Math.Option.{Option, none, some}
 use Rattle.std.specs.Float.{binary32}
 use Rattle.std.specs.Float.Ieee.{of_bits}
@@ -39,6 +40,11 @@ analog_object w =
     ∷ eqb w.kind 2 ⇒ some (asked w.index w.status (Vs.Float32 (of_bits binary32 w.bits)))
     ∷ [])
     none
+
+-- the numbers that an object has among those of one kind: none where it is of another kind
+abbrev pub StandsFor : {W : Type 0} → (W → Option ControlObject) → (ControlObject → Bool) → ControlObject → P.Option W → Type 0
+StandsFor object_of is_kind c P.None = is_kind c ≡ false
+StandsFor object_of is_kind c (P.Some w) = (is_kind c ≡ true) × (object_of w ≡ some c)
 
 -- a struct that holds exactly these objects: so many, and no more
 pub record CrobsAs (c : CrobsWords) (xs : List ControlObject) : Type 0 where

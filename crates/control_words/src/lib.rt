@@ -2,11 +2,12 @@
 // for the other.
 #![tactic(auto)]
 
-ghost use Rattle.std.specs.Prelude.{◌≡◌, [], map, ◌≤◌, length, take};
-ghost use Rattle.std.proofs.Math.Option.{some};
+ghost use Rattle.std.specs.Prelude.{◌≡◌, Bool, map, length, take};
+ghost use Rattle.std.proofs.Math.Option.{Option, some};
 ghost use Rattle.laws.specs.Lists.{filter};
 ghost use Rattle.control.specs.Objects.{is_crob, is_analog_output, list_of};
-ghost use Rattle.control_words.specs.Operated.{crob_object, asked, analog_object, CrobsAs, AnalogCommandsAs, OperatedAs};
+ghost use Rattle.control.specs.declared.ControlObject.{ControlObject};
+ghost use Rattle.control_words.specs.Operated.{crob_object, asked, analog_object, StandsFor, CrobsAs, AnalogCommandsAs, OperatedAs};
 
 use control::{Command, ControlObject, ControlObjects, Crob, OBJECTS_MAX};
 use points::Value;
@@ -63,10 +64,10 @@ fn crob_words(index: u16, status: u8, x: Crob) -> CrobWords
     CrobWords {
         on_time: x.on_time,
         off_time: x.off_time,
-        index: index,
+        index,
         code: x.code,
         count: x.count,
-        status: status,
+        status,
     }
 }
 
@@ -76,99 +77,116 @@ fn analog_words(index: u16, status: u8, v: Value) -> AnalogCommandWords
     match v {
         Value::Int32(z) => AnalogCommandWords {
             bits: words::signed_bits(z),
-            index: index,
+            index,
             kind: 0,
-            status: status,
+            status,
         },
         Value::Int16(z) => AnalogCommandWords {
-            bits: words::signed_bits(z as i32),
-            index: index,
+            bits: words::signed_bits(i32::from(z)),
+            index,
             kind: 1,
-            status: status,
+            status,
         },
         Value::Float32(x) => AnalogCommandWords {
             bits: words::float_bits(x),
-            index: index,
+            index,
             kind: 2,
-            status: status,
+            status,
         },
     }
 }
 
-fn no_crobs() -> CrobsWords
-    ensures { CrobsAs result [] }
-{
-    let w = CrobWords {
-        on_time: 0,
-        off_time: 0,
-        index: 0,
-        code: 0,
-        count: 0,
-        status: 0,
-    };
-    let items = [w; OBJECTS_MAX];
-    CrobsWords {
-        items: items,
-        count: 0,
+// Numbers that stand for objects of one kind.
+trait ObjectWords: Copy {
+    ghost object_of: { Self → Option ControlObject };
+
+    ghost is_kind: { ControlObject → Bool };
+
+    // No object's.
+    fn none() -> Self;
+
+    // An object's, if it is of this kind.
+    fn of(c: ControlObject) -> Option<Self>
+        ensures { StandsFor object_of is_kind c result };
+}
+
+impl ObjectWords for CrobWords {
+    ghost object_of = { λ w. some (crob_object w) };
+
+    ghost is_kind = { is_crob };
+
+    fn none() -> CrobWords {
+        CrobWords {
+            on_time: 0,
+            off_time: 0,
+            index: 0,
+            code: 0,
+            count: 0,
+            status: 0,
+        }
+    }
+
+    fn of(c: ControlObject) -> Option<CrobWords> {
+        match c.command {
+            Command::Crob(x) => Some(crob_words(c.index, c.status, x)),
+            Command::AnalogOutput(_) => None,
+        }
     }
 }
 
-fn no_analog_commands() -> AnalogCommandsWords
-    ensures { AnalogCommandsAs result [] }
-{
-    let w = AnalogCommandWords {
-        bits: 0,
-        index: 0,
-        kind: 0,
-        status: 0,
-    };
-    let items = [w; OBJECTS_MAX];
-    AnalogCommandsWords {
-        items: items,
-        count: 0,
+impl ObjectWords for AnalogCommandWords {
+    ghost object_of = { analog_object };
+
+    ghost is_kind = { is_analog_output };
+
+    fn none() -> AnalogCommandWords {
+        AnalogCommandWords {
+            bits: 0,
+            index: 0,
+            kind: 0,
+            status: 0,
+        }
     }
+
+    fn of(c: ControlObject) -> Option<AnalogCommandWords> {
+        match c.command {
+            Command::Crob(_) => None,
+            Command::AnalogOutput(v) => Some(analog_words(c.index, c.status, v)),
+        }
+    }
+}
+
+// The objects of one kind, in the order asked, and how many they are.
+fn taken<W: ObjectWords>(cs: ControlObjects) -> ([W; OBJECTS_MAX], usize)
+    ensures { (map W.object_of (take result.1 result.0) ≡ map some (filter W.is_kind (list_of cs)))
+        × (result.1 ≡ length (filter W.is_kind (list_of cs))) }
+{
+    let n = cs.count.min(OBJECTS_MAX);
+    let mut items = [W::none(); OBJECTS_MAX];
+    let mut count = 0;
+    for &c in &cs.items[..n] {
+        if let Some(w) = W::of(c) {
+            items[count] = w;
+            count += 1;
+        }
+    }
+    (items, count)
 }
 
 // Those for relays.
 fn crobs_of(cs: ControlObjects) -> CrobsWords
     ensures { CrobsAs result (filter is_crob (list_of cs)) }
 {
-    let n = octets::least(cs.count, OBJECTS_MAX);
-    let mut next = no_crobs();
-    let mut i: usize = 0;
-    let mut j: usize = 0;
-    while i < n {
-        let c = cs.items[i];
-        let command = c.command;
-        i += 1;
-        if let Command::Crob(x) = command {
-            next.items[j] = crob_words(c.index, c.status, x);
-            j += 1;
-        }
-    }
-    next.count = j;
-    next
+    let (items, count) = taken(cs);
+    CrobsWords { items, count }
 }
 
 // Those for analog outputs.
 fn analog_commands_of(cs: ControlObjects) -> AnalogCommandsWords
     ensures { AnalogCommandsAs result (filter is_analog_output (list_of cs)) }
 {
-    let n = octets::least(cs.count, OBJECTS_MAX);
-    let mut next = no_analog_commands();
-    let mut i: usize = 0;
-    let mut j: usize = 0;
-    while i < n {
-        let c = cs.items[i];
-        let command = c.command;
-        i += 1;
-        if let Command::AnalogOutput(v) = command {
-            next.items[j] = analog_words(c.index, c.status, v);
-            j += 1;
-        }
-    }
-    next.count = j;
-    next
+    let (items, count) = taken(cs);
+    AnalogCommandsWords { items, count }
 }
 
 // All of them.

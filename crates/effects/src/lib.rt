@@ -2,7 +2,7 @@
 // (document 01, "What the control room is told").
 #![tactic(auto)]
 
-ghost use Rattle.std.specs.Prelude.{◌≡◌, cond, false, ◌||◌, ◌&&◌, not, ◌≤◌, length};
+ghost use Rattle.std.specs.Prelude.{◌≡◌, cond, false, ◌&&◌, not, ◌≤◌, length};
 ghost use Rattle.laws.specs.Limits.{fragment_max};
 ghost use Rattle.outstation.specs.Requests.{is_confirmed};
 ghost use Rattle.outstation.specs.Step.{plain_effect, control_request_effect, effect_by};
@@ -11,18 +11,8 @@ ghost use Rattle.effects.specs.Effects.{EffectMeetsWith, EffectMeetsStill, Confi
 use analog_outputs::ANALOG_OUTPUT_WORDS;
 use application::{ApplicationSequence, Fault};
 use control::{ControlObjects, OutputCounts};
-use outstation::Wait;
+use outstation::Awaited;
 use select_latch::{ControlFunction, Latch};
-
-// What a CONFIRM comes to; of one that is accepted, whether its response showed IIN2.3 and whether an event was dropped since.
-#[derive(Clone, Copy)]
-pub enum Confirmation {
-    Refused,
-    Accepted {
-        showed_overflow: bool,
-        dropped_since: bool,
-    },
-}
 
 // What a request other than READ sees of the state, beside the analog outputs' words.
 #[derive(Clone, Copy)]
@@ -36,11 +26,11 @@ pub struct RequestContext {
 // What a request does beside the events, before its answer is put together.
 #[derive(Clone, Copy)]
 pub struct RequestEffect {
-    pub fault: Fault,
+    pub fault: Option<Fault>,
     pub con: bool,
     pub size: usize,
     pub operated: ControlObjects,
-    pub wait: Wait,
+    pub wait: Option<Awaited>,
     pub latch: Latch,
     pub restarted: bool,
 }
@@ -48,93 +38,65 @@ pub struct RequestEffect {
 // ---- CONFIRM
 
 // Whether a CONFIRM is the one awaited, and in time.
+#[tactic(auto, unfolding(outstation::specs::Requests::is_confirmed))]
 fn is_confirmed(
     confirm_time: u64,
     q: ApplicationSequence,
     uns: bool,
     time: u64,
-    awaited: ApplicationSequence,
-    sent: u64,
+    awaited: Awaited,
 ) -> bool
-    ensures { result ≡ is_confirmed confirm_time q.0 uns time awaited.0 sent }
+    ensures { result ≡ is_confirmed confirm_time q.0 uns time awaited.sequence.0 awaited.time }
 {
-    if uns {
-        return false;
-    }
-    if q.0 == awaited.0 {
-        return application::elapsed(sent, time) <= confirm_time;
-    }
-    false
+    !uns && q.0 == awaited.sequence.0 && application::elapsed(awaited.time, time) <= confirm_time
 }
 
 // IIN2.3 after an accepted CONFIRM.
 pub fn still_dropped(showed_overflow: bool, dropped_since: bool, overflow: bool) -> bool
     ensures { result ≡ cond (showed_overflow && not dropped_since) false overflow }
 {
-    if showed_overflow {
-        if dropped_since { overflow } else { false }
-    } else {
-        overflow
-    }
+    overflow && (!showed_overflow || dropped_since)
 }
 
-// Whether a CONFIRM is accepted, by the response that awaits it.
+// The response that a CONFIRM confirms: the one that is awaited, if the CONFIRM is accepted.
 pub fn confirm(
     confirm_time: u64,
-    w: Wait,
+    awaited: Option<Awaited>,
     q: ApplicationSequence,
     uns: bool,
     time: u64,
-) -> Confirmation
-    ensures { Confirms result confirm_time w q.0 uns time }
+) -> Option<Awaited>
+    ensures { Confirms result confirm_time awaited q.0 uns time }
 {
-    match w {
-        Wait::Idle => Confirmation::Refused,
-        Wait::Awaiting {
-            sequence,
-            time: sent,
-            showed_overflow,
-            dropped_since,
-        } => {
-            if is_confirmed(confirm_time, q, uns, time, sequence, sent) {
-                return Confirmation::Accepted {
-                    showed_overflow,
-                    dropped_since,
-                };
-            }
-            Confirmation::Refused
-        }
+    match awaited {
+        Some(a) if is_confirmed(confirm_time, q, uns, time, a) => Some(a),
+        _ => None,
     }
 }
 
 // ---- what a request does
 
 // A request without objects in its answer: it ends the wait and empties the latch.
-fn plain_effect(fault: Fault, restarted: bool) -> RequestEffect
+fn plain_effect(fault: Option<Fault>, restarted: bool) -> RequestEffect
     ensures { EffectMeetsStill result (λ w. plain_effect w fault restarted) }
 {
-    let w = Wait::Idle;
-    let none = control::none();
-    let latch = select_latch::empty();
     RequestEffect {
-        fault: fault,
+        fault,
         con: false,
         size: 4,
-        operated: none,
-        wait: w,
-        latch: latch,
-        restarted: restarted,
+        operated: control::none(),
+        wait: None,
+        latch: select_latch::empty(),
+        restarted,
     }
 }
 
 fn write_effect(restarted: bool, s: &[u8]) -> RequestEffect
     ensures { EffectMeetsStill result (λ w. write_effect_by w restarted s.now) }
 {
-    let fault = application::write_fault(s);
-    if application::is_faultless(fault) {
-        plain_effect(fault, false)
-    } else {
-        plain_effect(fault, restarted)
+    match application::write_fault(s) {
+        None => plain_effect(None, false),
+        Some(fault) => plain_effect(Some(fault), restarted),
     }
 }
 
@@ -150,28 +112,26 @@ fn control_request_effect(
     requires { fragment_max ≤ length out.old }
     ensures { EffectMeetsWith result out.old out.new (λ k. control_request_effect (context_view seen ws.now k) g q.0 time s.now) }
 {
-    let latch = seen.latch;
-    let counts = seen.outputs;
-    let c = select_latch::control_effect(latch, counts, ws, seen.arm_time, g, q, time, s, out);
-    let w = Wait::Idle;
-    let fault = c.fault;
-    let operated = c.carried;
-    let after = c.latch;
+    let c = select_latch::control_effect(
+        seen.latch,
+        seen.outputs,
+        ws,
+        seen.arm_time,
+        g,
+        q,
+        time,
+        s,
+        out,
+    );
     RequestEffect {
-        fault: fault,
+        fault: c.fault,
         con: false,
         size: 4 + c.len,
-        operated: operated,
-        wait: w,
-        latch: after,
+        operated: c.carried,
+        wait: None,
+        latch: c.latch,
         restarted: seen.restarted,
     }
-}
-
-pub fn either(a: bool, b: bool) -> bool
-    ensures { result ≡ (a || b) }
-{
-    if a { true } else { b }
 }
 
 // What a request other than READ does, by its function, of the bytes after control and function.
@@ -187,28 +147,13 @@ pub fn effect_by(
     requires { fragment_max ≤ length out.old }
     ensures { EffectMeetsWith result out.old out.new (λ k. effect_by (context_view seen ws.now k) q.0 function time s.now) }
 {
-    if function == 2 {
-        return write_effect(seen.restarted, s);
-    }
-    if function == 3 {
-        return control_request_effect(seen, ws, ControlFunction::Select, q, time, s, out);
-    }
-    if function == 4 {
-        return control_request_effect(seen, ws, ControlFunction::Operate, q, time, s, out);
-    }
-    if function == 5 {
-        return control_request_effect(seen, ws, ControlFunction::DirectOperate, q, time, s, out);
-    }
-    if function == 6 {
-        return control_request_effect(
-            seen,
-            ws,
-            ControlFunction::DirectOperateNoResponse,
-            q,
-            time,
-            s,
-            out,
-        );
-    }
-    plain_effect(Fault::FunctionUnknown, seen.restarted)
+    let f = match function {
+        2 => return write_effect(seen.restarted, s),
+        3 => ControlFunction::Select,
+        4 => ControlFunction::Operate,
+        5 => ControlFunction::DirectOperate,
+        6 => ControlFunction::DirectOperateNoResponse,
+        _ => return plain_effect(Some(Fault::FunctionUnknown), seen.restarted),
+    };
+    control_request_effect(seen, ws, f, q, time, s, out)
 }

@@ -11,16 +11,18 @@ use Rattle.octets.specs.Bytes.{splice, le}
 use Rattle.octets.proofs.Splice.{splice-append, splice-cons, splice-nil}
 use Rattle.octets.proofs.Le.{length-le}
 use Rattle.points.specs.declared.Value.{Value}
-use Rattle.points.specs.declared.Value.TheVariants.{Int32, Int16, Float32}
+use Rattle.points.specs.declared.Value.TheVariants as V
 use Rattle.objects.specs.Values.{value_bytes, value_size, state_byte}
 use Rattle.objects.proofs.ValueLaws.{length-value}
 use Rattle.objects.specs.Runs.{lead}
 use Rattle.objects.proofs.RunLaws.{lead-nil, lead-other}
-use Rattle.events.specs.Placing.{kind_of, shown_kind, object_size}
+use Rattle.events.specs.Placing.{kind_of, shown_kind, kind_number, object_size}
 use Rattle.events.specs.BufferView.{is_carried}
 use Rattle.events.specs.declared.Shown.{Shown}
 use Rattle.events.specs.declared.Shown.TheVariants.{State, Analog}
 use Rattle.events.specs.declared.Event.{Event}
+use Rattle.events.specs.declared.EventKind.{EventKind}
+use Rattle.events.specs.declared.EventKind.TheVariants.{Binary, Int32, Int16, Float32}
 use Rattle.events.specs.declared.Held.{Held}
 use Rattle.event_objects.specs.Events.{event_heading, flags_byte, shown_bytes, event_bytes, event_object, carried_events, carried_objects}
 
@@ -68,9 +70,9 @@ module _ (e : Event) where
     where
       go : (s : Shown) → 9 + length (shown_bytes s) ≡ object_size (shown_kind s)
       go (State on) = refl
-      go (Analog (Int32 z)) = ap (λ (n : ℕ). 9 + n) (length-value (Int32 z))
-      go (Analog (Int16 z)) = ap (λ (n : ℕ). 9 + n) (length-value (Int16 z))
-      go (Analog (Float32 x)) = ap (λ (n : ℕ). 9 + n) (length-value (Float32 x))
+      go (Analog (V.Int32 z)) = ap (λ (n : ℕ). 9 + n) (length-value (V.Int32 z))
+      go (Analog (V.Int16 z)) = ap (λ (n : ℕ). 9 + n) (length-value (V.Int16 z))
+      go (Analog (V.Float32 x)) = ap (λ (n : ℕ). 9 + n) (length-value (V.Float32 x))
 
   pub state-put : (d d1 d3 : List ℕ) (at f : ℕ) (on : Bool) → e.shown ≡ State on → f ≡ state_byte on e.flags
       → d1 ≡ splice d at (le 2 e.point) → d3 ≡ splice (set d1 (at + 2) f) (at + 3) (le 6 e.time)
@@ -109,15 +111,15 @@ module _ (h : Held) (hs : List Held) where
   unfolding carried_objects carried_events
   carried-no t = ap (λ (l : List Held). map event_object (map (λ (x : Held). x.event) l)) (filter-no is_carried h hs t)
 
-pub kind-some : (s : Shown) → shown_kind s ≡ 0 → ⊥
-kind-some (State on) h = omega arith
-kind-some (Analog (Int32 z)) h = omega arith
-kind-some (Analog (Int16 z)) h = omega arith
-kind-some (Analog (Float32 x)) h = omega arith
+pub kind-some : (k : EventKind) → kind_number k ≡ 0 → ⊥
+kind-some Binary h = omega arith
+kind-some Int32 h = omega arith
+kind-some Int16 h = omega arith
+kind-some Float32 h = omega arith
 
 none_of : (es : List Event) → lead 0 (map event_object es) ≡ 0
 none_of [] = lead-nil 0
-none_of (e ∷ es) = lead-other (event_object e) (map event_object es) 0 (kind-some e.shown)
+none_of (e ∷ es) = lead-other (event_object e) (map event_object es) 0 (kind-some (kind_of e))
 
 -- no object is of the kind 0
 pub none_first : (hs : List Held) → lead 0 (carried_objects hs) ≡ 0

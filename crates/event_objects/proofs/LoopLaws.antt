@@ -1,7 +1,7 @@
 -- Laws of the loop over the held events.
 -- Assumes nothing.
 use mathlib.Core.Path.{◌≡◌, sym, ap, ◌∙◌}
-use mathlib.Core.Bool.{true, false}
+use mathlib.Core.Bool.{Bool, true, false}
 use mathlib.Core.List.{List, [], ◌∷◌}
 use Prim.Native.Nat.{ℕ, ◌+◌, ◌≤◌, ◌<◌, min}
 use native.Mathlib.Omega.{arith}
@@ -15,7 +15,8 @@ use Rattle.objects.proofs.WriterLaws.{Writing, writing_start, writing-end, writi
 use Rattle.events.specs.BufferView.{Buffer, buffer_view, no_held}
 use Rattle.events.specs.declared.Held.{Held}
 use Rattle.event_store.specs.declared.BufferStatus.{BufferStatus}
-use Rattle.event_store.specs.EventWords.{buffer_view_in}
+use Rattle.event_store.specs.EventWords.{slots_in, buffer_view_in}
+use Rattle.event_store.proofs.EventLaws.{slots_length}
 use Rattle.event_store.proofs.LentLaws.{status_of, clamped-in}
 use Rattle.event_objects.specs.Events.{event_heading, event_object, carried_objects, carried_bytes}
 use Rattle.event_objects.proofs.EventLaws.{carried-nil, carried-yes, carried-no, heading-length, none_first}
@@ -35,6 +36,20 @@ module _ (n i : ℕ) (ys : List Held) (below : i < n) (fits : n ≤ length ys) w
 
   pub no : (get_or ys i no_held).carried ≡ false → carried_objects (slice i n ys) ≡ carried_objects (slice (i + 1) n ys)
   no h = ap carried_objects head ∙ carried-no (get_or ys i no_held) (slice (i + 1) n ys) h
+
+-- the i-th event in lent words, as it is loaded: its object is the next, or it has none
+module _ (ws : List ℕ) (n i : ℕ) (short : n ≤ events_max) (below : i < n) where
+  fits : n ≤ length (slots_in ws)
+  fits = omega (arith, slots_length ws)
+
+  pub loaded : (h : Held) → h ≡ get_or (slots_in ws) i no_held → (b : Bool) → b ≡ (get_or (slots_in ws) i no_held).carried → b ≡ true
+      → carried_objects (slice i n (slots_in ws)) ≡ event_object h.event ∷ carried_objects (slice (i + 1) n (slots_in ws))
+  loaded h e b m t =
+      yes n i (slots_in ws) below fits (sym m ∙ t) ∙ ap (λ (x : Held). event_object x.event ∷ carried_objects (slice (i + 1) n (slots_in ws))) (sym e)
+
+  pub skipped : (b : Bool) → b ≡ (get_or (slots_in ws) i no_held).carried → b ≡ false
+      → carried_objects (slice i n (slots_in ws)) ≡ carried_objects (slice (i + 1) n (slots_in ws))
+  skipped b m t = no n i (slots_in ws) below fits (sym m ∙ t)
 
 -- the objects of the slots from i on are to be put at `to`, after one of the kind `last`
 abbrev pub Putting : List ℕ → ℕ → Buffer → ℕ → List ℕ → ℕ → ℕ → ℕ → Type 0

@@ -5,6 +5,7 @@ ghost use Rattle.std.specs.Prelude.{◌≡◌, map, ◌+◌, ◌≤◌, length};
 ghost use Rattle.std.proofs.Math.Seq.{slice};
 ghost use Rattle.laws.specs.Limits.{events_max};
 ghost use Rattle.octets.specs.Bytes.{splice};
+ghost use Rattle.events.specs.Placing.{kind_number};
 ghost use Rattle.event_store.specs.EventWords.{slots_in, buffer_view_in};
 ghost use Rattle.event_objects.specs.Events.{
   event_group,
@@ -17,33 +18,32 @@ ghost use Rattle.event_objects.specs.Events.{
 };
 
 use event_store::{BufferStatus, EVENT_WORDS};
-use events::{Event, Held, Shown};
+use events::{Event, EventKind, Held, Shown};
 
-fn group(kind: u8) -> u8
-    ensures { result ≡ event_group kind }
+fn group(kind: EventKind) -> u8
+    ensures { result ≡ event_group (kind_number kind) }
 {
-    if kind == 1 { 2 } else { 32 }
+    match kind {
+        EventKind::Binary => 2,
+        EventKind::Int32 | EventKind::Int16 | EventKind::Float32 => 32,
+    }
 }
 
-fn variation(kind: u8) -> u8
-    ensures { result ≡ event_variation kind }
+fn variation(kind: EventKind) -> u8
+    ensures { result ≡ event_variation (kind_number kind) }
 {
-    if kind == 1 {
-        return 2;
+    match kind {
+        EventKind::Binary => 2,
+        EventKind::Int32 => 3,
+        EventKind::Int16 => 4,
+        EventKind::Float32 => 7,
     }
-    if kind == 2 {
-        return 3;
-    }
-    if kind == 3 {
-        return 4;
-    }
-    7
 }
 
 // Puts a header at the offset, and answers the offset after it.
-fn put_heading(out: &mut [u8], at: usize, kind: u8, n: u16) -> usize
+fn put_heading(out: &mut [u8], at: usize, kind: EventKind, n: u16) -> usize
     requires { at + 5 ≤ length out.old }
-    ensures { (result ≡ at + 5) × (out.new ≡ splice out.old at (event_heading kind 0 n)) }
+    ensures { (result ≡ at + 5) × (out.new ≡ splice out.old at (event_heading (kind_number kind) 0 n)) }
 {
     out[at] = group(kind);
     out[at + 1] = variation(kind);
@@ -59,8 +59,7 @@ fn put_event(out: &mut [u8], at: usize, e: Event) -> usize
         × (out.new ≡ splice out.old at (event_bytes e)) }
 {
     octets::put2(out, at, e.point);
-    let s = e.shown;
-    match s {
+    match e.shown {
         Shown::State(on) => {
             out[at + 2] = objects::state_byte(on, e.flags);
             octets::put6(out, at + 3, e.time);
@@ -75,34 +74,29 @@ fn put_event(out: &mut [u8], at: usize, e: Event) -> usize
     }
 }
 
-// The kind of a held event, 0 where it is not carried.
-fn carried_kind(h: Held) -> u8
+// The kind of a held event, unless it is not carried.
+fn carried_kind(h: Held) -> Option<EventKind>
     ensures { result ≡ carried_kind h }
 {
     if h.carried {
-        let e = h.event;
-        events::kind(e)
+        Some(events::kind(h.event))
     } else {
-        0
+        None
     }
 }
 
 // How many of the kind follow one another from a place on, up to another, those that are not carried passed over.
-fn run_length(held: &[u64; EVENT_WORDS], from: usize, to: usize, kind: u8) -> u16
+fn run_length(held: &[u64; EVENT_WORDS], from: usize, to: usize, kind: EventKind) -> u16
     requires { to ≤ events_max }
     ensures { (result ≡ lead_kind kind (slice from to (map carried_kind (slots_in held.now)))) × (result ≤ events_max) }
 {
-    let mut i = from;
     let mut m: u16 = 0;
-    while i < to {
-        let k = carried_kind(event_store::load(held, i));
-        i += 1;
-        if k != 0 {
-            if k == kind {
-                m += 1;
-            } else {
+    for i in from..to {
+        if let Some(k) = carried_kind(event_store::load(held, i)) {
+            if k != kind {
                 return m;
             }
+            m += 1;
         }
     }
     m
@@ -121,22 +115,18 @@ pub fn put_events(
 {
     let n = events::filled(status.count);
     let mut to = at;
-    let mut last: u8 = 0;
-    let mut i: usize = 0;
-    while i < n {
-        let j = i;
-        i += 1;
-        if event_store::carried_at(held, j) {
-            let h = event_store::load(held, j);
-            let e = h.event;
+    let mut last = None;
+    for i in 0..n {
+        if event_store::carried_at(held, i) {
+            let e = event_store::load(held, i).event;
             let k = events::kind(e);
-            if k == last {
+            if last == Some(k) {
                 to = put_event(out, to, e);
             } else {
-                let m = run_length(held, i, n, k);
+                let m = run_length(held, i + 1, n, k);
                 let after = put_heading(out, to, k, m + 1);
                 to = put_event(out, after, e);
-                last = k;
+                last = Some(k);
             }
         }
     }

@@ -4,10 +4,12 @@ use mathlib.Core.Path.{◌≡◌, refl, ap, ◌∙◌}
 use mathlib.Core.Bool.{Bool, true, false, not, cond}
 use mathlib.Core.List.{List, [], ◌∷◌}
 use Prim.Native.Nat.{ℕ, ◌-◌, ◌≤◌, ◌<◌}
+use Rattle.std.proofs.Common.{Some}
 use borrow.Author.Tests.{le-leb, lt-leb}
 use Rattle.events.specs.Placing.{is_asked, kind_of, cost_of, fits, space_after, place_event}
 use Rattle.events.specs.BufferView.{marked, carry}
 use Rattle.events.specs.declared.Event.{Event}
+use Rattle.events.specs.declared.EventKind.{EventKind}
 use Rattle.events.specs.declared.Held.{Held}
 use Rattle.events.specs.declared.Classes.{Classes}
 use Rattle.events.specs.declared.Space.{Space}
@@ -15,12 +17,12 @@ use Rattle.events.specs.declared.Placement.TheVariants.{Pass, Stop, Carry}
 
 -- what the code finds out of an event is its placement
 module _ (m : Classes) (k : Space) (e : Event) where
-  pub placement-carry : (n c : ℕ) → is_asked m e.class ≡ true → n ≡ kind_of e → c ≡ cost_of k n → c ≤ k.left
-      → Carry (record { left = k.left - c; kind = n }) ≡ place_event m k e
+  pub placement-carry : (n : EventKind) (c : ℕ) → is_asked m e.class ≡ true → n ≡ kind_of e → c ≡ cost_of k n → c ≤ k.left
+      → Carry (record { left = k.left - c; kind = Some n }) ≡ place_event m k e
   unfolding place_event fits space_after
   placement-carry n c ha hk hn hl = rw (ha, ← hk, ← hn, le-leb c k.left hl)
 
-  pub placement-stop : (n c : ℕ) → is_asked m e.class ≡ true → n ≡ kind_of e → c ≡ cost_of k n → k.left < c → Stop ≡ place_event m k e
+  pub placement-stop : (n : EventKind) (c : ℕ) → is_asked m e.class ≡ true → n ≡ kind_of e → c ≡ cost_of k n → k.left < c → Stop ≡ place_event m k e
   unfolding place_event fits space_after
   placement-stop n c ha hk hn hl = rw (ha, ← hk, ← hn, lt-leb c k.left hl)
 

@@ -1,3 +1,4 @@
 pub mod BufferLaws
 pub mod CarryLaws
 pub mod SeenLaws
+pub mod EventKindLaws

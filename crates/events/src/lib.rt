@@ -42,70 +42,70 @@ pub struct Classes {
     pub three: bool,
 }
 
-// A response as it is filled: the bytes left for events, and the kind of the last event (0: none yet).
+// The kinds of events' objects: a binary's state, or an analog's value.
+#[derive(Clone, Copy, PartialEq, Eq)]
+pub enum EventKind {
+    Binary,
+    Int32,
+    Int16,
+    Float32,
+}
+
+// A response as it is filled: the bytes left for events, and the kind of the last event.
 #[derive(Clone, Copy)]
 pub struct Space {
     pub left: usize,
-    pub kind: u8,
+    pub kind: Option<EventKind>,
 }
 
 // How many slots hold an event.
 pub fn filled(count: usize) -> usize
     ensures { result ≡ min count events_max }
 {
-    octets::least(count, CAPACITY)
+    count.min(CAPACITY)
 }
 
 // Whether events of the class are asked for.
 fn is_asked(m: Classes, class: u8) -> bool
     ensures { result ≡ is_asked m class }
 {
-    if class == 1 {
-        return m.one;
+    match class {
+        1 => m.one,
+        2 => m.two,
+        3 => m.three,
+        _ => false,
     }
-    if class == 2 {
-        return m.two;
-    }
-    if class == 3 {
-        return m.three;
-    }
-    false
 }
 
-// The kind of an event's object: 1 binary, 2 a 32-bit, 3 a 16-bit, 4 a float analog.
-pub fn kind(e: Event) -> u8
+// The kind of an event's object.
+pub fn kind(e: Event) -> EventKind
     ensures { result ≡ kind_of e }
 {
-    let s = e.shown;
-    match s {
-        Shown::State(_) => 1,
-        Shown::Analog(v) => match v {
-            Value::Int32(_) => 2,
-            Value::Int16(_) => 3,
-            Value::Float32(_) => 4,
-        },
+    match e.shown {
+        Shown::State(_) => EventKind::Binary,
+        Shown::Analog(Value::Int32(_)) => EventKind::Int32,
+        Shown::Analog(Value::Int16(_)) => EventKind::Int16,
+        Shown::Analog(Value::Float32(_)) => EventKind::Float32,
     }
 }
 
 // The bytes of an event's object with its index.
-fn size(kind: u8) -> usize
+fn size(kind: EventKind) -> usize
     ensures { (result ≡ object_size kind) × (result ≤ 13) }
 {
-    if kind == 1 {
-        return 9;
+    match kind {
+        EventKind::Binary => 9,
+        EventKind::Int16 => 11,
+        EventKind::Int32 | EventKind::Float32 => 13,
     }
-    if kind == 3 {
-        return 11;
-    }
-    13
 }
 
 // The bytes that an event takes: with a header where its kind is not the last one's.
-fn cost(k: Space, kind: u8) -> usize
+fn cost(k: Space, kind: EventKind) -> usize
     ensures { (result ≡ cost_of k kind) × (result ≤ 18) }
 {
     let n = size(kind);
-    if kind == k.kind { n } else { n + 5 }
+    if k.kind == Some(kind) { n } else { n + 5 }
 }
 
 // What the selection does with an event: passes it over, stops, or carries it.
@@ -127,7 +127,7 @@ pub fn place_event(m: Classes, k: Space, e: Event) -> Placement
         }
         Placement::Carry(Space {
             left: k.left - need,
-            kind: n,
+            kind: Some(n),
         })
     } else {
         Placement::Pass
@@ -138,5 +138,5 @@ pub fn place_event(m: Classes, k: Space, e: Event) -> Placement
 pub fn met(earlier: bool, class: u8, wanted: u8) -> bool
     ensures { result ≡ (earlier || eqb class wanted) }
 {
-    if earlier { true } else { class == wanted }
+    earlier || class == wanted
 }

@@ -5,12 +5,15 @@ use mathlib.Core.Bool.{Bool, true, false, cond, not, ◌&&◌}
 use mathlib.Core.List.{List, []}
 use Prim.Native.Nat.{ℕ, ◌+◌, ◌≤◌}
 use native.Mathlib.Omega.{arith}
+use Rattle.std.proofs.Common.{Ok}
+use Rattle.std.specs.Int.{from_bool}
 use lib.Dec.{eqb}
 use borrow.Author.Tests.{eqb-true}
 use lib.ListN.{length, take, length-append}
 use Rattle.laws.specs.Limits.{fragment_max}
 use Rattle.octets.specs.Bytes.{splice}
 use Rattle.octets.proofs.Splice.{splice-nil}
+use Rattle.std.specs.Prelude.{Option}
 use Rattle.application.specs.declared.Fault.{Fault}
 use Rattle.application.specs.declared.Indications.{Indications}
 use Rattle.application.specs.Fragment.{objects_of}
@@ -26,6 +29,7 @@ use Rattle.select_latch.specs.Select.{latch_of}
 use Rattle.last_request.specs.Repeat.{LastRequestView, kept, kept_answer, is_repeat}
 use Rattle.last_request.proofs.ReplyLaws.{answer-taken}
 use Rattle.events.specs.BufferView.{Buffer, BufferView, buffer_view, released}
+use Rattle.words.specs.Numbers.{holds}
 use Rattle.outstation.specs.OutstationView.{OutstationView, SessionView}
 use Rattle.outstation.specs.Step.{Result, answers, silent, after_request, at_time, indications_of, indications, response_bytes, effect_by, read_step, request_step, repeat_step, clearing}
 use Rattle.outstation.specs.Step as S
@@ -35,9 +39,14 @@ use Rattle.fragments.specs.declared.FragmentAnswer.{FragmentAnswer}
 use Rattle.fragments.specs.declared.FragmentAnswer.TheVariants as Fs
 use Rattle.fragments.specs.FragmentMeets.{AnsweredAs, left_with, read_effect_by, request_by}
 
-pub length-response : (q : ℕ) (con : Bool) (i : Indications) (f : Fault) → length (response_of q con i f) ≡ 4
+pub length-response : (q : ℕ) (con : Bool) (i : Indications) (f : Option Fault) → length (response_of q con i f) ≡ 4
 unfolding response_of
 length-response q con i f = refl
+
+-- a flag as a byte of the head
+pub bit-holds : (b : Bool) (n : ℕ) → n ≡ from_bool b → holds n ≡ b
+bit-holds true n e = ap holds e
+bit-holds false n e = ap holds e
 
 -- ---- a CONFIRM
 
@@ -93,7 +102,7 @@ module _ (w s : OutstationView) (q time : ℕ) (f : List ℕ) (r : RequestEffect
     (marked : k ≡ d.buffer) (x : SessionView) (m : LastRequestView) (leaves : s ≡ left_with w time w.shared.inputs k x)
     (holds : x ≡ record { restarted = r.restarted; wait = r.wait; last = m; latch = latch_of r.latch }) where
   silent-given : (function : ℕ) → eqb function 6 ≡ true → d.objects ≡ [] → m ≡ kept f []
-      → AnsweredAs s Fs.Silent r.operated b a₁ (request_step w q function time f d)
+      → AnsweredAs s (Ok Fs.Silent) r.operated b a₁ (request_step w q function time f d)
   unfolding request_step
   silent-given function e none keeps =
       rw e
@@ -107,7 +116,7 @@ module _ (w s : OutstationView) (q time : ℕ) (f : List ℕ) (r : RequestEffect
 
   module _ (a₂ : List ℕ) (put : a₂ ≡ splice a₁ 0 (response_of q r.con (indications_of k r.restarted) r.fault)) (room : r.size ≤ length b) where
     request-given : (function : ℕ) → eqb function 6 ≡ false → m ≡ kept f (take r.size a₂)
-        → AnsweredAs s (Fs.Answer r.size) r.operated b a₂ (request_step w q function time f d)
+        → AnsweredAs s (Ok (Fs.Answer r.size)) r.operated b a₂ (request_step w q function time f d)
     unfolding request_step
     request-given function e keeps =
         let bytes : take r.size a₂ ≡ response_bytes q d = answer-is q r b a₁ a₂ d worked k marked put room in
@@ -121,7 +130,7 @@ module _ (w s : OutstationView) (q time : ℕ) (f : List ℕ) (r : RequestEffect
         })
 
     pub read-given : (none : ControlObjects) → Holding none [] → m ≡ kept f []
-        → AnsweredAs s (Fs.Answer r.size) none b a₂ (read_step w q time f d)
+        → AnsweredAs s (Ok (Fs.Answer r.size)) none b a₂ (read_step w q time f d)
     unfolding read_step
     read-given none e keeps =
         record {
@@ -135,19 +144,19 @@ module _ (w s : OutstationView) (q time : ℕ) (f : List ℕ) (r : RequestEffect
   pub request-any : (a₂ : List ℕ) (n : ℕ) (is : FragmentAnswer) (function : ℕ) → (function ≡ 6 → d.objects ≡ [])
       → a₂ ≡ cond (eqb function 6) a₁ (splice a₁ 0 (response_of q r.con (indications_of k r.restarted) r.fault))
       → n ≡ cond (eqb function 6) 0 r.size → r.size ≤ length b → is ≡ cond (eqb function 6) Fs.Silent (Fs.Answer n) → m ≡ kept f (take n a₂)
-      → AnsweredAs s is r.operated b a₂ (request_step w q function time f d)
+      → AnsweredAs s (Ok is) r.operated b a₂ (request_step w q function time f d)
   request-any a₂ n is function none put size room said keeps = go (eqb function 6) refl put size said
     where
       go : (e : Bool) → eqb function 6 ≡ e
           → a₂ ≡ cond e a₁ (splice a₁ 0 (response_of q r.con (indications_of k r.restarted) r.fault)) → n ≡ cond e 0 r.size
           → is ≡ cond e Fs.Silent (Fs.Answer n)
-          → AnsweredAs s is r.operated b a₂ (request_step w q function time f d)
+          → AnsweredAs s (Ok is) r.operated b a₂ (request_step w q function time f d)
       go true e p z t =
-          subst (λ (x : FragmentAnswer). AnsweredAs s x r.operated b a₂ (request_step w q function time f d)) (sym t)
-          (subst (λ (x : List ℕ). AnsweredAs s Fs.Silent r.operated b x (request_step w q function time f d)) (sym p)
+          subst (λ (x : FragmentAnswer). AnsweredAs s (Ok x) r.operated b a₂ (request_step w q function time f d)) (sym t)
+          (subst (λ (x : List ℕ). AnsweredAs s (Ok Fs.Silent) r.operated b x (request_step w q function time f d)) (sym p)
           (silent-given function e (none (eqb-true function 6 e)) (keeps ∙ ap (λ (j : ℕ). kept f (take j a₂)) z)))
       go false e p z t =
-          subst (λ (x : FragmentAnswer). AnsweredAs s x r.operated b a₂ (request_step w q function time f d))
+          subst (λ (x : FragmentAnswer). AnsweredAs s (Ok x) r.operated b a₂ (request_step w q function time f d))
           (sym (t ∙ ap Fs.Answer z))
           (request-given a₂ p room function e (keeps ∙ ap (λ (j : ℕ). kept f (take j a₂)) z))
 
@@ -189,13 +198,13 @@ read-most w q time o =
 -- ---- a repeat
 
 module _ (w s : OutstationView) (function time : ℕ) (none : ControlObjects) (b : List ℕ) (same : s ≡ at_time time w) (no : Holding none []) where
-  repeat-silent : eqb function 6 ≡ true → AnsweredAs s Fs.Silent none b b (repeat_step w function time)
+  repeat-silent : eqb function 6 ≡ true → AnsweredAs s (Ok Fs.Silent) none b b (repeat_step w function time)
   unfolding repeat_step
   repeat-silent e = rw e (record { state = same; answer = ap silent no.objects; size = refl; objects = no; lent = refl })
 
   repeat-given : (a : List ℕ) (n : ℕ) → eqb function 6 ≡ false → a ≡ splice b 0 (kept_answer w.master.session.last)
       → n ≡ length (kept_answer w.master.session.last) → n ≤ length b
-      → AnsweredAs s (Fs.Answer n) none b a (repeat_step w function time)
+      → AnsweredAs s (Ok (Fs.Answer n)) none b a (repeat_step w function time)
   unfolding repeat_step
   repeat-given a n e put size room =
       rw e
@@ -210,16 +219,16 @@ module _ (w s : OutstationView) (function time : ℕ) (none : ControlObjects) (b
   pub repeat-any : (a : List ℕ) (n : ℕ) (is : FragmentAnswer) → a ≡ cond (eqb function 6) b (splice b 0 (kept_answer w.master.session.last))
       → n ≡ cond (eqb function 6) 0 (length (kept_answer w.master.session.last)) → n ≤ length b
       → is ≡ cond (eqb function 6) Fs.Silent (Fs.Answer n)
-      → AnsweredAs s is none b a (repeat_step w function time)
+      → AnsweredAs s (Ok is) none b a (repeat_step w function time)
   repeat-any a n is put size room said = go (eqb function 6) refl put size said
     where
       go : (e : Bool) → eqb function 6 ≡ e → a ≡ cond e b (splice b 0 (kept_answer w.master.session.last))
           → n ≡ cond e 0 (length (kept_answer w.master.session.last)) → is ≡ cond e Fs.Silent (Fs.Answer n)
-          → AnsweredAs s is none b a (repeat_step w function time)
+          → AnsweredAs s (Ok is) none b a (repeat_step w function time)
       go true e p z t =
-          subst (λ (x : FragmentAnswer). AnsweredAs s x none b a (repeat_step w function time)) (sym t)
-          (subst (λ (x : List ℕ). AnsweredAs s Fs.Silent none b x (repeat_step w function time)) (sym p)
+          subst (λ (x : FragmentAnswer). AnsweredAs s (Ok x) none b a (repeat_step w function time)) (sym t)
+          (subst (λ (x : List ℕ). AnsweredAs s (Ok Fs.Silent) none b x (repeat_step w function time)) (sym p)
           (repeat-silent e))
       go false e p z t =
-          subst (λ (x : FragmentAnswer). AnsweredAs s x none b a (repeat_step w function time)) (sym t)
+          subst (λ (x : FragmentAnswer). AnsweredAs s (Ok x) none b a (repeat_step w function time)) (sym t)
           (repeat-given a n e p z room)

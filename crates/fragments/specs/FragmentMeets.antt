@@ -1,6 +1,7 @@
 -- What a fragment's call gives: one definition for the call, and the same for its parts, which are lent less.
 -- Assumes nothing.
-use Rattle.std.specs.Prelude.{ℕ, ◌≤◌, ◌≡◌, Bool, ◌&&◌, ◌||◌, List, [], ◌∷◌, eqb, length, take}
+use Rattle.std.specs.Prelude.{ℕ, ◌≤◌, ◌≡◌, Bool, Option, Some, ◌&&◌, ◌||◌, List, [], ◌∷◌, eqb, length, take}
+use Rattle.std.specs.Prelude as P
 use Rattle.laws.specs.First.{first, ◌⇒◌}
 use Rattle.laws.specs.Limits.{fragment_max}
 use Rattle.points.specs.PointsView.{PointsView}
@@ -19,7 +20,7 @@ use Rattle.last_request.specs.declared.LastLengths.{LastLengths}
 use Rattle.words.specs.Numbers.{holds}
 use Rattle.event_store.specs.EventWords.{buffer_view_in}
 use Rattle.outstation.specs.declared.Head.{Head}
-use Rattle.outstation.specs.declared.Wait.{Wait}
+use Rattle.outstation.specs.declared.Awaited.{Awaited}
 use Rattle.outstation.specs.OutstationView.{OutstationView, SessionView, with_clock, with_inputs, with_buffer, with_session, with_shared, with_master}
 use Rattle.outstation.specs.Lent.{Lent, Outstation, outstation_view, HeadCountsWithin, CountsWithin, buffer_status, output_counts, group_in, wait_of, view_of}
 use Rattle.outstation.specs.Step.{Answer, took, answers, silent, accepts, refuses, handed, output_after, Result, fragment, step, read_effect, plain_effect, read_step, repeat_step, request_step, effect_by, confirm_step, confirmed_step}
@@ -38,28 +39,32 @@ fragment_refusal_number R.Malformed = 31
 fragment_refusal_number R.NotConfirmed = 32
 fragment_refusal_number R.OutputTooSmall = 33
 
+-- what a fragment comes to: accepted, or refused
+abbrev pub Answering : Type 0
+Answering = P.Result FragmentAnswer FragmentRefusal
+
 -- what each answer means; d the lent bytes after the call
-abbrev pub answer_by : FragmentAnswer → List ℕ → List ControlObject → Answer
-answer_by (Fs.Answer n) d operated = answers (take n d) operated
-answer_by Fs.Silent d operated = silent operated
-answer_by Fs.Confirmed d operated = accepts
-answer_by (Fs.Refused why) d operated = refuses (fragment_refusal_number why)
+abbrev pub answer_by : Answering → List ℕ → List ControlObject → Answer
+answer_by (P.Ok (Fs.Answer n)) d operated = answers (take n d) operated
+answer_by (P.Ok Fs.Silent) d operated = silent operated
+answer_by (P.Ok Fs.Confirmed) d operated = accepts
+answer_by (P.Err why) d operated = refuses (fragment_refusal_number why)
 
 -- what a call gives: the outstation that it leaves, the answer, the objects handed to the host
 pub record Answered : Type 0 where
   pub state : Outstation
-  pub answer : FragmentAnswer
+  pub answer : Answering
   pub operated : ControlObjects
 
 abbrev pub fragment_answer : Answered → List ℕ → Answer
 fragment_answer r d = answer_by r.answer d (list_of r.operated)
 
 -- how many bytes the result says that it is answered with, and how many the step's answer has
-abbrev pub size_by : FragmentAnswer → ℕ
-size_by (Fs.Answer n) = n
-size_by Fs.Silent = 0
-size_by Fs.Confirmed = 0
-size_by (Fs.Refused why) = 0
+abbrev pub size_by : Answering → ℕ
+size_by (P.Ok (Fs.Answer n)) = n
+size_by (P.Ok Fs.Silent) = 0
+size_by (P.Ok Fs.Confirmed) = 0
+size_by (P.Err why) = 0
 
 abbrev pub size_in : Answer → ℕ
 size_in (took taken n) = 0
@@ -70,7 +75,7 @@ size_in (refuses n) = 0
 
 -- the answer a with these objects, of a call that left the state s and had these lent bytes before and after, is this step's: state, answer,
 -- its length, objects handed to the host, each lent byte
-pub record AnsweredAs (s : OutstationView) (a : FragmentAnswer) (operated : ControlObjects) (before after : List ℕ) (x : Result) : Type 0 where
+pub record AnsweredAs (s : OutstationView) (a : Answering) (operated : ControlObjects) (before after : List ℕ) (x : Result) : Type 0 where
   pub state : s ≡ x.state
   pub answer : answer_by a after (list_of operated) ≡ x.answer
   pub size : size_by a ≡ size_in x.answer
@@ -112,7 +117,7 @@ left_with w time i k x =
 -- a READ, faultless or not
 abbrev pub read_effect_by : OutstationView → ℕ → ℕ → Parsed → S.RequestEffect
 read_effect_by w q time (headers hs) = read_effect w q time hs
-read_effect_by w q time (fault f) = plain_effect w f w.master.session.restarted
+read_effect_by w q time (fault f) = plain_effect w (Some f) w.master.session.restarted
 
 -- a request by its function: a READ, a repeat, or another
 abbrev pub request_by : OutstationView → ℕ → ℕ → ℕ → List ℕ → Result
@@ -143,7 +148,7 @@ abbrev pub RequestHolds : Head → Lent → (q function time : ℕ) (f : List �
 RequestHolds h m q function time f r m₁ before after = PartMeets h r m₁ before after (request_by (view_of h m) q function time f)
 
 -- "CON is set exactly on a faultless READ's answer with an event or IIN2.3."
-abbrev pub con_by : Fault → (carried overflow : Bool) → Bool
+abbrev pub con_by : Option Fault → (carried overflow : Bool) → Bool
 con_by f carried overflow = is_faultless f && (carried || overflow)
 
 -- of a READ, whatever the latch's bytes and the analog outputs' words
@@ -152,10 +157,6 @@ ReadHolds h m q time f r m₁ before after =
     (o u : List ℕ)
     → PartMeets h r (m₁ o u) before after
     (read_step (view_of h (m o u)) q time f (read_effect_by (view_of h (m o u)) q time (asked_of (view_of h (m o u)).shared.inputs (objects_of f))))
-
--- whether there is a last request, and its lengths
-abbrev pub last_lengths : Head → LastLengths
-last_lengths h = record { held = holds h.request_kept; request_len = h.request_len; answer_len = h.answer_len }
 
 abbrev pub with_last : (request answer : List ℕ) → Lent → Lent
 with_last request answer m =
@@ -200,13 +201,13 @@ abbrev pub with_objects : List ℕ → Lent → Lent
 with_objects o m =
     record { binaries = m.binaries; analogs = m.analogs; held = m.held; request = m.request; answer = m.answer; objects = o; outputs = m.outputs }
 
-pub record LeftIn (h : Head) (time : ℕ) (restarted : Bool) (wait : Wait) (k : LastLengths) (l : LatchView) (n : ℕ) (r : Head) (o : List ℕ) : Type 0 where
+pub record LeftIn (h : Head) (time : ℕ) (restarted : Bool) (wait : Option Awaited) (k : LastLengths) (l : LatchView) (n : ℕ) (r : Head) (o : List ℕ) : Type 0 where
   pub view : (m : Lent)
       → view_of r (with_objects o m)
       ≡ left_with (view_of h m) time (view_of h m).shared.inputs (buffer_view_in m.held (buffer_status h))
-      (record { restarted = restarted; wait = wait; last = last_in m.request m.answer k; latch = l })
+      (record { restarted = restarted; wait = wait; last = last_in m.request m.answer (Some k); latch = l })
   pub counted : k.request_len ≤ fragment_max → k.answer_len ≤ answer_max → n ≤ echo_max → HeadCountsWithin h → HeadCountsWithin r
 
 -- a READ leaves no select, whatever the latch's bytes
-abbrev pub ReadLeft : Head → (time : ℕ) → Wait → LastLengths → Head → Type 0
+abbrev pub ReadLeft : Head → (time : ℕ) → Option Awaited → LastLengths → Head → Type 0
 ReadLeft h time wait k r = (o : List ℕ) → LeftIn h time (holds h.restarted) wait k no_select h.latch_len r o

@@ -1,20 +1,18 @@
 // A fragment on a head by value and lent memory: refused, a CONFIRM, a READ, a repeat, or another request.
 #![tactic(auto)]
 
-ghost use Rattle.std.specs.Prelude.{◌≡◌, cond, true, false, [], ◌≤◌, eqb, length};
+ghost use Rattle.std.specs.Prelude.{◌≡◌, cond, true, [], ◌≤◌, eqb, length};
 ghost use Rattle.laws.specs.Limits.{fragment_max};
 ghost use Rattle.octets.specs.Bytes.{splice};
 ghost use Rattle.application.specs.Response.{response_of};
 ghost use Rattle.control.specs.Objects.{Holding, answer_max};
 ghost use Rattle.select_latch.specs.Select.{latch_of};
 ghost use Rattle.last_request.specs.Repeat.{kept_answer, last_in};
-ghost use Rattle.outstation.specs.Lent.{group_in};
-ghost use Rattle.outstation.specs.Step.{indications_of};
+ghost use Rattle.outstation.specs.Lent.{group_in, last_lengths};
+ghost use Rattle.outstation.specs.Step.{indications_of, newly_sent};
 ghost use Rattle.event_store.specs.EventWords.{buffer_view_in};
 ghost use Rattle.words.specs.Numbers.{holds};
 ghost use Rattle.fragments.specs.FragmentMeets.{
-  fragment_refusal_number,
-  last_lengths,
   context_in,
   con_by,
   FragmentHolds,
@@ -31,10 +29,10 @@ ghost use Rattle.fragments.specs.FragmentMeets.{
 use analog_outputs::ANALOG_OUTPUT_WORDS;
 use application::{ApplicationSequence, FRAGMENT_MAX, Fault, Fragment, Indications};
 use control::{ANSWER_MAX, ControlObjects, ECHO_MAX, OutputCounts};
-use effects::{Confirmation, RequestContext, RequestEffect};
+use effects::{RequestContext, RequestEffect};
 use event_store::{BufferStatus, EVENT_WORDS};
 use last_request::LastLengths;
-use outstation::{Head, Wait};
+use outstation::{Awaited, Head};
 use point_store::{ANALOG_WORDS, BINARY_WORDS, Installed};
 use select_latch::{ControlGroup, Latch};
 
@@ -51,7 +49,23 @@ pub enum FragmentRefusal {
     OutputTooSmall,
 }
 
-// What a fragment comes to.
+impl FragmentRefusal {
+    ghost use Rattle.fragments.specs.FragmentMeets.{fragment_refusal_number};
+
+    // Document 01's number of a refusal.
+    pub fn number(self) -> u8
+        ensures { result ≡ fragment_refusal_number self }
+    {
+        match self {
+            FragmentRefusal::Time => 1,
+            FragmentRefusal::Malformed => 31,
+            FragmentRefusal::NotConfirmed => 32,
+            FragmentRefusal::OutputTooSmall => 33,
+        }
+    }
+}
+
+// What an accepted fragment comes to.
 #[derive(Clone, Copy)]
 pub enum FragmentAnswer {
     // The answer is the first so many lent bytes.
@@ -60,77 +74,52 @@ pub enum FragmentAnswer {
     Silent,
     // A CONFIRM was accepted.
     Confirmed,
-    Refused(FragmentRefusal),
 }
 
-// The head after the call, the answer, and the objects handed to the host to be carried out, in the order asked.
+// The head after the call, the answer or the refusal, and the objects handed to the host to be carried out, in the order asked.
 #[derive(Clone, Copy)]
 pub struct FragmentResult {
     pub head: Head,
-    pub answer: FragmentAnswer,
+    pub answer: Result<FragmentAnswer, FragmentRefusal>,
     pub operated: ControlObjects,
 }
 
 // What an answer says beside its objects and the indications of the state.
 #[derive(Clone, Copy)]
 pub struct ResponseFlags {
-    pub fault: Fault,
+    pub fault: Option<Fault>,
     pub con: bool,
-}
-
-// Document 01's number of a refusal.
-pub fn refusal_number(why: FragmentRefusal) -> u8
-    ensures { result ≡ fragment_refusal_number why }
-{
-    match why {
-        FragmentRefusal::Time => 1,
-        FragmentRefusal::Malformed => 31,
-        FragmentRefusal::NotConfirmed => 32,
-        FragmentRefusal::OutputTooSmall => 33,
-    }
 }
 
 // A refused fragment leaves everything as it was.
 fn refuse(h: Head, why: FragmentRefusal) -> FragmentResult
-    ensures { (result.head ≡ h) × (result.answer ≡ FragmentAnswer.Refused why) × Holding result.operated [] }
+    ensures { (result.head ≡ h) × (result.answer ≡ Err why) × Holding result.operated [] }
 {
-    let a = FragmentAnswer::Refused(why);
-    let none = control::none();
     FragmentResult {
         head: h,
-        answer: a,
-        operated: none,
+        answer: Err(why),
+        operated: control::none(),
     }
 }
 
 // ---- CONFIRM
 
 // An accepted CONFIRM: the carried events go, nothing is awaited any more.
-fn accept_confirm(
-    h: Head,
-    held: &mut [u64; EVENT_WORDS],
-    time: u64,
-    showed_overflow: bool,
-    dropped_since: bool,
-) -> FragmentResult
-    ensures { ConfirmedHolds h held.old time showed_overflow dropped_since result held.new }
+fn accept_confirm(h: Head, held: &mut [u64; EVENT_WORDS], time: u64, a: Awaited) -> FragmentResult
+    ensures { ConfirmedHolds h held.old time a.showed_overflow a.dropped_since result held.new }
 {
     let t = event_store::release(held, outstation::buffer_status(h));
-    let mut idle = h;
-    idle.clock = time;
-    idle.event_count = t.count;
-    idle.overflow = outstation::truth_byte(effects::still_dropped(
-        showed_overflow,
-        dropped_since,
-        t.overflow,
-    ));
-    idle.waiting = 0;
-    let a = FragmentAnswer::Confirmed;
-    let none = control::none();
+    let overflow = effects::still_dropped(a.showed_overflow, a.dropped_since, t.overflow);
     FragmentResult {
-        head: idle,
-        answer: a,
-        operated: none,
+        head: Head {
+            clock: time,
+            event_count: t.count,
+            overflow: u8::from(overflow),
+            waiting: 0,
+            ..h
+        },
+        answer: Ok(FragmentAnswer::Confirmed),
+        operated: control::none(),
     }
 }
 
@@ -143,31 +132,19 @@ fn take_confirm(
 ) -> FragmentResult
     ensures { ConfirmHolds h held.old q.0 uns time result held.new }
 {
-    let c = effects::confirm(h.confirm_time, outstation::wait_of(h), q, uns, time);
-    match c {
-        Confirmation::Refused => {
-            return refuse(h, FragmentRefusal::NotConfirmed);
-        }
-        Confirmation::Accepted {
-            showed_overflow,
-            dropped_since,
-        } => {
-            return accept_confirm(h, held, time, showed_overflow, dropped_since);
-        }
+    match effects::confirm(h.confirm_time, outstation::wait_of(h), q, uns, time) {
+        Some(a) => accept_confirm(h, held, time, a),
+        None => refuse(h, FragmentRefusal::NotConfirmed),
     }
 }
 
 // ---- READ
 
 // CON is set exactly on a faultless READ's answer with an event or IIN2.3.
-fn con_by(f: Fault, carried: bool, overflow: bool) -> bool
+fn con_by(f: Option<Fault>, carried: bool, overflow: bool) -> bool
     ensures { result ≡ con_by f carried overflow }
 {
-    if application::is_faultless(f) {
-        effects::either(carried, overflow)
-    } else {
-        false
-    }
+    f.is_none() && (carried || overflow)
 }
 
 // Puts the response header in front of the objects; the carried events are marked.
@@ -191,26 +168,26 @@ fn put_response_header(
         restart: restarted,
         dropped: t.overflow,
     };
-    let fault = s.fault;
-    application::put_response(out, q, s.con, i, fault);
+    application::put_response(out, q, s.con, i, s.fault);
 }
 
 // The head after a READ: where its answer has CON it awaits confirmation. The latch is empty, whatever the lent bytes are.
 fn after_read(h: Head, q: ApplicationSequence, time: u64, con: bool, k: LastLengths) -> Head
-    ensures { ReadLeft h time (cond con (Wait.Awaiting q time (holds h.overflow) false) Wait.Idle) k result }
+    ensures { ReadLeft h time (cond con (Some (newly_sent q time (holds h.overflow))) None) k result }
 {
-    let mut next = h;
-    next.clock = time;
-    next.waiting = outstation::truth_byte(con);
-    next.wait_sequence = q.0;
-    next.wait_time = time;
-    next.showed_overflow = h.overflow;
-    next.dropped_since = 0;
-    next.request_kept = outstation::truth_byte(k.held);
-    next.request_len = k.request_len;
-    next.answer_len = k.answer_len;
-    next.latch_armed = 0;
-    next
+    Head {
+        clock: time,
+        waiting: u8::from(con),
+        wait_sequence: q.0,
+        wait_time: time,
+        showed_overflow: h.overflow,
+        dropped_since: 0,
+        request_kept: 1,
+        request_len: k.request_len,
+        answer_len: k.answer_len,
+        latch_armed: 0,
+        ..h
+    }
 }
 
 // Answers a READ. It is never repeated, so its answer is not kept.
@@ -240,16 +217,19 @@ fn answer_read(
     let reply = read::respond(out, &f[2..], binaries, analogs, n, held, t);
     let fault = reply.fault;
     let con = con_by(fault, event_store::any_carried(held, t), t.overflow);
-    let s = ResponseFlags { fault, con };
-    put_response_header(out, q, s, held, t, outstation::truth(h.restarted));
+    put_response_header(
+        out,
+        q,
+        ResponseFlags { fault, con },
+        held,
+        t,
+        h.restarted != 0,
+    );
     let kept = last_request::remember(request, answer, f, &f[..0]);
-    let next = after_read(h, q, time, con, kept);
-    let a = FragmentAnswer::Answer(reply.size);
-    let none = control::none();
     FragmentResult {
-        head: next,
-        answer: a,
-        operated: none,
+        head: after_read(h, q, time, con, kept),
+        answer: Ok(FragmentAnswer::Answer(reply.size)),
+        operated: control::none(),
     }
 }
 
@@ -266,14 +246,17 @@ fn answer_as(function: u8, n: usize) -> FragmentAnswer
 
 // ---- a repeat
 
-// Whether there is a last request, and how many of the lent bytes it and its answer have.
-fn last_of(h: Head) -> LastLengths
+// How many of the lent bytes the last request and its answer have, if there is one.
+fn last_of(h: Head) -> Option<LastLengths>
     ensures { result ≡ last_lengths h }
 {
-    LastLengths {
-        held: outstation::truth(h.request_kept),
-        request_len: h.request_len,
-        answer_len: h.answer_len,
+    if h.request_kept != 0 {
+        Some(LastLengths {
+            request_len: h.request_len,
+            answer_len: h.answer_len,
+        })
+    } else {
+        None
     }
 }
 
@@ -309,14 +292,10 @@ fn repeat_request(
     ensures { RepeatHolds h request.now answer.now function time result out.old out.new }
 {
     let n = put_again(h, request, answer, function, out);
-    let a = answer_as(function, n);
-    let none = control::none();
-    let mut next = h;
-    next.clock = time;
     FragmentResult {
-        head: next,
-        answer: a,
-        operated: none,
+        head: Head { clock: time, ..h },
+        answer: Ok(answer_as(function, n)),
+        operated: control::none(),
     }
 }
 
@@ -350,25 +329,21 @@ fn latch_byte(armed: bool, group: ControlGroup) -> u8
 fn context_of(h: Head, objects: &[u8; ECHO_MAX]) -> RequestContext
     ensures { result ≡ context_in h objects.now }
 {
-    let bytes = *objects;
-    let group = group_in(h.latch_armed);
-    let latch = Latch {
-        armed: outstation::truth(h.latch_armed),
-        group: group,
-        sequence: ApplicationSequence(h.latch_sequence),
-        time: h.latch_time,
-        objects: bytes,
-        len: h.latch_len,
-    };
-    let counts = OutputCounts {
-        relays: h.outputs,
-        analog: h.analog_outputs,
-    };
     RequestContext {
-        outputs: counts,
+        outputs: OutputCounts {
+            relays: h.outputs,
+            analog: h.analog_outputs,
+        },
         arm_time: h.arm_time,
-        restarted: outstation::truth(h.restarted),
-        latch: latch,
+        restarted: h.restarted != 0,
+        latch: Latch {
+            armed: h.latch_armed != 0,
+            group: group_in(h.latch_armed),
+            sequence: ApplicationSequence(h.latch_sequence),
+            time: h.latch_time,
+            objects: *objects,
+            len: h.latch_len,
+        },
     }
 }
 
@@ -389,9 +364,8 @@ fn put_answer(
     if function == 6 {
         return 0;
     }
-    let fault = d.fault;
     let s = ResponseFlags {
-        fault: fault,
+        fault: d.fault,
         con: d.con,
     };
     put_response_header(out, q, s, held, t, d.restarted);
@@ -407,23 +381,23 @@ fn after_request(
     latch: Latch,
     k: LastLengths,
 ) -> Head
-    ensures { LeftIn h time restarted Wait.Idle k (latch_of latch) latch.len result objects.new }
+    ensures { LeftIn h time restarted None k (latch_of latch) latch.len result objects.new }
 {
     let bytes = latch.objects;
-    let group = latch.group;
     *objects = bytes;
-    let mut next = h;
-    next.clock = time;
-    next.restarted = outstation::truth_byte(restarted);
-    next.waiting = 0;
-    next.request_kept = outstation::truth_byte(k.held);
-    next.request_len = k.request_len;
-    next.answer_len = k.answer_len;
-    next.latch_armed = latch_byte(latch.armed, group);
-    next.latch_sequence = latch.sequence.0;
-    next.latch_time = latch.time;
-    next.latch_len = latch.len;
-    next
+    Head {
+        clock: time,
+        restarted: u8::from(restarted),
+        waiting: 0,
+        request_kept: 1,
+        request_len: k.request_len,
+        answer_len: k.answer_len,
+        latch_armed: latch_byte(latch.armed, latch.group),
+        latch_sequence: latch.sequence.0,
+        latch_time: latch.time,
+        latch_len: latch.len,
+        ..h
+    }
 }
 
 // Answers it, and keeps it with its answer.
@@ -448,18 +422,14 @@ fn answer_request(
 {
     let seen = context_of(h, objects);
     let d = effects::effect_by(seen, outputs, q, function, time, &f[2..], out);
-    let operated = d.operated;
     let t = outstation::buffer_status(h);
     event_store::clear(held, t);
     let n = put_answer(out, q, function, d, held, t);
     let kept = last_request::remember(request, answer, f, &out[..n]);
-    let latch = d.latch;
-    let next = after_request(h, objects, time, d.restarted, latch, kept);
-    let a = answer_as(function, n);
     FragmentResult {
-        head: next,
-        answer: a,
-        operated: operated,
+        head: after_request(h, objects, time, d.restarted, d.latch, kept),
+        answer: Ok(answer_as(function, n)),
+        operated: d.operated,
     }
 }
 
@@ -523,9 +493,10 @@ pub fn fragment(
     if out.len() < FRAGMENT_MAX {
         return refuse(h, FragmentRefusal::OutputTooSmall);
     }
-    let kind = application::classify(f);
+    let Some(kind) = application::classify(f) else {
+        return refuse(h, FragmentRefusal::Malformed);
+    };
     match kind {
-        Fragment::Malformed => refuse(h, FragmentRefusal::Malformed),
         Fragment::Confirm {
             sequence,
             unsolicited,

@@ -1,9 +1,10 @@
 -- Laws of the last request and of repeats.
 -- Assumes nothing.
 use mathlib.Core.Path.{◌≡◌, refl}
-use mathlib.Core.Bool.{true, false, and-true}
+use mathlib.Core.Bool.{false, and-true}
 use mathlib.Core.List.{List}
 use Prim.Native.Nat.{ℕ}
+use Rattle.std.proofs.Common.{Some, None}
 use borrow.Author.Tests.{eq-eqb, ne_eqb}
 use lib.ListN.{take}
 use Rattle.laws.specs.Lists.{same}
@@ -11,14 +12,14 @@ use Rattle.application.specs.Fragment.{function_of}
 use Rattle.last_request.specs.declared.LastLengths.{LastLengths}
 use Rattle.last_request.specs.Repeat.{nothing, kept, last_in, is_repeat}
 
-module _ (request answer : List ℕ) (n : LastLengths) where
-  pub last_none : n.held ≡ false → last_in request answer n ≡ nothing
+module _ (request answer : List ℕ) where
+  pub last_none : last_in request answer None ≡ nothing
   unfolding last_in
-  last_none h = rw h
+  last_none = refl
 
-  pub last-held : n.held ≡ true → last_in request answer n ≡ kept (take n.request_len request) (take n.answer_len answer)
+  pub last-held : (n : LastLengths) → last_in request answer (Some n) ≡ kept (take n.request_len request) (take n.answer_len answer)
   unfolding last_in
-  last-held h = rw h
+  last-held n = refl
 
 pub repeat-none : (f : List ℕ) → is_repeat nothing f ≡ false
 unfolding is_repeat

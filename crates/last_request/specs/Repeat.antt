@@ -1,6 +1,6 @@
 -- The last accepted request, and repeats of it.
 -- Assumes nothing.
-use Rattle.std.specs.Prelude.{ℕ, Bool, false, cond, not, List, [], ◌∷◌, take, eqb}
+use Rattle.std.specs.Prelude.{ℕ, Bool, false, not, List, [], ◌∷◌, take, eqb, Option, Some, None}
 use Rattle.laws.specs.Lists.{all, same}
 use Rattle.application.specs.Fragment.{function_of}
 use Rattle.last_request.specs.declared.LastLengths.{LastLengths}
@@ -11,8 +11,9 @@ pub data LastRequestView : Type 0 where
   kept : List ℕ → List ℕ → LastRequestView
 
 -- what lent bytes and lengths stand for. Any stand for some
-unfoldable pub last_in : (request answer : List ℕ) → LastLengths → LastRequestView
-last_in request answer n = cond n.held (kept (take n.request_len request) (take n.answer_len answer)) nothing
+unfoldable pub last_in : (request answer : List ℕ) → Option LastLengths → LastRequestView
+last_in request answer None = nothing
+last_in request answer (Some n) = kept (take n.request_len request) (take n.answer_len answer)
 
 -- "A request equal in every byte to the last accepted request, not a READ, is a repeat"
 unfoldable pub is_repeat : LastRequestView → List ℕ → Bool

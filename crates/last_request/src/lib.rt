@@ -1,7 +1,7 @@
 // The last accepted request and its answer in bytes that the host lends: a repeat is told by them, and answered by them.
 #![tactic(auto)]
 
-ghost use Rattle.std.specs.Prelude.{◌≡◌, ◌≤◌, length};
+ghost use Rattle.std.specs.Prelude.{◌≡◌, ◌≤◌, length, Some};
 ghost use Rattle.octets.specs.Bytes.{splice};
 ghost use Rattle.laws.specs.Limits.{fragment_max};
 ghost use Rattle.control.specs.Objects.{answer_max};
@@ -10,10 +10,9 @@ ghost use Rattle.last_request.specs.Repeat.{kept, last_in, is_repeat, kept_answe
 use application::FRAGMENT_MAX;
 use control::ANSWER_MAX;
 
-// Whether there is a last request, and how many of the lent bytes it and its answer have. An answer of no bytes: none was sent.
+// How many of the lent bytes the last request and its answer have. An answer of no bytes: none was sent.
 #[derive(Clone, Copy)]
 pub struct LastLengths {
-    pub held: bool,
     pub request_len: usize,
     pub answer_len: usize,
 }
@@ -26,14 +25,13 @@ pub fn remember(
     a: &[u8],
 ) -> LastLengths
     requires { (length f.now ≤ fragment_max) × (length a.now ≤ answer_max) }
-    ensures { (last_in request.new answer.new result ≡ kept f.now a.now)
+    ensures { (last_in request.new answer.new (Some result) ≡ kept f.now a.now)
         × (result.request_len ≡ length f.now)
         × (result.answer_len ≡ length a.now) }
 {
     octets::copy(request, 0, f);
     octets::copy(answer, 0, a);
     LastLengths {
-        held: true,
         request_len: f.len(),
         answer_len: a.len(),
     }
@@ -43,28 +41,24 @@ pub fn remember(
 pub fn is_repeat(
     request: &[u8; FRAGMENT_MAX],
     answer: &[u8; ANSWER_MAX],
-    lengths: LastLengths,
+    lengths: Option<LastLengths>,
     f: &[u8],
 ) -> bool
     requires { 2 ≤ length f.now }
     ensures { result ≡ is_repeat (last_in request.now answer.now lengths) f.now }
 {
-    if !lengths.held {
+    let Some(kept) = lengths else {
         return false;
-    }
-    if f[1] == 1 {
-        return false;
-    }
-    let n = octets::least(lengths.request_len, FRAGMENT_MAX);
-    let whole = &request[..];
-    octets::equal(f, &whole[..n])
+    };
+    let n = kept.request_len.min(FRAGMENT_MAX);
+    f[1] != 1 && f == &request[..n]
 }
 
 // Puts the kept answer at the front of the lent bytes, and says its length.
 pub fn answer_again(
     request: &[u8; FRAGMENT_MAX],
     answer: &[u8; ANSWER_MAX],
-    lengths: LastLengths,
+    lengths: Option<LastLengths>,
     out: &mut [u8],
 ) -> usize
     requires { answer_max ≤ length out.old }
@@ -72,11 +66,10 @@ pub fn answer_again(
         × (result ≡ length (kept_answer (last_in request.now answer.now lengths)))
         × (result ≤ answer_max) }
 {
-    if !lengths.held {
+    let Some(kept) = lengths else {
         return 0;
-    }
-    let n = octets::least(lengths.answer_len, ANSWER_MAX);
-    let whole = &answer[..];
-    octets::copy(out, 0, &whole[..n]);
+    };
+    let n = kept.answer_len.min(ANSWER_MAX);
+    octets::copy(out, 0, &answer[..n]);
     n
 }

@@ -1,4 +1,4 @@
--- Laws of `same`, the comparison of byte strings: what it tells, and a loop that compares byte by byte.
+-- Laws of `same`, the comparison of byte strings: what it tells, and that `==` is it.
 -- Assumes nothing.
 use mathlib.Core.Path.{◌≡◌, refl, ap, ap₂}
 use mathlib.Core.Bool.{Bool, true, false, ◌&&◌}

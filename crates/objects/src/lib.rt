@@ -2,32 +2,10 @@
 #![tactic(auto)]
 
 ghost use Rattle.std.specs.Prelude.{◌≡◌, ◌+◌, ◌≤◌, length};
-ghost use Rattle.std.specs.Float.{binary32};
-ghost use Rattle.std.specs.Float.Ieee.{to_bits};
-ghost use Rattle.std.specs.Int.{w32};
-ghost use Rattle.std.proofs.Common.{of_z};
 ghost use Rattle.octets.specs.Bytes.{splice};
 ghost use Rattle.objects.specs.Values.{value_bytes, value_size, state_byte};
 
 use points::Value;
-
-// The bits of a signed number, two's complement.
-fn signed_bits(x: i32) -> u32
-    ensures { result ≡ of_z w32 x }
-{
-    if x < 0 {
-        (x as i64 + 4294967296) as u32
-    } else {
-        x as u32
-    }
-}
-
-// The bits of a float. No point holds a NaN; its pattern here is the one that the definition writes.
-fn float_bits(x: f32) -> u32
-    ensures { result ≡ to_bits binary32 x }
-{
-    if x == x { f32::to_bits(x) } else { 2143289344 }
-}
 
 // Puts a value at the offset, and answers the offset after it.
 pub fn put_value(out: &mut [u8], at: usize, v: Value) -> usize
@@ -36,15 +14,15 @@ pub fn put_value(out: &mut [u8], at: usize, v: Value) -> usize
 {
     match v {
         Value::Int32(z) => {
-            octets::put4(out, at, signed_bits(z));
+            octets::put4(out, at, z.cast_unsigned());
             at + 4
         }
         Value::Int16(z) => {
-            octets::put(out, at, 2, signed_bits(z as i32) as u64);
+            octets::put2(out, at, z.cast_unsigned());
             at + 2
         }
         Value::Float32(x) => {
-            octets::put4(out, at, float_bits(x));
+            octets::put4(out, at, words::float_bits(x));
             at + 4
         }
     }

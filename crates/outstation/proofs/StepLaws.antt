@@ -17,8 +17,9 @@ use Rattle.points.specs.declared.BinaryPoint.{BinaryPoint}
 use Rattle.points.specs.declared.AnalogPoint.{AnalogPoint}
 use Rattle.points.specs.declared.AnalogState.{AnalogState}
 use Rattle.points.specs.declared.AnalogState.TheVariants as Ks
+use Rattle.points.specs.declared.Taken.{Taken}
 use Rattle.points.specs.PointsView.{PointsView}
-use Rattle.points.specs.Reading.{BinaryAfter, AnalogAfter, flags_above, read_binary, whole_by, read_whole, float_by, read_float}
+use Rattle.points.specs.Reading.{flags_above, read_binary, whole_by, read_whole, float_by, read_float}
 use Rattle.outstation.specs.declared.Reading.{Reading}
 use Rattle.outstation.specs.declared.Measured.{Measured}
 use Rattle.outstation.specs.declared.Measured.TheVariants as Ms
@@ -62,11 +63,11 @@ number_in A n h = h
 by_flags : {A : Type 0} (t : Bool) (a : A) → Numbered (cond t (refused 4) (accepted a))
 by_flags t a = either t _ _ (no _ 4 (omega arith)) (ok a)
 
-numbered-binary : (i : PointsView) (r : Reading) (x : Outcome BinaryAfter) → Numbered x → Numbered (on_binary i r x)
+numbered-binary : (i : PointsView) (r : Reading) (x : Outcome (Taken BinaryPoint)) → Numbered x → Numbered (on_binary i r x)
 numbered-binary i r (accepted a) h = ok _
 numbered-binary i r (refused n) h = no _ n (number_in _ n h)
 
-numbered-analog : (i : PointsView) (r : Reading) (x : Outcome AnalogAfter) → Numbered x → Numbered (on_analog i r x)
+numbered-analog : (i : PointsView) (r : Reading) (x : Outcome (Taken AnalogPoint)) → Numbered x → Numbered (on_analog i r x)
 numbered-analog i r (accepted a) h = ok _
 numbered-analog i r (refused n) h = no _ n (number_in _ n h)
 
@@ -77,12 +78,12 @@ binary-numbered p s flags = by_flags (flags_above flags) _
 over_whole : (m : AnalogState) (p : AnalogPoint) (z : ℤ) (flags : ℕ) → Numbered (whole_by m p z flags)
 over_whole (Ks.Int32 t) p z flags = by_flags (flags_above flags) _
 over_whole (Ks.Int16 t) p z flags = by_flags (flags_above flags) _
-over_whole (Ks.Float32 t) p z flags = no _ 2 (omega arith)
+over_whole (Ks.Float32 t s) p z flags = no _ 2 (omega arith)
 
 float-by : (m : AnalogState) (p : AnalogPoint) (x : Float) (flags : ℕ) → Numbered (float_by m p x flags)
 float-by (Ks.Int32 t) p x flags = no _ 2 (omega arith)
 float-by (Ks.Int16 t) p x flags = no _ 2 (omega arith)
-float-by (Ks.Float32 t) p x flags = either (not (finite x)) _ _ (no _ 3 (omega arith)) (by_flags (flags_above flags) _)
+float-by (Ks.Float32 t s) p x flags = either (not (finite x)) _ _ (no _ 3 (omega arith)) (by_flags (flags_above flags) _)
 
 whole-numbered : (p : AnalogPoint) (z : ℤ) (flags : ℕ) → Numbered (read_whole p z flags)
 unfolding read_whole

@@ -1,6 +1,6 @@
 -- The outstation that a head and lent memory stand for. Any head and any content of the memory stand for one.
 -- Assumes nothing.
-use Rattle.std.specs.Prelude.{ℕ, ◌≤◌, cond, List, eqb}
+use Rattle.std.specs.Prelude.{ℕ, ◌≤◌, cond, List, eqb, Option, Some, None}
 use Rattle.laws.specs.Limits.{points_max, events_max, fragment_max}
 use Rattle.analog_outputs.specs.Output.{analog_outputs_max}
 use Rattle.control.specs.declared.OutputCounts.{OutputCounts}
@@ -10,14 +10,14 @@ use Rattle.points.specs.PointsView.{PointsView}
 use Rattle.select_latch.specs.declared.ControlGroup.{ControlGroup}
 use Rattle.select_latch.specs.declared.ControlGroup.TheVariants as G
 use Rattle.select_latch.specs.Select.{latch_of}
+use Rattle.last_request.specs.declared.LastLengths.{LastLengths}
 use Rattle.last_request.specs.Repeat.{last_in}
 use Rattle.words.specs.Numbers.{holds}
 use Rattle.point_store.specs.declared.Installed.{Installed}
 use Rattle.point_store.specs.PointWords.{points_view_in}
 use Rattle.event_store.specs.declared.BufferStatus.{BufferStatus}
 use Rattle.event_store.specs.EventWords.{buffer_view_in}
-use Rattle.outstation.specs.declared.Wait.{Wait}
-use Rattle.outstation.specs.declared.Wait.TheVariants.{Idle, Awaiting}
+use Rattle.outstation.specs.declared.Awaited.{Awaited}
 use Rattle.outstation.specs.declared.Head.{Head}
 use Rattle.outstation.specs.OutstationView.{SessionView, OutstationView}
 
@@ -49,18 +49,27 @@ abbrev pub group_in : ℕ → ControlGroup
 group_in n = cond (eqb n 1) G.Crob G.AnalogOutput
 
 -- kind 0: nothing is awaited
-unfoldable pub wait_of : Head → Wait
+unfoldable pub wait_of : Head → Option Awaited
 wait_of h =
-    cond (eqb h.waiting 0) Idle
-    (Awaiting (record { 0 = h.wait_sequence }) h.wait_time (holds h.showed_overflow) (holds h.dropped_since))
+    cond (eqb h.waiting 0) None
+    (Some
+    (record {
+      sequence = record { 0 = h.wait_sequence };
+      time = h.wait_time;
+      showed_overflow = holds h.showed_overflow;
+      dropped_since = holds h.dropped_since;
+    }))
+
+-- the lengths of the last request and of its answer, if there is one
+abbrev pub last_lengths : Head → Option LastLengths
+last_lengths h = cond (holds h.request_kept) (Some (record { request_len = h.request_len; answer_len = h.answer_len })) None
 
 abbrev pub session_in : Head → Lent → SessionView
 session_in h m =
     record {
       restarted = holds h.restarted;
       wait = wait_of h;
-      last =
-          last_in m.request m.answer (record { held = holds h.request_kept; request_len = h.request_len; answer_len = h.answer_len });
+      last = last_in m.request m.answer (last_lengths h);
       latch =
           latch_of
           (record {

@@ -13,13 +13,13 @@ use native.Mathlib.Nat.{
   zero-mul,
 }
 use native.Mathlib.Omega.{arith}
-use mathlib.Core.Bool.{Bool, true, false, not, true≢false, false≢true}
+use mathlib.Core.Bool.{Bool, true, false, not}
 use lib.IntN.{ℤ, pos, negsuc}
 use lib.Dec.{T, leb, leb→le, nleb→lt, lit≤}
 use lib.Pow.{pow-add, pow_pos, pow_mono}
-use lib.Ieee.{Float, nan, inf, fin, binary32, up, down, lt, fits}
+use lib.Ieee.{fin, binary32, up, down, lt, fits}
 use borrow.Author.Tests.{le-ltb}
-use Rattle.points.specs.Scaling.{largest, limited_of}
+use Rattle.points.specs.Scaling.{largest}
 use Rattle.points.proofs.Identity.{fits-says}
 
 digits : (n : ℕ) → n < 2 ^ 24 → n ≤ 16777215
@@ -59,25 +59,3 @@ pub not-below : (s : Bool) (m : ℕ) (e : ℤ) → T (fits binary32 (fin s m e))
 unfolding lt
 not-below true m e t = le-ltb (16777215 * 2 ^ 104 * down e) (m * up e * 1) (magnitude true m e t)
 not-below false m e t = refl
-
--- ---- an infinity, told by a comparison
-pub high : (v : Float) → T (fits binary32 v) → lt (largest false) v ≡ true → v ≡ inf false
-unfolding lt
-high nan t h = absurd (false≢true h)
-high (inf true) t h = absurd (false≢true h)
-high (inf false) t h = refl
-high (fin s m e) t h = absurd (true≢false (sym h ∙ not-above s m e t))
-
-pub deep : (v : Float) → T (fits binary32 v) → lt v (largest true) ≡ true → v ≡ inf true
-unfolding lt
-deep nan t h = absurd (false≢true h)
-deep (inf true) t h = refl
-deep (inf false) t h = absurd (false≢true h)
-deep (fin s m e) t h = absurd (true≢false (sym h ∙ not-below s m e t))
-
-pub within : (v : Float) → lt (largest false) v ≡ false → lt v (largest true) ≡ false → limited_of v ≡ record { value = v; over = false }
-unfolding lt limited_of
-within nan h k = refl
-within (inf true) h k = absurd (true≢false k)
-within (inf false) h k = absurd (true≢false h)
-within (fin s m e) h k = refl

@@ -12,8 +12,8 @@ use lib.Ieee.Scale.{finite}
 use denote.Floats.{passes}
 use borrow.Author.Tests.{eqb-true}
 use Rattle.laws.specs.Outcome.{accepted, refused}
-use Rattle.points.specs.declared.WholeGate.{WholeGate}
-use Rattle.points.specs.declared.WholeGate.TheVariants as W
+use Rattle.points.specs.declared.Gate.{Gate}
+use Rattle.points.specs.declared.Gate.TheVariants as G
 use Rattle.points.specs.declared.AnalogKind.{AnalogKind}
 use Rattle.points.specs.declared.AnalogKind.TheVariants as Ks
 use Rattle.points.specs.declared.AnalogSetup.{AnalogSetup}
@@ -21,19 +21,17 @@ use Rattle.points.specs.declared.AnalogState.{AnalogState}
 use Rattle.points.specs.declared.AnalogState.TheVariants as Ms
 use Rattle.points.specs.declared.Value.{Value}
 use Rattle.points.specs.declared.Value.TheVariants as Vs
-use Rattle.points.specs.declared.WholeGateState.{WholeGateState}
-use Rattle.points.specs.declared.FloatGateState.{FloatGateState}
+use Rattle.points.specs.declared.GateState.{GateState}
+use Rattle.points.specs.declared.Scale.{Scale}
+use Rattle.points.specs.Gate.{whole_gate, float_gate}
 use Rattle.points.specs.declared.AnalogPoint.{AnalogPoint}
-use Rattle.points.specs.Scaling.{scale_value, clamp_value}
+use Rattle.points.specs.Scaling.{plus_zero, scale_value, clamp_value}
 use Rattle.points.specs.Reading.{
   flags_above,
   shown_flags,
   is_reported,
   is_raised,
-  whole_gate,
-  float_gate,
-  whole_gate_after,
-  float_gate_after,
+  gate_after,
   whole_after,
   float32_after,
   whole_by,
@@ -81,13 +79,13 @@ unfolding is_reported
 first-reported flags last b = refl
 
 -- ---- whole points
-whole-zero : (g : WholeGate) → T (whole_sum_ok g 0)
-whole-zero W.Never = tt
-whole-zero W.AnyChange = tt
-whole-zero (W.Beyond l) = tt
-whole-zero (W.Summed l) = le→leb 0 l zero-le
+whole-zero : (g : Gate ℕ) → T (whole_sum_ok g 0)
+whole-zero G.Never = tt
+whole-zero G.AnyChange = tt
+whole-zero (G.Beyond l) = tt
+whole-zero (G.Summed l) = le→leb 0 l zero-le
 
-whole-gate-after-ok : (t : WholeGateState) (z : ℤ) (r : Bool) → T (whole_sum_ok t.gate (whole_gate_after t z r (whole_gate t z).sum).sum)
+whole-gate-after-ok : (t : GateState ℤ ℕ) (z : ℤ) (r : Bool) → T (whole_sum_ok t.gate (gate_after t z r (whole_gate t z).sum 0).sum)
 whole-gate-after-ok t z true = whole-zero t.gate
 whole-gate-after-ok t z false = whole-kept t.gate z t.reported_value t.previous t.sum
 
@@ -96,7 +94,7 @@ pub whole-reading-ok : (p : AnalogPoint) (z : ℤ) (flags : ℕ) → AnalogAfter
 unfolding read_whole
 whole-reading-ok p z flags = go p.gate_state
   where
-    long : (t : WholeGateState) (b : Bool) → AnalogAfterOk (cond b (refused 4) (accepted (whole_after p t z (Vs.Int32 z) flags Ms.Int32)))
+    long : (t : GateState ℤ ℕ) (b : Bool) → AnalogAfterOk (cond b (refused 4) (accepted (whole_after p t z (Vs.Int32 z) flags Ms.Int32)))
     long t true = tt
     long t false =
         record {
@@ -105,7 +103,7 @@ whole-reading-ok p z flags = go p.gate_state
           flags = last-shown p.seen flags p.reported_flags (whole_gate t z).pass;
         }
 
-    short : (t : WholeGateState) (f : ℕ) (b : Bool) →
+    short : (t : GateState ℤ ℕ) (f : ℕ) (b : Bool) →
         AnalogAfterOk (cond b (refused 4) (accepted (whole_after p t z (Vs.Int16 (clamp_value z).value) f Ms.Int16)))
     short t f true = tt
     short t f false =
@@ -118,14 +116,14 @@ whole-reading-ok p z flags = go p.gate_state
     go : (m : AnalogState) → AnalogAfterOk (whole_by m p z flags)
     go (Ms.Int32 t) = long t (flags_above flags)
     go (Ms.Int16 t) = short t (shown_flags (clamp_value z).over flags) (flags_above flags)
-    go (Ms.Float32 t) = tt
+    go (Ms.Float32 t s) = tt
 
 -- ---- float points
-float-gate-after-ok : (t : FloatGateState) (v : Float) (r : Bool) → GateStateOk t → T (finite v) → GateStateOk (float_gate_after t v r (float_gate t v).sum)
-float-gate-after-ok t v true h f =
+float-gate-after-ok : (t : GateState Float Float) (c : Scale) (v : Float) (r : Bool) → GateStateOk t c → T (finite v) → GateStateOk (gate_after t v r (float_gate t v).sum plus_zero) c
+float-gate-after-ok t c v true h f =
     let s = zero_ok t.gate h.gate in
     record { scale = h.scale; gate = h.gate; reported_value = f; previous = f; sum = s.finite; sign = s.sign; within = s.within }
-float-gate-after-ok t v false h f =
+float-gate-after-ok t c v false h f =
     let s =
     float-kept t.gate v t.reported_value t.previous t.sum h.gate f h.previous
     (record { finite = h.sum; sign = h.sign; within = h.within }) in
@@ -135,18 +133,17 @@ pub float-reading-ok : (p : AnalogPoint) (x : Float) (flags : ℕ) → PointOk p
 unfolding read_float
 float-reading-ok p x flags h = go p.gate_state h.gate_state
   where
-    real : (t : FloatGateState) (f : ℕ) → GateStateOk t → (a b : Bool) → finite x ≡ a →
-        AnalogAfterOk (cond (not a) (refused 3) (cond b (refused 4) (accepted (float32_after p t (scale_value t.scale x).value f))))
-    real t f k false b e = tt
-    real t f k true true e = tt
-    real t f k true false e =
-        let s = t.scale in
+    real : (t : GateState Float Float) (s : Scale) (f : ℕ) → GateStateOk t s → (a b : Bool) → finite x ≡ a →
+        AnalogAfterOk (cond (not a) (refused 3) (cond b (refused 4) (accepted (float32_after p t s (scale_value s x).value f))))
+    real t s f k false b e = tt
+    real t s f k true true e = tt
+    real t s f k true false e =
         let v = (scale_value s x).value in
         let g = and_l (finite s.gain) (finite s.offset) k.scale in
         let o = and_r (finite s.gain) (finite s.offset) k.scale in
         let w = shown-finite s x g o (passes _ e) in
         record {
-          gate_state = float-gate-after-ok t v (is_reported p.seen f p.reported_flags (float_gate t v).pass) k w;
+          gate_state = float-gate-after-ok t s v (is_reported p.seen f p.reported_flags (float_gate t v).pass) k w;
           value = w;
           flags = last-shown p.seen f p.reported_flags (float_gate t v).pass;
         }
@@ -154,7 +151,7 @@ float-reading-ok p x flags h = go p.gate_state h.gate_state
     go : (m : AnalogState) → AnalogStateOk m → AnalogAfterOk (float_by m p x flags)
     go (Ms.Int32 t) k = tt
     go (Ms.Int16 t) k = tt
-    go (Ms.Float32 t) k = real t (shown_flags (scale_value t.scale x).over flags) k (finite x) (flags_above flags) refl
+    go (Ms.Float32 t s) k = real t s (shown_flags (scale_value s x).over flags) k (finite x) (flags_above flags) refl
 
 -- ---- a point before its first reading
 pub fresh_ok : (a : AnalogSetup) → T (analog_ok a) → PointOk (fresh_analog a)
@@ -188,4 +185,4 @@ shown-never-infinite a p v h r e = go p.gate_state (subst (λ (w : Value). T (sh
     go : (m : AnalogState) → T (shown_ok m (Vs.Float32 v)) → T (finite v)
     go (Ms.Int32 t) k = absurd k
     go (Ms.Int16 t) k = absurd k
-    go (Ms.Float32 t) k = k
+    go (Ms.Float32 t s) k = k

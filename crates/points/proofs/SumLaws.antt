@@ -36,12 +36,9 @@ use lib.Ieee.Fits.{round_is, and_l, and_r}
 use denote.Floats.{passes}
 use lib.Ieee.Scale.{finite}
 use borrow.Author.Tests.{ltb-false, eq-eqb}
-use Rattle.points.specs.declared.FloatGated.{FloatGated}
-use Rattle.points.specs.declared.WholeGated.{WholeGated}
-use Rattle.points.specs.declared.FloatGate.{FloatGate}
-use Rattle.points.specs.declared.FloatGate.TheVariants as F
-use Rattle.points.specs.declared.WholeGate.{WholeGate}
-use Rattle.points.specs.declared.WholeGate.TheVariants as W
+use Rattle.points.specs.declared.Gated.{Gated}
+use Rattle.points.specs.declared.Gate.{Gate}
+use Rattle.points.specs.declared.Gate.TheVariants as G
 use Rattle.points.specs.Scaling.{plus_zero}
 use Rattle.points.specs.Setup.{float_gate_ok}
 use Rattle.points.specs.Gate.{drop_sign, float_distance, total_of, gate_float, gate_whole}
@@ -137,23 +134,23 @@ not-above (fin s m e) (inf _) p q h = elim q [ ]
 not-above (fin s m e) (fin t n d) p q h = ordered s t (m * up e * down d) (n * up d * down e) h
 
 -- ---- a float gate's sum
-pub record SumOk (g : FloatGate) (sum : Float) : Type 0 where
+pub record SumOk (g : Gate Float) (sum : Float) : Type 0 where
   pub finite : T (finite sum)
   pub sign : T (plus sum)
   pub within : T (float_sum_ok g sum)
 
-pub zero_ok : (g : FloatGate) → T (float_gate_ok g) → SumOk g plus_zero
-zero_ok F.Never h = record { finite = tt; sign = tt; within = tt }
-zero_ok F.AnyChange h = record { finite = tt; sign = tt; within = tt }
-zero_ok (F.Beyond l) h = record { finite = tt; sign = tt; within = tt }
-zero_ok (F.Summed l) h = record { finite = tt; sign = tt; within = and_r (finite l) (le plus_zero l) h }
+pub zero_ok : (g : Gate Float) → T (float_gate_ok g) → SumOk g plus_zero
+zero_ok G.Never h = record { finite = tt; sign = tt; within = tt }
+zero_ok G.AnyChange h = record { finite = tt; sign = tt; within = tt }
+zero_ok (G.Beyond l) h = record { finite = tt; sign = tt; within = tt }
+zero_ok (G.Summed l) h = record { finite = tt; sign = tt; within = and_r (finite l) (le plus_zero l) h }
 
-pub float-kept : (g : FloatGate) (v r p s : Float) → T (float_gate_ok g) → T (finite v) → T (finite p) → SumOk g s →
+pub float-kept : (g : Gate Float) (v r p s : Float) → T (float_gate_ok g) → T (finite v) → T (finite p) → SumOk g s →
     SumOk g (gate_float g v r p s).sum
-float-kept F.Never v r p s h fv fp k = k
-float-kept F.AnyChange v r p s h fv fp k = k
-float-kept (F.Beyond l) v r p s h fv fp k = k
-float-kept (F.Summed l) v r p s h fv fp k = go (lt l (total_of s v p)) refl
+float-kept G.Never v r p s h fv fp k = k
+float-kept G.AnyChange v r p s h fv fp k = k
+float-kept (G.Beyond l) v r p s h fv fp k = k
+float-kept (G.Summed l) v r p s h fv fp k = go (lt l (total_of s v p)) refl
   where
     t-plus : T (plus (total_of s v p))
     t-plus = add-plus s (float_distance v p) k.sign k.finite (distance-plus v p fv fp)
@@ -162,23 +159,23 @@ float-kept (F.Summed l) v r p s h fv fp k = go (lt l (total_of s v p)) refl
     l-fin = and_l (finite l) (le plus_zero l) h
 
     go : (b : Bool) → lt l (total_of s v p) ≡ b →
-        SumOk (F.Summed l) (cond {A = FloatGated} b (record { pass = true; sum = plus_zero }) (record { pass = false; sum = total_of s v p })).sum
-    go true e = zero_ok (F.Summed l) h
+        SumOk (G.Summed l) (cond {A = Gated Float} b (record { pass = true; sum = plus_zero }) (record { pass = false; sum = total_of s v p })).sum
+    go true e = zero_ok (G.Summed l) h
     go false e =
         let f = not_infinite l (total_of s v p) l-fin t-plus e in
         record { finite = f; sign = t-plus; within = passes _ (not-above l (total_of s v p) l-fin f e) }
 
 -- ---- a whole gate's sum
-pub summed_kept : (l : ℕ) (v r p : ℤ) (s : ℕ) → (gate_whole (W.Summed l) v r p s).sum ≤ l
+pub summed_kept : (l : ℕ) (v r p : ℤ) (s : ℕ) → (gate_whole (G.Summed l) v r p s).sum ≤ l
 summed_kept l v r p s = go (ltb l (s + nat_abs (v -ℤ p))) refl
   where
     go : (b : Bool) → ltb l (s + nat_abs (v -ℤ p)) ≡ b →
-        (cond {A = WholeGated} b (record { pass = true; sum = 0 }) (record { pass = false; sum = s + nat_abs (v -ℤ p) })).sum ≤ l
+        (cond {A = Gated ℕ} b (record { pass = true; sum = 0 }) (record { pass = false; sum = s + nat_abs (v -ℤ p) })).sum ≤ l
     go true e = zero-le
     go false e = ltb-false l (s + nat_abs (v -ℤ p)) e
 
-pub whole-kept : (g : WholeGate) (v r p : ℤ) (s : ℕ) → T (whole_sum_ok g (gate_whole g v r p s).sum)
-whole-kept W.Never v r p s = tt
-whole-kept W.AnyChange v r p s = tt
-whole-kept (W.Beyond l) v r p s = tt
-whole-kept (W.Summed l) v r p s = le→leb _ l (summed_kept l v r p s)
+pub whole-kept : (g : Gate ℕ) (v r p : ℤ) (s : ℕ) → T (whole_sum_ok g (gate_whole g v r p s).sum)
+whole-kept G.Never v r p s = tt
+whole-kept G.AnyChange v r p s = tt
+whole-kept (G.Beyond l) v r p s = tt
+whole-kept (G.Summed l) v r p s = le→leb _ l (summed_kept l v r p s)

@@ -2,7 +2,7 @@
 -- Assumes nothing.
 use Rattle.std.specs.Prelude.{ℕ, false, List, pos, take}
 use Rattle.points.specs.declared.Value.TheVariants as Vs
-use Rattle.points.specs.declared.WholeGate.TheVariants as W
+use Rattle.points.specs.declared.Gate.TheVariants as G
 use Rattle.points.specs.declared.AnalogState.TheVariants as Ms
 use Rattle.points.specs.declared.BinaryPoint.{BinaryPoint}
 use Rattle.points.specs.declared.AnalogPoint.{AnalogPoint}
@@ -34,5 +34,5 @@ no_analog =
       value = Vs.Int32 (pos 0);
       flags = 0;
       reported_flags = 0;
-      gate_state = Ms.Int32 (record { gate = W.Never; reported_value = pos 0; previous = pos 0; sum = 0 });
+      gate_state = Ms.Int32 (record { gate = G.Never; reported_value = pos 0; previous = pos 0; sum = 0 });
     }

@@ -6,8 +6,7 @@ use Rattle.std.specs.Float.{nan, inf, fin, binary32}
 use Rattle.std.specs.Float.Ieee.{mul, add}
 use Rattle.laws.specs.First.{first, ◌⇒◌}
 use Rattle.points.specs.declared.Scale.{Scale}
-use Rattle.points.specs.declared.Scaled.{Scaled}
-use Rattle.points.specs.declared.Clamped.{Clamped}
+use Rattle.points.specs.declared.Saturated.{Saturated}
 
 -- "Its value is reading × gain, then + offset, each rounded once."
 abbrev pub scaled : Float → Float → Float → Float
@@ -18,17 +17,17 @@ abbrev pub largest : Bool → Float
 largest s = fin s 16777215 (pos 104)
 
 -- "An infinite value becomes the largest finite one of that sign with over-range (bit 5) set."
-unfoldable pub limited_of : Float → Scaled
+unfoldable pub limited_of : Float → Saturated Float
 limited_of nan = record { value = nan; over = false }
 limited_of (inf s) = record { value = largest s; over = true }
 limited_of (fin s m e) = record { value = fin s m e; over = false }
 
 -- the value that a float point shows for the reading x
-abbrev pub scale_value : Scale → Float → Scaled
+abbrev pub scale_value : Scale → Float → Saturated Float
 scale_value s x = limited_of (scaled x s.gain s.offset)
 
 -- "A 16-bit point outside −32,768 to 32,767 shows the nearer end with over-range."
-unfoldable pub clamp_value : ℤ → Clamped
+unfoldable pub clamp_value : ℤ → Saturated ℤ
 clamp_value z =
     first
     (lt_z (pos 32767) z ⇒ record { value = pos 32767; over = true }

@@ -4,9 +4,8 @@ use Rattle.std.specs.Prelude.{Bool, true, false, ◌&&◌, ℕ, leb, pos, Float}
 use Rattle.std.specs.Float.Ieee.{le}
 use Rattle.std.specs.Float.Ieee.Scale.{finite}
 use Rattle.points.specs.declared.Scale.{Scale}
-use Rattle.points.specs.declared.FloatGate.{FloatGate}
-use Rattle.points.specs.declared.FloatGate.TheVariants as F
-use Rattle.points.specs.declared.WholeGate.{WholeGate}
+use Rattle.points.specs.declared.Gate.{Gate}
+use Rattle.points.specs.declared.Gate.TheVariants as G
 use Rattle.points.specs.declared.AnalogKind.{AnalogKind}
 use Rattle.points.specs.declared.AnalogKind.TheVariants as Ks
 use Rattle.points.specs.declared.AnalogSetup.{AnalogSetup}
@@ -14,8 +13,7 @@ use Rattle.points.specs.declared.Value.{Value}
 use Rattle.points.specs.declared.Value.TheVariants as Vs
 use Rattle.points.specs.declared.AnalogState.{AnalogState}
 use Rattle.points.specs.declared.AnalogState.TheVariants as Ms
-use Rattle.points.specs.declared.WholeGateState.{WholeGateState}
-use Rattle.points.specs.declared.FloatGateState.{FloatGateState}
+use Rattle.points.specs.declared.GateState.{GateState}
 use Rattle.points.specs.declared.BinaryPoint.{BinaryPoint}
 use Rattle.points.specs.declared.AnalogPoint.{AnalogPoint}
 use Rattle.points.specs.Scaling.{plus_zero}
@@ -32,11 +30,11 @@ scale_ok s = finite s.gain && finite s.offset
 abbrev pub limit_ok : Float → Bool
 limit_ok l = finite l && le plus_zero l
 
-abbrev pub float_gate_ok : FloatGate → Bool
-float_gate_ok F.Never = true
-float_gate_ok F.AnyChange = true
-float_gate_ok (F.Beyond l) = limit_ok l
-float_gate_ok (F.Summed l) = limit_ok l
+abbrev pub float_gate_ok : Gate Float → Bool
+float_gate_ok G.Never = true
+float_gate_ok G.AnyChange = true
+float_gate_ok (G.Beyond l) = limit_ok l
+float_gate_ok (G.Summed l) = limit_ok l
 
 -- a point of each kind has a gate of its own kind, by the type
 abbrev pub kind_ok : AnalogKind → Bool
@@ -52,20 +50,17 @@ analog_ok a = class_ok a.class && kind_ok a.kind
 abbrev pub fresh_binary : ℕ → BinaryPoint
 fresh_binary class = record { class = class; seen = false; state = false; flags = 2; reported_flags = 2 }
 
-abbrev pub fresh_whole : WholeGate → WholeGateState
-fresh_whole g = record { gate = g; reported_value = pos 0; previous = pos 0; sum = 0 }
-
-abbrev pub fresh_float : FloatGate → Scale → FloatGateState
-fresh_float g s = record { scale = s; gate = g; reported_value = plus_zero; previous = plus_zero; sum = plus_zero }
+abbrev pub fresh_gate : {V L : Type 0} → Gate L → V → L → GateState V L
+fresh_gate g value sum = record { gate = g; reported_value = value; previous = value; sum = sum }
 
 abbrev pub fresh_with : ℕ → Value → AnalogState → AnalogPoint
 fresh_with class value gate_state =
     record { class = class; seen = false; value = value; flags = 2; reported_flags = 2; gate_state = gate_state }
 
 abbrev pub fresh_by : ℕ → AnalogKind → AnalogPoint
-fresh_by class (Ks.Int32 g) = fresh_with class (Vs.Int32 (pos 0)) (Ms.Int32 (fresh_whole g))
-fresh_by class (Ks.Int16 g) = fresh_with class (Vs.Int16 (pos 0)) (Ms.Int16 (fresh_whole g))
-fresh_by class (Ks.Float32 g s) = fresh_with class (Vs.Float32 plus_zero) (Ms.Float32 (fresh_float g s))
+fresh_by class (Ks.Int32 g) = fresh_with class (Vs.Int32 (pos 0)) (Ms.Int32 (fresh_gate g (pos 0) 0))
+fresh_by class (Ks.Int16 g) = fresh_with class (Vs.Int16 (pos 0)) (Ms.Int16 (fresh_gate g (pos 0) 0))
+fresh_by class (Ks.Float32 g s) = fresh_with class (Vs.Float32 plus_zero) (Ms.Float32 (fresh_gate g plus_zero plus_zero) s)
 
 unfoldable pub fresh_analog : AnalogSetup → AnalogPoint
 fresh_analog a = fresh_by a.class a.kind

@@ -28,7 +28,7 @@ use Rattle.point_store.specs.PointWords.{binaries_in, analogs_in}
 use Rattle.outstation.specs.Lent.{Lent, HeadCountsWithin, view_of, wait_of, with_words, with_outputs}
 use Rattle.restart.specs.declared.SetupWords.{SetupWords}
 use Rattle.restart.specs.declared.AnalogSetupWords.{AnalogSetupWords}
-use Rattle.restart.specs.Restart.{analog_setup_of, outputs_given, setup_with, setup_of, front_ok, fresh_head}
+use Rattle.restart.specs.Restart.{analog_setup_of, outputs_given, setup_with, setup_of, front_ok, given_ok, fresh_head}
 
 -- ---- the limits
 
@@ -121,10 +121,6 @@ module _ (s : SetupWords) (classes : List ℕ) (m : ℕ) (h : front_ok s classes
 map-map : {A B C : Type 0} (f : A → B) (g : B → C) (l : List A) → map g (map f l) ≡ map (λ x. g (f x)) l
 map-map f g [] = refl
 map-map f g (x ∷ l) = λ k. g (f x) ∷ map-map f g l k
-
--- whether an analog output is good
-abbrev pub given_ok : AnalogOutputWords → Bool
-given_ok w = output_ok (output_given w)
 
 -- the analog outputs that count, as numbers
 module _ (s : SetupWords) where

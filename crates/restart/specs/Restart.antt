@@ -1,33 +1,35 @@
 -- A setup in numbers, and the head and words that a restart gives. Any numbers stand for a setup.
 -- Assumes nothing.
-use Rattle.std.specs.Prelude.{ℕ, ◌+◌, ◌≡◌, Bool, true, false, cond, List, [], ◌∷◌, map, eqb, ltb, length, take}
+use Rattle.std.specs.Prelude.{ℕ, ◌≡◌, Bool, cond, List, [], ◌∷◌, map, eqb, length}
 use Rattle.std.specs.Float.{binary32}
 use Rattle.std.specs.Float.Ieee.{of_bits}
 use Rattle.laws.specs.First.{first, ◌⇒◌}
 use Rattle.points.specs.declared.AnalogKind.{AnalogKind}
 use Rattle.points.specs.declared.AnalogKind.TheVariants as Ks
 use Rattle.points.specs.declared.AnalogSetup.{AnalogSetup}
-use Rattle.points.specs.Setup.{analog_ok, fresh_binary}
+use Rattle.points.specs.declared.AnalogPoint.{AnalogPoint}
+use Rattle.points.specs.Setup.{analog_ok, fresh_analog}
 use Rattle.analog_outputs.specs.declared.AnalogOutput.{AnalogOutput}
-use Rattle.analog_outputs.specs.OutputWords.{output_given, outputs_in}
+use Rattle.analog_outputs.specs.declared.AnalogOutputWords.{AnalogOutputWords}
+use Rattle.analog_outputs.specs.Output.{output_ok}
+use Rattle.analog_outputs.specs.OutputWords.{output_given}
 use Rattle.outstation.specs.Setup.{Setup, setup_ok}
 use Rattle.outstation.specs.OutstationView.{restarted, bare_setup}
-use Rattle.point_store.specs.PointWords.{whole_gate_of, float_gate_of, binaries_in}
+use Rattle.point_store.specs.PointWords.{gate_of}
 use Rattle.outstation.specs.declared.Head.{Head}
 use Rattle.outstation.specs.Lent.{Lent, with_outputs, outstation_view, CountsWithin, on}
 use Rattle.restart.specs.declared.SetupWords.{SetupWords}
 use Rattle.restart.specs.declared.AnalogSetupWords.{AnalogSetupWords}
-use Rattle.restart.specs.declared.RestartProgress.{RestartProgress}
 use Rattle.restart.specs.declared.Restarted.{Restarted}
 
 -- kind 0: a 32-bit point; 1: a 16-bit point; any other: a float point
 abbrev pub analog_kind_of : AnalogSetupWords → AnalogKind
 analog_kind_of w =
     first
-    (eqb w.kind 0 ⇒ Ks.Int32 (whole_gate_of w.gate w.limit)
-    ∷ eqb w.kind 1 ⇒ Ks.Int16 (whole_gate_of w.gate w.limit)
+    (eqb w.kind 0 ⇒ Ks.Int32 (gate_of w.gate w.limit)
+    ∷ eqb w.kind 1 ⇒ Ks.Int16 (gate_of w.gate w.limit)
     ∷ [])
-    (Ks.Float32 (float_gate_of w.gate w.limit) (record { gain = of_bits binary32 w.gain; offset = of_bits binary32 w.offset }))
+    (Ks.Float32 (gate_of w.gate (of_bits binary32 w.limit)) (record { gain = of_bits binary32 w.gain; offset = of_bits binary32 w.offset }))
 
 unfoldable pub analog_setup_of : AnalogSetupWords → AnalogSetup
 analog_setup_of w = record { class = w.class; kind = analog_kind_of w }
@@ -57,29 +59,19 @@ setup_with s n classes m analogs outputs =
 abbrev pub setup_of : SetupWords → List ℕ → List AnalogSetupWords → Setup
 setup_of s classes setups = setup_with s (length classes) classes (length setups) (map analog_setup_of setups) (outputs_given s)
 
--- ---- how it goes: all but the analogs, then each analog
-
+-- all but the analogs
 abbrev pub front_ok : SetupWords → List ℕ → ℕ → Bool
 front_ok s classes m = setup_ok (setup_with s (length classes) classes m [] (outputs_given s))
 
--- what it then says of the binaries' and the analog outputs' words
-pub record Fresh (s : SetupWords) (classes : List ℕ) (m : ℕ) (bs os : List ℕ) : Type 0 where
-  pub binaries : front_ok s classes m ≡ true → take (length classes) (binaries_in bs) ≡ map fresh_binary classes
-  pub outputs : front_ok s classes m ≡ true → take s.analog_output_count (outputs_in os) ≡ take s.analog_output_count (outputs_given s)
+-- whether an analog output and an analog input, as given, keep the limits; and the fresh analog
+abbrev pub given_ok : AnalogOutputWords → Bool
+given_ok w = output_ok (output_given w)
 
-abbrev pub begin_restart : Bool → RestartProgress
-begin_restart ok = record { at = 0; refusal = cond ok 0 5 }
+abbrev pub analog_given_ok : AnalogSetupWords → Bool
+analog_given_ok w = analog_ok (analog_setup_of w)
 
--- nothing was refused and an analog is left
-abbrev pub analogs_left : RestartProgress → ℕ → Bool
-analogs_left g n = cond (eqb g.refusal 0) (ltb g.at n) false
-
-abbrev pub progress_after : Bool → RestartProgress → RestartProgress
-progress_after true g = record { at = g.at + 1; refusal = 0 }
-progress_after false g = record { at = g.at; refusal = 5 }
-
-abbrev pub add_analog : RestartProgress → AnalogSetupWords → RestartProgress
-add_analog g w = progress_after (analog_ok (analog_setup_of w)) g
+abbrev pub fresh_analog_of : AnalogSetupWords → AnalogPoint
+fresh_analog_of w = fresh_analog (analog_setup_of w)
 
 -- ---- what it gives
 
@@ -111,10 +103,9 @@ fresh_head arm confirm outputs analog_outputs binaries analogs =
       analog_outputs = analog_outputs;
     }
 
-abbrev pub finish_restart : SetupWords → ℕ → RestartProgress → Restarted
-finish_restart s n g =
-    cond (eqb g.refusal 0) (record { head = fresh_head s.arm_time s.confirm_time s.outputs s.analog_output_count n g.at; refusal = 0 })
-    (record { head = fresh_head 0 0 0 0 0 0; refusal = 5 })
+-- of a refused setup
+abbrev pub no_outstation : Restarted
+no_outstation = record { head = fresh_head 0 0 0 0 0 0; refusal = 5 }
 
 -- a restart with the setup s, classes and setups left the head h, the points' words bs and ps, and the analog outputs' words os
 pub record RestartHolds (s : SetupWords) (classes : List ℕ) (setups : List AnalogSetupWords) (refusal : ℕ) (h : Head) (bs ps os : List ℕ) : Type 0 where

@@ -1,17 +1,16 @@
-// Restart (document 01, "The cubicle's equipment"), step by step: a setup in numbers is tested while its fresh points and its analog outputs go
-// into the lent words; the head then says that nothing is held, awaited, kept or selected. Whoever has the setup walks its analogs: the exported call a lent slice,
-// a program in Rattle an array of its own.
+// Restart (document 01, "The cubicle's equipment"): a setup in numbers is tested while its fresh points and its analog outputs go into the lent
+// words; the head then says that nothing is held, awaited, kept or selected.
 #![tactic(auto)]
 
-ghost use Rattle.std.specs.Prelude.{◌≡◌, true, [], map, ◌<◌, ◌≤◌, length, take, set};
+ghost use Rattle.std.specs.Prelude.{◌≡◌, true, [], map, ◌≤◌, length, take};
 ghost use Rattle.laws.specs.Lists.{all};
 ghost use Rattle.laws.specs.Limits.{points_max};
-ghost use Rattle.points.specs.Setup.{class_ok, analog_ok, fresh_binary, fresh_analog};
-ghost use Rattle.analog_outputs.specs.Output.{analog_outputs_max, output_ok};
-ghost use Rattle.analog_outputs.specs.OutputWords.{outputs_in};
+ghost use Rattle.points.specs.Setup.{class_ok, fresh_binary};
+ghost use Rattle.analog_outputs.specs.Output.{analog_outputs_max};
+ghost use Rattle.analog_outputs.specs.OutputWords.{outputs_in, output_given};
 ghost use Rattle.outstation.specs.Setup.{setup_ok};
 ghost use Rattle.point_store.specs.PointWords.{binaries_in, analogs_in};
-ghost use Rattle.restart.specs.Restart.{analog_setup_of, outputs_given, setup_with, front_ok, Fresh, begin_restart, analogs_left, add_analog, finish_restart};
+ghost use Rattle.restart.specs.Restart.{analog_setup_of, given_ok, analog_given_ok, fresh_analog_of, setup_with, fresh_head, no_outstation, RestartHolds};
 
 use analog_outputs::{ANALOG_OUTPUT_WORDS, ANALOG_OUTPUTS_MAX, AnalogOutputWords};
 use outstation::Head;
@@ -61,39 +60,25 @@ pub struct Restarted {
     pub refusal: u8,
 }
 
-// How many analogs are stored, and the refusal that stopped the setup, 0 where none did.
-#[derive(Clone, Copy)]
-pub struct RestartProgress {
-    pub at: usize,
-    pub refusal: u8,
-}
-
+#[tactic(auto, unfolding(crate::specs::Restart::analog_setup_of))]
 fn analog_setup_of(w: AnalogSetupWords) -> AnalogSetup
     ensures { result ≡ analog_setup_of w }
 {
-    let gate = w.gate as u32;
-    if w.kind == 0 {
-        let k = AnalogKind::Int32(point_store::whole_gate_of(gate, w.limit));
-        return AnalogSetup {
-            class: w.class,
-            kind: k,
-        };
-    }
-    if w.kind == 1 {
-        let k = AnalogKind::Int16(point_store::whole_gate_of(gate, w.limit));
-        return AnalogSetup {
-            class: w.class,
-            kind: k,
-        };
-    }
-    let s = Scale {
-        gain: words::float(w.gain),
-        offset: words::float(w.offset),
+    let gate = u32::from(w.gate);
+    let kind = match w.kind {
+        0 => AnalogKind::Int32(point_store::gate_of(gate, w.limit)),
+        1 => AnalogKind::Int16(point_store::gate_of(gate, w.limit)),
+        _ => {
+            let s = Scale {
+                gain: words::float(w.gain),
+                offset: words::float(w.offset),
+            };
+            AnalogKind::Float32(point_store::gate_of(gate, words::float(w.limit)), s)
+        }
     };
-    let k = AnalogKind::Float32(point_store::float_gate_of(gate, w.limit), s);
     AnalogSetup {
         class: w.class,
-        kind: k,
+        kind,
     }
 }
 
@@ -101,37 +86,16 @@ fn analog_setup_of(w: AnalogSetupWords) -> AnalogSetup
 fn limits_ok(s: SetupWords, binaries: usize, analogs: usize) -> bool
     ensures { result ≡ setup_ok (setup_with s binaries [] analogs [] []) }
 {
-    if POINTS_MAX < binaries {
-        return false;
-    }
-    if POINTS_MAX < analogs {
-        return false;
-    }
-    if OUTPUTS_MAX < s.outputs {
-        return false;
-    }
-    if ANALOG_OUTPUTS_MAX < s.analog_output_count as usize {
-        return false;
-    }
-    if ADDRESS_MAX < s.own {
-        return false;
-    }
-    if ADDRESS_MAX < s.master {
-        return false;
-    }
-    if s.own == s.master {
-        return false;
-    }
-    if ARM_TIME_MAX < s.arm_time {
-        return false;
-    }
-    if s.confirm_time < 1 {
-        return false;
-    }
-    if CONFIRM_TIME_MAX < s.confirm_time {
-        return false;
-    }
-    true
+    binaries <= POINTS_MAX
+        && analogs <= POINTS_MAX
+        && s.outputs <= OUTPUTS_MAX
+        && usize::from(s.analog_output_count) <= ANALOG_OUTPUTS_MAX
+        && s.own <= ADDRESS_MAX
+        && s.master <= ADDRESS_MAX
+        && s.own != s.master
+        && s.arm_time <= ARM_TIME_MAX
+        && 1 <= s.confirm_time
+        && s.confirm_time <= CONFIRM_TIME_MAX
 }
 
 // Stores the fresh binaries, up to the first whose class is none.
@@ -139,110 +103,62 @@ fn fresh_binaries(binaries: &mut [u32; BINARY_WORDS], classes: &[u8]) -> bool
     requires { length classes.now ≤ points_max }
     ensures { (result ≡ all (map class_ok classes.now)) × (result ≡ true → take (length classes.now) (binaries_in binaries.new) ≡ map fresh_binary classes.now) }
 {
-    let n = classes.len();
-    let mut i: usize = 0;
-    while i < n {
-        let class = classes[i];
-        if points::class_ok(class) {
-            point_store::store_binary(binaries, i, points::fresh_binary(class));
-            i += 1;
-        } else {
+    for (i, class) in classes.iter().enumerate() {
+        if !points::class_ok(*class) {
             return false;
         }
+        point_store::store_binary(binaries, i, points::fresh_binary(*class));
     }
     true
 }
 
 // Stores the analog outputs, up to the first whose ends are not allowed.
-fn fresh_outputs(outputs: &mut [u32; ANALOG_OUTPUT_WORDS], s: SetupWords) -> bool
-    requires { s.analog_output_count ≤ analog_outputs_max }
-    ensures { (result ≡ all (map output_ok (take s.analog_output_count (outputs_given s)))) × (result ≡ true → take s.analog_output_count (outputs_in outputs.new) ≡ take s.analog_output_count (outputs_given s)) }
+fn fresh_outputs(outputs: &mut [u32; ANALOG_OUTPUT_WORDS], given: &[AnalogOutputWords]) -> bool
+    requires { length given.now ≤ analog_outputs_max }
+    ensures { (result ≡ all (map given_ok given.now)) × (result ≡ true → take (length given.now) (outputs_in outputs.new) ≡ map output_given given.now) }
 {
-    let n = s.analog_output_count as usize;
-    let mut i: usize = 0;
-    while i < n {
-        let w = s.analog_outputs[i];
-        let o = analog_outputs::output_of(w.kind as u32, w.low, w.high);
-        if analog_outputs::output_ok(o) {
-            analog_outputs::store_output(outputs, i, w);
-            i += 1;
-        } else {
+    for (i, w) in given.iter().enumerate() {
+        let o = analog_outputs::output_of(u32::from(w.kind), w.low, w.high);
+        if !analog_outputs::output_ok(o) {
             return false;
         }
+        analog_outputs::store_output(outputs, i, *w);
     }
     true
 }
 
-// All but the analogs.
-pub fn begin_restart(
-    s: SetupWords,
-    classes: &[u8],
-    analogs: usize,
-    binaries: &mut [u32; BINARY_WORDS],
-    outputs: &mut [u32; ANALOG_OUTPUT_WORDS],
-) -> RestartProgress
-    ensures { (result ≡ begin_restart (front_ok s classes.now analogs)) × Fresh s classes.now analogs binaries.new outputs.new }
+// Stores the fresh analogs, up to the first whose setup breaks a limit.
+fn fresh_analogs(analogs: &mut [u32; ANALOG_WORDS], setups: &[AnalogSetupWords]) -> bool
+    requires { length setups.now ≤ points_max }
+    ensures { (result ≡ all (map analog_given_ok setups.now)) × (result ≡ true → take (length setups.now) (analogs_in analogs.new) ≡ map fresh_analog_of setups.now) }
 {
-    if limits_ok(s, classes.len(), analogs) {
-        if fresh_binaries(binaries, classes) {
-            if fresh_outputs(outputs, s) {
-                return RestartProgress { at: 0, refusal: 0 };
-            }
+    for (i, w) in setups.iter().enumerate() {
+        let a = analog_setup_of(*w);
+        if !points::analog_ok(a) {
+            return false;
         }
-    }
-    RestartProgress { at: 0, refusal: 5 }
-}
-
-// Nothing was refused and an analog is left.
-pub fn analogs_left(g: RestartProgress, n: usize) -> bool
-    ensures { result ≡ analogs_left g n }
-{
-    let left = g.at < n;
-    if g.refusal == 0 { left } else { false }
-}
-
-// One more analog.
-pub fn add_analog(
-    g: RestartProgress,
-    analogs: &mut [u32; ANALOG_WORDS],
-    w: AnalogSetupWords,
-) -> RestartProgress
-    requires { g.at < points_max }
-    ensures { (result ≡ add_analog g w) × (analog_ok (analog_setup_of w) ≡ true → analogs_in analogs.new ≡ set (analogs_in analogs.old) g.at (fresh_analog (analog_setup_of w))) }
-{
-    let a = analog_setup_of(w);
-    if points::analog_ok(a) {
-        let i = g.at;
         point_store::store_analog(analogs, i, points::fresh_analog(a));
-        let next = i + 1;
-        return RestartProgress {
-            at: next,
-            refusal: 0,
-        };
     }
-    RestartProgress {
-        at: g.at,
-        refusal: 5,
-    }
+    true
 }
 
-// The head of a restarted outstation; of a refused setup the one with no points and no outputs.
-pub fn finish_restart(s: SetupWords, binaries: usize, g: RestartProgress) -> Restarted
-    ensures { result ≡ finish_restart s binaries g }
+// The head of an outstation with so many points, just restarted.
+fn fresh_head(s: SetupWords, binaries: usize, analogs: usize) -> Head
+    ensures { result ≡ fresh_head s.arm_time s.confirm_time s.outputs s.analog_output_count binaries analogs }
 {
-    let mut h = Head {
-        arm_time: 0,
-        confirm_time: 0,
+    Head {
+        arm_time: u64::from(s.arm_time),
+        confirm_time: u64::from(s.confirm_time),
         clock: 0,
         wait_time: 0,
         latch_time: 0,
-        binary_count: 0,
-        analog_count: 0,
+        binary_count: binaries,
+        analog_count: analogs,
         event_count: 0,
         request_len: 0,
         answer_len: 0,
         latch_len: 0,
-        outputs: 0,
+        outputs: s.outputs,
         overflow: 0,
         restarted: 1,
         waiting: 0,
@@ -252,22 +168,55 @@ pub fn finish_restart(s: SetupWords, binaries: usize, g: RestartProgress) -> Res
         request_kept: 0,
         latch_armed: 0,
         latch_sequence: 0,
-        analog_outputs: 0,
-    };
-    if g.refusal == 0 {
-        h.arm_time = s.arm_time as u64;
-        h.confirm_time = s.confirm_time as u64;
-        h.binary_count = binaries;
-        h.analog_count = g.at;
-        h.outputs = s.outputs;
-        h.analog_outputs = s.analog_output_count;
-        return Restarted {
-            head: h,
-            refusal: 0,
-        };
+        analog_outputs: s.analog_output_count,
     }
+}
+
+// A refused setup gives no outstation: its head has no points and no outputs.
+pub fn no_outstation() -> Restarted
+    ensures { result ≡ no_outstation }
+{
+    let none = SetupWords {
+        arm_time: 0,
+        confirm_time: 0,
+        own: 0,
+        master: 0,
+        outputs: 0,
+        analog_output_count: 0,
+        analog_outputs: [AnalogOutputWords {
+            low: 0,
+            high: 0,
+            kind: 0,
+        }; ANALOG_OUTPUTS_MAX],
+    };
     Restarted {
-        head: h,
+        head: fresh_head(none, 0, 0),
         refusal: 5,
     }
+}
+
+// A setup that breaks a limit gives no outstation. The lent words then hold what was stored up to there.
+pub fn restart(
+    s: SetupWords,
+    classes: &[u8],
+    setups: &[AnalogSetupWords],
+    binaries: &mut [u32; BINARY_WORDS],
+    analogs: &mut [u32; ANALOG_WORDS],
+    outputs: &mut [u32; ANALOG_OUTPUT_WORDS],
+) -> Restarted
+    ensures { RestartHolds s classes.now setups.now result.refusal result.head binaries.new analogs.new outputs.new }
+{
+    if limits_ok(s, classes.len(), setups.len()) {
+        let given = &s.analog_outputs[..usize::from(s.analog_output_count)];
+        if fresh_binaries(binaries, classes)
+            && fresh_outputs(outputs, given)
+            && fresh_analogs(analogs, setups)
+        {
+            return Restarted {
+                head: fresh_head(s, classes.len(), setups.len()),
+                refusal: 0,
+            };
+        }
+    }
+    no_outstation()
 }

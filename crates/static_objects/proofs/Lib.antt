@@ -3,3 +3,4 @@ pub mod RunWriting
 pub mod HeaderLaws
 pub mod Examples
 pub mod AloneLaws
+pub mod AnalogRuns

@@ -31,7 +31,7 @@ splice-before d a (x ∷ s) b t h =
     ap (λ (e : List ℕ). splice e (a + 1) s) (set_before d a x b t (omega arith)) ∙ splice-before (set d a x) (a + 1) s b t (omega arith)
 
 -- the header of a run of the kind k; 0 stands for no run
-abbrev top : Heading → ℕ → ℕ → ℕ → List ℕ
+abbrev pub top : Heading → ℕ → ℕ → ℕ → List ℕ
 top head k first n = cond (eqb k 0) [] (head k first n)
 
 module _ (head : Heading) (h : ℕ) where
@@ -45,10 +45,10 @@ module _ (head : Heading) (h : ℕ) where
 
 module _ (head : Heading) (h : ℕ) (fixed : (k i n : ℕ) → length (head k i n) ≡ h) where
   module _ (out₀ : List ℕ) (at : ℕ) (whole : List Object) (none : lead 0 whole ≡ 0) where
-    pub running-start : (first : ℕ) → at + length (encoded head whole) ≤ length out₀ → Running head h out₀ at whole out₀ at at 0 first 0 whole
-    running-start first r =
+    pub running-start : at + length (encoded head whole) ≤ length out₀ → Running head h out₀ at whole out₀ at 0 0 0 0 whole
+    running-start r =
         record {
-          left = ap (λ (d : List ℕ). splice d at (following head 0 whole)) (splice-nil out₀ at);
+          left = ap (λ (d : List ℕ). splice d at (following head 0 whole)) (splice-nil out₀ 0);
           long = refl;
           room = refl;
           fits = omega (arith, encoded-size head h fixed whole none);

@@ -1,10 +1,14 @@
 -- Laws of static objects: their number of bytes, and how they are put.
 -- Assumes nothing.
 use mathlib.Core.Path.{◌≡◌, refl, sym, ap, ◌∙◌}
-use mathlib.Core.Bool.{Bool, false}
+use Rattle.static_objects.specs.declared.PointKind.{PointKind}
+use Rattle.static_objects.specs.declared.PointKind.TheVariants.{BinaryInput}
 use mathlib.Core.List.{List, [], ◌∷◌, ◌++◌, append-nil}
 use Prim.Native.Nat.{ℕ, zero, suc, ◌+◌, ◌-◌, ◌≤◌, ◌<◌}
 use native.Mathlib.Omega.{arith}
+use Rattle.std.proofs.Common.{Option, Some, None, true, false, eqb}
+use Rattle.std.specs.Option.{option_eq}
+use borrow.Author.Tests.{eqb-true, eqb-false}
 use lib.ListN.{length, set, length-append}
 use Rattle.octets.specs.Bytes.{splice, le}
 use Rattle.octets.proofs.Splice.{splice-append, splice-cons, splice-one, splice-nil, length-splice}
@@ -46,7 +50,7 @@ analog-put d d2 at s f v h e = e ∙ sym (splice-cons d at f (value_bytes v)) �
 
 -- ---- sizes
 
-pub heading-length : (a : Bool) (k i n : ℕ) → length (static_heading a k i n) ≡ 7
+pub heading-length : (a : PointKind) (k i n : ℕ) → length (static_heading a k i n) ≡ 7
 heading-length a k i n =
     let t : length (le 2 i ++ le 2 (i + n - 1)) ≡ 4 = omega (arith, length-append (le 2 i) (le 2 (i + n - 1)), length-le 2 i, length-le 2 (i + n - 1)) in
     ap (λ (m : ℕ). suc (suc (suc m))) t
@@ -66,9 +70,22 @@ kind-some (Analog f (Int32 z)) h = omega arith
 kind-some (Analog f (Int16 z)) h = omega arith
 kind-some (Analog f (Float32 x)) h = omega arith
 
+-- the variation of the last object, 0 where there is none
+abbrev pub last_variation : Option ℕ → ℕ
+last_variation None = 0
+last_variation (Some k) = k
+
+pub last-same : (o : Option ℕ) (k : ℕ) → option_eq eqb o (Some k) ≡ true → k ≡ last_variation o
+last-same None k e = cc
+last-same (Some j) k e = sym (eqb-true j k e)
+
+pub last-other : (o : Option ℕ) (k : ℕ) → (k ≡ 0 → ⊥) → option_eq eqb o (Some k) ≡ false → k ≡ last_variation o → ⊥
+last-other None k some e q = some q
+last-other (Some j) k some e q = eqb-false j k e (sym q)
+
 -- ---- the points' objects
 
-module _ (i : PointsView) (a : Bool) where
+module _ (i : PointsView) (a : PointKind) where
   pub points-nil : (n k : ℕ) → k ≤ 0 → point_objects i a n k ≡ []
   unfolding point_objects
   points-nil n zero h = refl
@@ -81,6 +98,18 @@ module _ (i : PointsView) (a : Bool) where
       let e : k ≡ suc k - 1 = omega arith in
       ap (λ (q : ℕ). point_object i a n ∷ point_objects i a (n + 1) q) e
 
+  -- the points from n on to e
+  pub points-over : (n e : ℕ) → e ≤ n → point_objects i a n (e - n) ≡ []
+  points-over n e h = points-nil n (e - n) (omega arith)
+
+  pub points-next : (n e : ℕ) → n < e → point_objects i a n (e - n) ≡ point_object i a n ∷ point_objects i a (n + 1) (e - (n + 1))
+  points-next n e h =
+      let s : e - n - 1 ≡ e - (n + 1) = omega arith in
+      points-cons n (e - n) (omega arith) ∙ ap (λ (q : ℕ). point_object i a n ∷ point_objects i a (n + 1) q) s
+
+  pub points-all : (n k : ℕ) → point_objects i a n (n + k - n) ≡ point_objects i a n k
+  points-all n k = let s : n + k - n ≡ k = omega arith in ap (point_objects i a n) s
+
   -- no object is of the kind 0
   pub none_first : (n k : ℕ) → lead 0 (point_objects i a n k) ≡ 0
   unfolding point_objects
@@ -90,61 +119,53 @@ module _ (i : PointsView) (a : Bool) where
 -- ---- binaries are one run
 
 module _ (i : PointsView) where
-  points-length : (a : Bool) (n k : ℕ) → length (point_objects i a n k) ≡ k
+  points-length : (a : PointKind) (n k : ℕ) → length (point_objects i a n k) ≡ k
   unfolding point_objects
   points-length a n zero = refl
   points-length a n (suc k) = ap suc (points-length a (n + 1) k)
 
-  one-run : (n k : ℕ) → runs (point_objects i false n (suc k)) ≡ point_objects i false n (suc k) ∷ []
+  one-run : (n k : ℕ) → runs (point_objects i BinaryInput n (suc k)) ≡ point_objects i BinaryInput n (suc k) ∷ []
   unfolding runs point_objects
   one-run n zero = refl
   one-run n (suc k) = rw (one-run (n + 1) k)
 
-  states-length : (n k : ℕ) → length (object_bytes (point_objects i false n k)) ≡ k
+  states-length : (n k : ℕ) → length (object_bytes (point_objects i BinaryInput n k)) ≡ k
   unfolding object_bytes point_objects point_bytes
   states-length n zero = refl
   states-length n (suc k) = ap suc (states-length (n + 1) k)
 
-  states-nil : (n k : ℕ) → k ≤ 0 → object_bytes (point_objects i false n k) ≡ []
-  unfolding object_bytes
-  states-nil n k h = ap object_bytes (points-nil i false n k h)
-
-  states-cons : (n k : ℕ) → 0 < k → object_bytes (point_objects i false n k) ≡ point_bytes (shown_at i false n) ++ object_bytes (point_objects i false (n + 1) (k - 1))
-  unfolding object_bytes
-  states-cons n k h = ap object_bytes (points-cons i false n k h)
-
   -- a header, and what the points show
-  pub binaries-some : (n k : ℕ) → 0 < k → range_bytes i false n k ≡ static_heading false 2 n (k - 1 + 1) ++ object_bytes (point_objects i false n k)
+  pub binaries-some : (n k : ℕ) → 0 < k → range_bytes i BinaryInput n k ≡ static_heading BinaryInput 2 n (k - 1 + 1) ++ object_bytes (point_objects i BinaryInput n k)
   unfolding range_bytes encoded all_bytes point_objects
   binaries-some n zero h = absurd (omega arith)
   binaries-some n (suc k) h =
-      let xs : List Object = point_objects i false n (suc k) in
-      let c : suc (length (point_objects i false (n + 1) k)) ≡ suc k - 1 + 1 = omega (arith, points-length false (n + 1) k) in
-      ap (all_bytes (static_heading false)) (one-run n k)
+      let xs : List Object = point_objects i BinaryInput n (suc k) in
+      let c : suc (length (point_objects i BinaryInput (n + 1) k)) ≡ suc k - 1 + 1 = omega (arith, points-length BinaryInput (n + 1) k) in
+      ap (all_bytes (static_heading BinaryInput)) (one-run n k)
       ∙ append-nil _
-      ∙ ap (λ (q : ℕ). static_heading false 2 n q ++ object_bytes xs) c
+      ∙ ap (λ (q : ℕ). static_heading BinaryInput 2 n q ++ object_bytes xs) c
 
-  pub binaries-none : (n k : ℕ) → k ≤ 0 → range_bytes i false n k ≡ []
+  pub binaries-none : (n k : ℕ) → k ≤ 0 → range_bytes i BinaryInput n k ≡ []
   unfolding range_bytes encoded all_bytes runs
-  binaries-none n k h = ap (encoded (static_heading false)) (points-nil i false n k h)
+  binaries-none n k h = ap (encoded (static_heading BinaryInput)) (points-nil i BinaryInput n k h)
 
-  pub binaries-length : (n k : ℕ) → 0 < k → length (range_bytes i false n k) ≡ 7 + k
+  pub binaries-length : (n k : ℕ) → 0 < k → length (range_bytes i BinaryInput n k) ≡ 7 + k
   binaries-length n k h =
-      ap length (binaries-some n k h) ∙ length-append (static_heading false 2 n (k - 1 + 1)) (object_bytes (point_objects i false n k))
-      ∙ omega (arith, heading-length false 2 n (k - 1 + 1), states-length n k)
+      ap length (binaries-some n k h) ∙ length-append (static_heading BinaryInput 2 n (k - 1 + 1)) (object_bytes (point_objects i BinaryInput n k))
+      ∙ omega (arith, heading-length BinaryInput 2 n (k - 1 + 1), states-length n k)
 
-  -- writing: the points to come from where the loop stands, as all from its start
-  pub record Showing (out₀ : List ℕ) (at from n : ℕ) (out : List ℕ) (to j left : ℕ) : Type 0 where
-    pub ahead : splice out to (object_bytes (point_objects i false j left)) ≡ splice out₀ at (object_bytes (point_objects i false from n))
+  -- writing: the points to come from where the loop stands up to e, as all from its start
+  pub record Showing (out₀ : List ℕ) (at from e : ℕ) (out : List ℕ) (to j : ℕ) : Type 0 where
+    pub ahead : splice out to (object_bytes (point_objects i BinaryInput j (e - j))) ≡ splice out₀ at (object_bytes (point_objects i BinaryInput from (e - from)))
     pub long : length out ≡ length out₀
-    pub room : to + left ≡ at + n
-    pub places : j + left ≡ from + n
+    pub room : to + from ≡ at + j
 
-  module _ {out₀ : List ℕ} {at from n : ℕ} {out : List ℕ} {to j left : ℕ} (g : Showing out₀ at from n out to j left) where
-    pub shown : 0 < left → (s : ShownPoint) → s ≡ shown_at i false j → (out' : List ℕ) (to' : ℕ) → to' ≡ to + length (point_bytes s) → out' ≡ splice out to (point_bytes s)
-        → Showing out₀ at from n out' to' (j + 1) (left - 1)
+  module _ {out₀ : List ℕ} {at from e : ℕ} {out : List ℕ} {to j : ℕ} (g : Showing out₀ at from e out to j) where
+    pub shown : j < e → (s : ShownPoint) → s ≡ shown_at i BinaryInput j → (out' : List ℕ) (to' : ℕ) → to' ≡ to + length (point_bytes s) → out' ≡ splice out to (point_bytes s)
+        → Showing out₀ at from e out' to' (j + 1)
+    unfolding object_bytes
     shown more s hs out' to' ht ho =
-        let tl : List ℕ = object_bytes (point_objects i false (j + 1) (left - 1)) in
+        let tl : List ℕ = object_bytes (point_objects i BinaryInput (j + 1) (e - (j + 1))) in
         let one : length (point_bytes s) ≡ 1 = length-binary s _ hs in
         record {
           ahead =
@@ -152,23 +173,23 @@ module _ (i : PointsView) where
               ∙ ap (λ (q : ℕ). splice (splice out to (point_bytes s)) q tl) ht
               ∙ sym (splice-append out to (point_bytes s) tl)
               ∙ ap (λ (x : ShownPoint). splice out to (point_bytes x ++ tl)) hs
-              ∙ ap (splice out to) (sym (states-cons j left more))
+              ∙ ap (λ (os : List Object). splice out to (object_bytes os)) (sym (points-next i BinaryInput j e more))
               ∙ g.ahead;
           long = ap length ho ∙ length-splice out to (point_bytes s) ∙ g.long;
           room = omega (arith, g.room);
-          places = omega (arith, g.places);
         }
 
-    pub all_shown : left ≤ 0 → out ≡ splice out₀ at (object_bytes (point_objects i false from n))
-    all_shown h = sym (ap (splice out to) (states-nil j left h) ∙ splice-nil out to) ∙ g.ahead
+    pub all_shown : e ≤ j → out ≡ splice out₀ at (object_bytes (point_objects i BinaryInput from (e - from)))
+    unfolding object_bytes
+    all_shown h = sym (ap (λ (os : List Object). splice out to (object_bytes os)) (points-over i BinaryInput j e h) ∙ splice-nil out to) ∙ g.ahead
 
   -- a header, then what the points show
-  pub binaries-put : (d d1 d2 : List ℕ) (at to from n : ℕ) → 0 < n → to ≡ at + 7 → d1 ≡ splice d at (static_heading false 2 from (n - 1 + 1))
-      → d2 ≡ splice d1 to (object_bytes (point_objects i false from n)) → d2 ≡ splice d at (range_bytes i false from n)
+  pub binaries-put : (d d1 d2 : List ℕ) (at to from n : ℕ) → 0 < n → to ≡ at + 7 → d1 ≡ splice d at (static_heading BinaryInput 2 from (n - 1 + 1))
+      → d2 ≡ splice d1 to (object_bytes (point_objects i BinaryInput from n)) → d2 ≡ splice d at (range_bytes i BinaryInput from n)
   binaries-put d d1 d2 at to from n h ht h1 h2 =
-      let hd : List ℕ = static_heading false 2 from (n - 1 + 1) in
-      let tl : List ℕ = object_bytes (point_objects i false from n) in
-      let t : to ≡ at + length hd = ht ∙ ap (λ (q : ℕ). at + q) (sym (heading-length false 2 from (n - 1 + 1))) in
+      let hd : List ℕ = static_heading BinaryInput 2 from (n - 1 + 1) in
+      let tl : List ℕ = object_bytes (point_objects i BinaryInput from n) in
+      let t : to ≡ at + length hd = ht ∙ ap (λ (q : ℕ). at + q) (sym (heading-length BinaryInput 2 from (n - 1 + 1))) in
       h2
       ∙ ap (λ (x : List ℕ). splice x to tl) h1
       ∙ ap (λ (q : ℕ). splice (splice d at hd) q tl) t

@@ -1,7 +1,7 @@
 -- The static part of a response: "Static is 1 var 2 and 30 var 1, 2, 5, qualifier 01, neighbours likewise but not across request
 -- headers".
 -- Assumes nothing.
-use Rattle.std.specs.Prelude.{ℕ, zero, suc, ◌+◌, ◌-◌, Bool, true, false, cond, List, [], ◌∷◌, ◌++◌, ltb, length, get_or}
+use Rattle.std.specs.Prelude.{ℕ, zero, suc, ◌+◌, ◌-◌, List, [], ◌∷◌, ◌++◌, ltb, length, get_or}
 use Rattle.laws.specs.First.{first, ◌⇒◌}
 use Rattle.laws.specs.Limits.{fragment_max}
 use Rattle.octets.specs.Bytes.{le}
@@ -13,17 +13,20 @@ use Rattle.objects.specs.Runs.{Object, Heading, encoded}
 use Rattle.application.specs.declared.Fault.TheVariants.{BadParameter}
 use Rattle.read_headers.specs.declared.Header.{Header}
 use Rattle.read_headers.specs.Parse.{Parsed, headers, fault, parse}
+use Rattle.static_objects.specs.declared.PointKind.{PointKind}
+use Rattle.static_objects.specs.declared.PointKind.TheVariants.{BinaryInput, AnalogInput}
 use Rattle.static_objects.specs.declared.ShownPoint.{ShownPoint}
 use Rattle.static_objects.specs.declared.ShownPoint.TheVariants.{Binary, Analog}
 
 -- what the n-th binary or analog input shows: flags with the state, or flags and a value
-abbrev pub shown_at : PointsView → Bool → ℕ → ShownPoint
-shown_at i false n = Binary (state_byte (get_or i.binaries n no_binary).state (get_or i.binaries n no_binary).flags)
-shown_at i true n = Analog (get_or i.analogs n no_analog).flags (get_or i.analogs n no_analog).value
+abbrev pub shown_at : PointsView → PointKind → ℕ → ShownPoint
+shown_at i BinaryInput n = Binary (state_byte (get_or i.binaries n no_binary).state (get_or i.binaries n no_binary).flags)
+shown_at i AnalogInput n = Analog (get_or i.analogs n no_analog).flags (get_or i.analogs n no_analog).value
 
 -- 1 var 2; 30 var 1 (32-bit), 2 (16-bit), 5 (float)
-abbrev pub static_group : Bool → ℕ
-static_group analog = cond analog 30 1
+abbrev pub static_group : PointKind → ℕ
+static_group BinaryInput = 1
+static_group AnalogInput = 30
 
 abbrev pub value_variation : Value → ℕ
 value_variation (Int32 z) = 1
@@ -39,25 +42,25 @@ point_bytes (Binary flags) = flags ∷ []
 point_bytes (Analog flags v) = flags ∷ value_bytes v
 
 -- group, variation, qualifier 01, the first index and the last one in two bytes each
-abbrev pub static_heading : Bool → Heading
-static_heading analog variation index n = static_group analog ∷ variation ∷ 1 ∷ (le 2 index ++ le 2 (index + n - 1))
+abbrev pub static_heading : PointKind → Heading
+static_heading kind variation index n = static_group kind ∷ variation ∷ 1 ∷ (le 2 index ++ le 2 (index + n - 1))
 
--- among binaries or among analogs, a point's kind is its variation
-abbrev pub point_object : PointsView → Bool → ℕ → Object
-point_object i analog n =
-    record { kind = static_variation (shown_at i analog n); index = n; bytes = point_bytes (shown_at i analog n) }
+-- among binaries or among analogs, a point's kind of object is its variation
+abbrev pub point_object : PointsView → PointKind → ℕ → Object
+point_object i kind n =
+    record { kind = static_variation (shown_at i kind n); index = n; bytes = point_bytes (shown_at i kind n) }
 
 -- so many points from the n-th on
-unfoldable pub point_objects : PointsView → Bool → ℕ → ℕ → List Object
-point_objects i analog n zero = []
-point_objects i analog n (suc k) = point_object i analog n ∷ point_objects i analog (n + 1) k
+unfoldable pub point_objects : PointsView → PointKind → ℕ → ℕ → List Object
+point_objects i kind n zero = []
+point_objects i kind n (suc k) = point_object i kind n ∷ point_objects i kind (n + 1) k
 
-unfoldable pub range_bytes : PointsView → Bool → ℕ → ℕ → List ℕ
-range_bytes i analog n k = encoded (static_heading analog) (point_objects i analog n k)
+unfoldable pub range_bytes : PointsView → PointKind → ℕ → ℕ → List ℕ
+range_bytes i kind n k = encoded (static_heading kind) (point_objects i kind n k)
 
 -- "binaries, then analogs", of a request header
 abbrev pub header_bytes : PointsView → Header → List ℕ
-header_bytes i h = range_bytes i false h.binary h.binaries ++ range_bytes i true h.analog h.analogs
+header_bytes i h = range_bytes i BinaryInput h.binary h.binaries ++ range_bytes i AnalogInput h.analog h.analogs
 
 -- "static parts in the order asked"
 unfoldable pub static_bytes : PointsView → List Header → List ℕ

@@ -1,7 +1,7 @@
 // The static part of a response for one header of a READ: its size, and its bytes, written from points in lent words into lent bytes.
 #![tactic(auto)]
 
-ghost use Rattle.std.specs.Prelude.{◌≡◌, true, false, cond, List, [], ℕ, ◌+◌, ◌*◌, ◌≤◌, ◌<◌, eqb, length};
+ghost use Rattle.std.specs.Prelude.{◌≡◌, List, ℕ, ◌+◌, ◌*◌, ◌≤◌, ◌<◌, length};
 ghost use Rattle.octets.specs.Bytes.{splice};
 ghost use Rattle.points.specs.PointsView.{PointsView};
 ghost use Rattle.objects.specs.Runs.{object_bytes};
@@ -17,10 +17,18 @@ ghost use Rattle.static_objects.specs.Static.{
   header_bytes,
 };
 ghost use Rattle.static_objects.specs.Alone.{binaries_alone, analogs_alone};
+ghost use Rattle.static_objects.specs.Running.{run_place, run_heading, RunFits};
 
 use point_store::{ANALOG_WORDS, BINARY_WORDS, Installed};
 use points::Value;
 use read_headers::Header;
+
+// The kinds of points: each has its group of objects.
+#[derive(Clone, Copy)]
+enum PointKind {
+    BinaryInput,
+    AnalogInput,
+}
 
 // What a point shows: a binary's flags with its state, or an analog's flags and value.
 #[derive(Clone, Copy)]
@@ -29,12 +37,24 @@ enum ShownPoint {
     Analog(u8, Value),
 }
 
+// Analogs of one variation that follow one another: the place of their header, their variation, the first one's index, and how many follow it.
+#[derive(Clone, Copy)]
+struct Run {
+    at: usize,
+    variation: u8,
+    first: usize,
+    more: usize,
+}
+
 // ---- one point, and one header
 
-fn group(analog: bool) -> u8
-    ensures { result ≡ static_group analog }
+fn group(kind: PointKind) -> u8
+    ensures { result ≡ static_group kind }
 {
-    if analog { 30 } else { 1 }
+    match kind {
+        PointKind::BinaryInput => 1,
+        PointKind::AnalogInput => 30,
+    }
 }
 
 fn variation(s: ShownPoint) -> u8
@@ -68,16 +88,16 @@ fn size(s: ShownPoint) -> usize
 fn put_heading(
     out: &mut [u8],
     at: usize,
-    analog: bool,
+    kind: PointKind,
     variation: u8,
     first: usize,
     m: usize,
 ) -> usize
     requires { (at + 7 ≤ length out.old) × (first + m < 200000) }
     ensures { (result ≡ at + 7)
-        × (out.new ≡ splice out.old at (static_heading analog variation first (m + 1))) }
+        × (out.new ≡ splice out.old at (static_heading kind variation first (m + 1))) }
 {
-    out[at] = group(analog);
+    out[at] = group(kind);
     out[at + 1] = variation;
     out[at + 2] = 1;
     octets::put(out, at + 3, 2, first as u64);
@@ -106,7 +126,7 @@ fn put_point(out: &mut [u8], at: usize, s: ShownPoint) -> usize
 // ---- what the i-th point shows, of so many installed
 
 fn binary_shown(ws: &[u32; BINARY_WORDS], count: usize, i: usize) -> ShownPoint
-    ensures { result ≡ shown_at (binaries_alone count ws.now) false i }
+    ensures { result ≡ shown_at (binaries_alone count ws.now) PointKind.BinaryInput i }
 {
     if i < points::installed(count) {
         let b = point_store::load_binary(ws, i);
@@ -117,12 +137,11 @@ fn binary_shown(ws: &[u32; BINARY_WORDS], count: usize, i: usize) -> ShownPoint
 }
 
 fn analog_shown(ws: &[u32; ANALOG_WORDS], count: usize, i: usize) -> ShownPoint
-    ensures { result ≡ shown_at (analogs_alone count ws.now) true i }
+    ensures { result ≡ shown_at (analogs_alone count ws.now) PointKind.AnalogInput i }
 {
     if i < points::installed(count) {
         let a = point_store::load_shown(ws, i);
-        let v = a.value;
-        ShownPoint::Analog(a.flags, v)
+        ShownPoint::Analog(a.flags, a.value)
     } else {
         ShownPoint::Analog(0, Value::Int32(0))
     }
@@ -133,7 +152,7 @@ fn analog_shown(ws: &[u32; ANALOG_WORDS], count: usize, i: usize) -> ShownPoint
 // The bytes that n binaries take.
 fn binaries_size(n: usize) -> usize
     requires { n < 200000 }
-    ensures { ((i : PointsView) (from : ℕ) → result ≡ length (range_bytes i false from n)) × (result ≤ 7 + n) }
+    ensures { ((i : PointsView) (from : ℕ) → result ≡ length (range_bytes i PointKind.BinaryInput from n)) × (result ≤ 7 + n) }
 {
     if n == 0 { 0 } else { 7 + n }
 }
@@ -149,16 +168,11 @@ fn put_states(
 )
     requires { (at + n ≤ length out.old) × (from + n < 200000) }
     ensures { out.new ≡
-        splice out.old at (object_bytes (point_objects (binaries_alone count ws.now) false from n)) }
+        splice out.old at (object_bytes (point_objects (binaries_alone count ws.now) PointKind.BinaryInput from n)) }
 {
     let mut to = at;
-    let mut i = from;
-    let mut left = n;
-    while 0 < left {
-        let s = binary_shown(ws, count, i);
-        to = put_point(out, to, s);
-        i += 1;
-        left -= 1;
+    for i in from..from + n {
+        to = put_point(out, to, binary_shown(ws, count, i));
     }
 }
 
@@ -171,15 +185,15 @@ fn put_binaries(
     from: usize,
     n: usize,
 ) -> usize
-    requires { (at + length (range_bytes (binaries_alone count ws.now) false from n) ≤ length out.old)
+    requires { (at + length (range_bytes (binaries_alone count ws.now) PointKind.BinaryInput from n) ≤ length out.old)
         × (from + n < 200000) }
-    ensures { (result ≡ at + length (range_bytes (binaries_alone count ws.now) false from n))
-        × (out.new ≡ splice out.old at (range_bytes (binaries_alone count ws.now) false from n)) }
+    ensures { (result ≡ at + length (range_bytes (binaries_alone count ws.now) PointKind.BinaryInput from n))
+        × (out.new ≡ splice out.old at (range_bytes (binaries_alone count ws.now) PointKind.BinaryInput from n)) }
 {
     if n == 0 {
         return at;
     }
-    let to = put_heading(out, at, false, 2, from, n - 1);
+    let to = put_heading(out, at, PointKind::BinaryInput, 2, from, n - 1);
     put_states(out, to, ws, count, from, n);
     to + n
 }
@@ -189,37 +203,36 @@ fn put_binaries(
 // The bytes that n analogs from `from` on take.
 fn analogs_size(ws: &[u32; ANALOG_WORDS], count: usize, from: usize, n: usize) -> usize
     requires { from + n < 200000 }
-    ensures { (result ≡ length (range_bytes (analogs_alone count ws.now) true from n)) × (result ≤ 12 * n) }
+    ensures { (result ≡ length (range_bytes (analogs_alone count ws.now) PointKind.AnalogInput from n)) × (result ≤ 12 * n) }
 {
-    let mut total: usize = 0;
-    let mut last: u8 = 0;
-    let mut i = from;
-    let mut left = n;
-    while 0 < left {
+    let mut total = 0;
+    let mut last = None;
+    for i in from..from + n {
         let s = analog_shown(ws, count, i);
         let k = variation(s);
-        let bytes = size(s);
-        i += 1;
-        left -= 1;
-        if k == last {
-            total += bytes;
-        } else {
-            total = total + 7 + bytes;
-            last = k;
+        if last != Some(k) {
+            total += 7;
+            last = Some(k);
         }
+        total += size(s);
     }
     total
 }
 
-// Puts the header of a run that ends, of the point `first` and m more. The variation 0 stands for no run.
-fn end_run(out: &mut [u8], at: usize, variation: u8, first: usize, m: usize)
-    requires { (at + length (cond (eqb variation 0) [] (static_heading true variation first (m + 1))) ≤ length out.old)
-        × (first + m < 200000) }
-    ensures { out.new ≡
-        splice out.old at (cond (eqb variation 0) [] (static_heading true variation first (m + 1))) }
+// Puts the header of a run that ends.
+fn end_run(out: &mut [u8], run: Option<Run>)
+    requires { RunFits run (length out.old) }
+    ensures { out.new ≡ splice out.old (run_place run) (run_heading run) }
 {
-    if variation != 0 {
-        put_heading(out, at, true, variation, first, m);
+    if let Some(r) = run {
+        put_heading(
+            out,
+            r.at,
+            PointKind::AnalogInput,
+            r.variation,
+            r.first,
+            r.more,
+        );
     }
 }
 
@@ -233,37 +246,37 @@ fn put_analogs(
     from: usize,
     n: usize,
 ) -> usize
-    requires { (at + length (range_bytes (analogs_alone count ws.now) true from n) ≤ length out.old)
+    requires { (at + length (range_bytes (analogs_alone count ws.now) PointKind.AnalogInput from n) ≤ length out.old)
         × (from + n < 200000) }
-    ensures { (result ≡ at + length (range_bytes (analogs_alone count ws.now) true from n))
-        × (out.new ≡ splice out.old at (range_bytes (analogs_alone count ws.now) true from n)) }
+    ensures { (result ≡ at + length (range_bytes (analogs_alone count ws.now) PointKind.AnalogInput from n))
+        × (out.new ≡ splice out.old at (range_bytes (analogs_alone count ws.now) PointKind.AnalogInput from n)) }
 {
     let mut to = at;
-    let mut run = at;
-    let mut last: u8 = 0;
-    let mut first = from;
-    let mut m: usize = 0;
-    let mut i = from;
-    let mut left = n;
-    while 0 < left {
+    let mut run: Option<Run> = None;
+    for i in from..from + n {
         let s = analog_shown(ws, count, i);
         let k = variation(s);
-        let here = i;
-        i += 1;
-        left -= 1;
-        if k == last {
-            to = put_point(out, to, s);
-            m += 1;
-        } else {
-            end_run(out, run, last, first, m);
-            run = to;
-            to = put_point(out, to + 7, s);
-            last = k;
-            first = here;
-            m = 0;
+        match run {
+            Some(r) if r.variation == k => {
+                to = put_point(out, to, s);
+                run = Some(Run {
+                    more: r.more + 1,
+                    ..r
+                });
+            }
+            _ => {
+                end_run(out, run);
+                run = Some(Run {
+                    at: to,
+                    variation: k,
+                    first: i,
+                    more: 0,
+                });
+                to = put_point(out, to + 7, s);
+            }
         }
     }
-    end_run(out, run, last, first, m);
+    end_run(out, run);
     to
 }
 

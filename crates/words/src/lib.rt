@@ -2,63 +2,87 @@
 // so that any lent memory stands for some state.
 #![tactic(auto)]
 
-ghost use Rattle.std.specs.Prelude.{◌≡◌, ◌<◌};
+ghost use Rattle.std.specs.Prelude.{◌≡◌, ℕ};
 ghost use Rattle.std.specs.Float.{binary32};
-ghost use Rattle.std.specs.Float.Ieee.{of_bits};
+ghost use Rattle.std.specs.Float.Ieee.{of_bits, to_bits};
 ghost use Rattle.std.specs.Int.{w32};
 ghost use Rattle.std.proofs.Common.{to_z};
-ghost use Rattle.words.specs.Numbers.{holds};
+
+// A number that a word holds: each word stands for one.
+pub trait Word: Copy {
+    ghost of_word: { ℕ → Self };
+
+    fn from_word(w: u32) -> Self
+        ensures { result ≡ of_word w };
+
+    fn into_word(self) -> u32
+        ensures { of_word result ≡ self };
+}
+
+impl Word for u32 {
+    ghost of_word = { λ w. w };
+
+    fn from_word(w: u32) -> u32 {
+        w
+    }
+
+    fn into_word(self) -> u32 {
+        self
+    }
+}
+
+impl Word for i32 {
+    ghost of_word = { to_z w32 };
+
+    fn from_word(w: u32) -> i32 {
+        signed(w)
+    }
+
+    fn into_word(self) -> u32 {
+        signed_bits(self)
+    }
+}
+
+impl Word for f32 {
+    ghost of_word = { of_bits binary32 };
+
+    fn from_word(w: u32) -> f32 {
+        float(w)
+    }
+
+    fn into_word(self) -> u32 {
+        float_bits(self)
+    }
+}
 
 // The signed number of these bits, two's complement.
 pub fn signed(bits: u32) -> i32
     ensures { result ≡ to_z w32 bits }
 {
-    if bits < 2147483648 {
-        bits as i32
-    } else {
-        (bits as i64 - 4294967296) as i32
-    }
+    bits.cast_signed()
 }
 
 // The bits of a signed number.
 pub fn signed_bits(x: i32) -> u32
     ensures { to_z w32 result ≡ x }
 {
-    if x < 0 {
-        (x as i64 + 4294967296) as u32
-    } else {
-        x as u32
-    }
+    x.cast_unsigned()
 }
 
 // The float of these bits. Every NaN's bits give the one NaN.
 pub fn float(bits: u32) -> f32
     ensures { result ≡ of_bits binary32 bits }
 {
-    if bits % 2147483648 <= 2139095040 {
-        return f32::from_bits(bits);
+    if bits % 0x8000_0000 <= 0x7f80_0000 {
+        f32::from_bits(bits)
+    } else {
+        f32::NAN
     }
-    let zero: f32 = 0.0;
-    zero / zero
 }
 
 // The bits of a float. The NaN has those of the quiet NaN.
 pub fn float_bits(x: f32) -> u32
-    ensures { of_bits binary32 result ≡ x }
+    ensures { (of_bits binary32 result ≡ x) × (result ≡ to_bits binary32 x) }
 {
-    if x == x { f32::to_bits(x) } else { 2143289344 }
-}
-
-// Any number but 0 is true.
-pub fn truth(n: u32) -> bool
-    ensures { result ≡ holds n }
-{
-    if n == 0 { false } else { true }
-}
-
-// 1 or 0.
-pub fn truth_bit(b: bool) -> u32
-    ensures { (holds result ≡ b) × (result < 2) }
-{
-    if b { 1 } else { 0 }
+    if x.is_nan() { 0x7fc0_0000 } else { x.to_bits() }
 }

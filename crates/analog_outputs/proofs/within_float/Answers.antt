@@ -4,6 +4,7 @@ use mathlib.Core.Bool.{◌&&◌}
 use lib.Ieee.{le}
 use lib.Ieee.Scale.{finite}
 use Rattle.analog_outputs.specs.Output.{within_float}
+use Rattle.points.proofs.StdLaws.{finite-is}
 use Rattle.analog_outputs.proofs.OutputLaws.{all_pass, one-fails}
 use Rattle.analog_outputs.proofs.within_float.Goals as goal
 use Rattle.analog_outputs.proofs.within_float.Goals.{Joined-is_finite, then-is_finite, else-is_finite}
@@ -11,7 +12,7 @@ use Rattle.analog_outputs.proofs.within_float.Goals.{Joined-is_finite, then-is_f
 -- the first two of the three tests, which `&&` asks in turn
 joined : (c : Joined-is_finite) → c.if-is_finite.value ≡ (finite c.args.v && le c.args.low c.args.v)
 joined c =
-    let told : finite c.args.v ≡ c.is_finite.result = sym c.is_finite.ensures in
+    let told : finite c.args.v ≡ c.is_finite.result = sym (c.is_finite.ensures.value ∙ finite-is c.args.v) in
     elim c.if-is_finite.branch [
       | then-is_finite w ↦ rw (told ∙ w.if-is_finite.true) w.value-is
       | else-is_finite w ↦ rw (told ∙ w.if-is_finite.false) (w.value-is ∙ w.if-is_finite.false)

@@ -12,9 +12,9 @@ returns c =
       con = refl;
       size = refl;
       lent = sym (splice-nil lent 4);
-      operated = c.none-none.ensures;
+      operated = c.none.ensures;
       wait = refl;
-      latch = c.empty-latch.ensures.0;
-      counted = c.empty-latch.ensures.1;
+      latch = c.empty.ensures.0;
+      counted = c.empty.ensures.1;
       restarted = refl;
     }

@@ -7,11 +7,11 @@ use native.Mathlib.Omega.{arith}
 use Rattle.event_store.proofs.any_carried.Goals as goal
 
 pub loop-i-init : goal.loop-i-init
-loop-i-init c = searching-start _ _ _ (omega (arith, slots_length c.args.held.now, c.filled-n.ensures))
+loop-i-init c = searching-start _ _ _ (omega (arith, slots_length c.args.held.now, c.filled-i-end.ensures))
 
 pub returns-then-carried_at : goal.returns-then-carried_at
 returns-then-carried_at c =
-    lent-some is_carried c.args.held.now c.args.status _ _ c.filled-n.ensures
+    lent-some is_carried c.args.held.now c.args.status _ _ c.filled-i-end.ensures
     (searching-found _ _ _ _ c.loop-i.invariant no_held c.loop-i-test.true (sym c.carried_at.ensures ∙ c.if-carried_at.true))
 
 pub loop-i-preserved : goal.loop-i-preserved
@@ -19,4 +19,4 @@ loop-i-preserved c = searching-more _ _ _ _ c.loop-i.invariant no_held c.loop-i-
 
 pub returns : goal.returns
 returns c =
-    lent-some is_carried c.args.held.now c.args.status _ _ c.filled-n.ensures (searching-end _ _ _ _ c.loop-i.invariant c.loop-i-test.false)
+    lent-some is_carried c.args.held.now c.args.status _ _ c.filled-i-end.ensures (searching-end _ _ _ _ c.loop-i.invariant c.loop-i-test.false)

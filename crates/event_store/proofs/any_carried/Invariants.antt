@@ -2,11 +2,7 @@
 use Rattle.event_store.specs.EventWords.{slots_in}
 use Rattle.events.specs.BufferView.{is_carried}
 use Rattle.laws.proofs.Search.{Searching}
-use Prim.Native.Nat.{◌-◌}
 use Rattle.event_store.proofs.any_carried.Given as goal
 
 abbrev pub invariant-loop-i : goal.invariant-loop-i
-invariant-loop-i l = Searching is_carried (slots_in l.held) l.n l.i
-
-abbrev pub decreases-loop-i : goal.decreases-loop-i
-decreases-loop-i l = l.n - l.i
+invariant-loop-i l = Searching is_carried (slots_in l.held) l.i-end l.i

@@ -1,66 +1,58 @@
-use lib.Dec.{eqb}
-use lib.ListN.{length, get_or}
-use mathlib.Core.Bool.{Bool, false, ◌||◌}
-use mathlib.Core.Path.{◌≡◌, refl, sym, ap, ◌∙◌}
-use Rattle.event_store.proofs.LentLaws.{lent-some, or-none, all_true, noted-early}
-use Rattle.event_store.proofs.EventLaws.{slots_length, left-class}
+use lib.ListN.{length}
+use mathlib.Core.Path.{sym, ◌∙◌}
+use Rattle.event_store.proofs.LentLaws.{lent-some, notes, notes-none, noted-early}
+use Rattle.event_store.proofs.EventLaws.{slots_length}
 use Rattle.event_store.specs.EventWords.{slots_in}
-use Rattle.events.proofs.SeenLaws.{noting-start, noting-more, noted}
-use Rattle.events.specs.BufferView.{no_held, is_pending}
+use Rattle.events.proofs.SeenLaws.{noting-start, noted}
+use Rattle.events.specs.BufferView.{is_pending}
 use native.Mathlib.Omega.{arith}
-use Prim.Native.Nat.{ℕ, ◌≤◌}
+use Prim.Native.Nat.{◌≤◌}
 use Rattle.event_store.proofs.classes_pending.Goals as goal
+use Rattle.event_store.proofs.classes_pending.Goals.{in-Some+else-one, in_default}
 
 pub loop-i-init : goal.loop-i-init
 loop-i-init c =
-    let fits : c.filled-n.result ≤ length (slots_in c.args.held.now) = omega (arith, slots_length c.args.held.now, c.filled-n.ensures) in
+    let fits : c.filled-i-end.result ≤ length (slots_in c.args.held.now) = omega (arith, slots_length c.args.held.now, c.filled-i-end.ensures) in
     (noting-start _ _ _ fits, noting-start _ _ _ fits, noting-start _ _ _ fits)
 
-pub returns-then-every : goal.returns-then-every
-returns-then-every c =
+pub returns-then-three : goal.returns-then-three
+returns-then-three c =
     let at = c.loop-i in
     let a = c.args in
     let below = c.loop-i-test.true in
-    let h = get_or (slots_in a.held.now) at.i no_held in
-    let left : (k : ℕ) → eqb 0 k ≡ false → eqb c.waiting_class-c.result k ≡ is_pending k h = λ k nought. ap (λ (x : ℕ). eqb x k) c.waiting_class-c.ensures ∙ left-class k nought h in
-    let met = all_true _ _ _ (sym c.every.ensures ∙ c.if-every.true) in
-    let one = noting-more _ _ _ _ _ at.invariant.0 no_held _ below (c.met-one.ensures ∙ ap (λ (x : Bool). at.one || x) (left 1 refl)) in
-    let two = noting-more _ _ _ _ _ at.invariant.1 no_held _ below (c.met-two.ensures ∙ ap (λ (x : Bool). at.two || x) (left 2 refl)) in
-    let three = noting-more _ _ _ _ _ at.invariant.2 no_held _ below (c.met-three.ensures ∙ ap (λ (x : Bool). at.three || x) (left 3 refl)) in
+    let left = sym c.in-Some.is ∙ c.waiting_class.ensures in
+    let one = notes _ _ _ _ _ below at.invariant.0 _ _ left c.met-one.ensures in
+    let two = notes _ _ _ _ _ below at.invariant.1 _ _ left c.met-two.ensures in
+    let three = notes _ _ _ _ _ below at.invariant.2 _ _ left c.met-three.ensures in
     λ k.
     record {
-      one = lent-some (is_pending 1) a.held.now a.status _ _ c.filled-n.ensures (noted-early _ _ _ _ _ one met.0) k;
-      two = lent-some (is_pending 2) a.held.now a.status _ _ c.filled-n.ensures (noted-early _ _ _ _ _ two met.1) k;
-      three = lent-some (is_pending 3) a.held.now a.status _ _ c.filled-n.ensures (noted-early _ _ _ _ _ three met.2) k;
+      one = lent-some (is_pending 1) a.held.now a.status _ _ c.filled-i-end.ensures (noted-early _ _ _ _ _ one c.if-one.true) k;
+      two = lent-some (is_pending 2) a.held.now a.status _ _ c.filled-i-end.ensures (noted-early _ _ _ _ _ two c.if-two.true) k;
+      three = lent-some (is_pending 3) a.held.now a.status _ _ c.filled-i-end.ensures (noted-early _ _ _ _ _ three c.if-three.true) k;
     }
-
-pub loop-i-preserved-else-every : goal.loop-i-preserved-else-every
-loop-i-preserved-else-every c =
-    let at = c.loop-i in
-    let below = c.loop-i-test.true in
-    let h = get_or (slots_in c.args.held.now) at.i no_held in
-    let left : (k : ℕ) → eqb 0 k ≡ false → eqb c.waiting_class-c.result k ≡ is_pending k h = λ k nought. ap (λ (x : ℕ). eqb x k) c.waiting_class-c.ensures ∙ left-class k nought h in (
-      noting-more _ _ _ _ _ at.invariant.0 no_held _ below (c.met-one.ensures ∙ ap (λ (x : Bool). at.one || x) (left 1 refl)),
-      noting-more _ _ _ _ _ at.invariant.1 no_held _ below (c.met-two.ensures ∙ ap (λ (x : Bool). at.two || x) (left 2 refl)),
-      noting-more _ _ _ _ _ at.invariant.2 no_held _ below (c.met-three.ensures ∙ ap (λ (x : Bool). at.three || x) (left 3 refl)),
-    )
 
 pub loop-i-preserved : goal.loop-i-preserved
 loop-i-preserved c =
     let at = c.loop-i in
     let below = c.loop-i-test.true in
-    let h = get_or (slots_in c.args.held.now) at.i no_held in
-    let none : (k : ℕ) → eqb 0 k ≡ false → is_pending k h ≡ false =
-    λ k nought. sym (left-class k nought h) ∙ ap (λ (x : ℕ). eqb x k) (sym c.waiting_class-c.ensures ∙ c.if-c-ne0.false) ∙ nought in (
-      noting-more _ _ _ _ _ at.invariant.0 no_held _ below (or-none _ _ (none 1 refl)),
-      noting-more _ _ _ _ _ at.invariant.1 no_held _ below (or-none _ _ (none 2 refl)),
-      noting-more _ _ _ _ _ at.invariant.2 no_held _ below (or-none _ _ (none 3 refl)),
-    )
+    elim c.match-waiting_class.branch [
+      | in-Some+else-one w ↦
+          let left = sym w.in-Some.is ∙ c.waiting_class.ensures in
+          rw (w.one-is, w.two-is, w.three-is) (
+            notes _ _ _ _ _ below at.invariant.0 _ _ left w.met-one.ensures,
+            notes _ _ _ _ _ below at.invariant.1 _ _ left w.met-two.ensures,
+            notes _ _ _ _ _ below at.invariant.2 _ _ left w.met-three.ensures,
+          )
+      | in_default w ↦
+          let none = sym w.in_default.is ∙ c.waiting_class.ensures in
+          rw (w.one-is, w.two-is, w.three-is)
+          (notes-none _ _ _ _ _ below at.invariant.0 none, notes-none _ _ _ _ _ below at.invariant.1 none, notes-none _ _ _ _ _ below at.invariant.2 none)
+    ]
 
-pub returns : goal.returns
-returns c =
+pub returns-after-loop-i : goal.returns-after-loop-i
+returns-after-loop-i c =
     let a = c.args in
-    let least = c.filled-n.ensures in
+    let least = c.filled-i-end.ensures in
     let at = c.loop-i.invariant in
     let over = c.loop-i-test.false in
     λ k.

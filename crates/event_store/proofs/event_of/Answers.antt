@@ -4,4 +4,4 @@ use Rattle.event_store.proofs.event_of.Goals as goal
 
 pub returns : goal.returns
 unfolding event_of
-returns c = rw c.shown_of-s.ensures
+returns c = rw c.shown_of.ensures

@@ -10,6 +10,6 @@ pub returns : goal.returns
 returns c =
     λ k.
     record {
-      event = (c.event_of-e.ensures ∙ (λ i. event_of (c.first.ensures i) (c.second-b.ensures i % mark)) ∙ event-at c.args.held.now _ c.requires) k;
+      event = (c.event_of.ensures ∙ (λ i. event_of (c.first.ensures i) (c.second-b.ensures i % mark)) ∙ event-at c.args.held.now _ c.requires) k;
       carried = (c.is_carried.ensures ∙ ap (λ (x : ℕ). holds (x / mark)) c.second-b.ensures ∙ carried-at c.args.held.now _ c.requires) k;
     }

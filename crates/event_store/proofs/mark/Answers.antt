@@ -4,25 +4,29 @@ use Rattle.event_store.proofs.LentLaws.{lent-start, lent-rewritten, marks, skips
 use Rattle.events.specs.Placing.{place_event}
 use native.Mathlib.Omega.{arith}
 use Rattle.event_store.proofs.mark.Goals as goal
+use Rattle.event_store.proofs.mark.Goals.{in-Pass, in-Carry}
 
 pub loop-i-init : goal.loop-i-init
-loop-i-init c = lent-start _ _ _ c.held_length.ensures
+loop-i-init c = lent-start _ _ _ c.told-held
 
 pub returns-in-Stop : goal.returns-in-Stop
 returns-in-Stop c =
-    let least = c.filled-n.ensures in
+    let least = c.filled-i-end.ensures in
     stops _ _ _ _ (omega (arith, least)) c.loop-i-test.true _ _ _ c.loop-i.invariant c.args.status least
-    (sym (c.place_event-turn.ensures ∙ ap (place_event _ _) c.event_of.ensures) ∙ c.in-Stop.is)
-
-pub loop-i-preserved-in-Pass : goal.loop-i-preserved-in-Pass
-loop-i-preserved-in-Pass c =
-    skips _ _ _ _ (omega (arith, c.filled-n.ensures)) c.loop-i-test.true _ _ _ c.loop-i.invariant
-    (sym (c.place_event-turn.ensures ∙ ap (place_event _ _) c.event_of.ensures) ∙ c.in-Pass.is)
+    (sym (c.place_event.ensures ∙ ap (place_event _ _) c.event_of.ensures) ∙ c.in-Stop.is)
 
 pub loop-i-preserved : goal.loop-i-preserved
 loop-i-preserved c =
-    marks _ _ _ _ (omega (arith, c.filled-n.ensures)) c.loop-i-test.true _ _ _ c.loop-i.invariant _
-    (sym (c.place_event-turn.ensures ∙ ap (place_event _ _) c.event_of.ensures) ∙ c.in-Carry.is)
+    let next = c.match-place_event in
+    let told = sym (c.place_event.ensures ∙ ap (place_event _ _) c.event_of.ensures) in
+    elim next.branch [
+      | in-Pass w ↦
+          rw (w.held-is, w.space-is)
+          (skips _ _ _ _ (omega (arith, c.filled-i-end.ensures)) c.loop-i-test.true _ _ _ c.loop-i.invariant (told ∙ w.in-Pass.is))
+      | in-Carry w ↦
+          rw (w.held-is, w.space-is)
+          (marks _ _ _ _ (omega (arith, c.filled-i-end.ensures)) c.loop-i-test.true _ _ _ c.loop-i.invariant _ (told ∙ w.in-Carry.is))
+    ]
 
 pub returns : goal.returns
-returns c = lent-rewritten _ _ _ _ _ _ c.args.status c.filled-n.ensures c.loop-i-test.false (carry-nil _ _) c.loop-i.invariant
+returns c = lent-rewritten _ _ _ _ _ _ c.args.status c.filled-i-end.ensures c.loop-i-test.false (carry-nil _ _) c.loop-i.invariant

@@ -13,7 +13,7 @@ pub returns-then-n-lt-CAPACITY : goal.returns-then-n-lt-CAPACITY
 returns-then-n-lt-CAPACITY c =
     let i = c.args in (
       ap (λ (l : List ℕ). buffer_view_in l (record { count = i.status.count + 1; overflow = i.status.overflow })) c.put.ensures
-          ∙ lent-pushed i.held.now i.status i.e _ _ c.held_length.ensures c.if-n-lt-CAPACITY.true
+          ∙ lent-pushed i.held.now i.status i.e _ _ c.told-held c.if-n-lt-CAPACITY.true
           (new-held i.e _ _ c.event_words-w.ensures.0 c.event_words-w.ensures.1),
       rw (lt-ltb i.status.count events_max c.if-n-lt-CAPACITY.true),
     )

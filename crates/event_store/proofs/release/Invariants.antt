@@ -2,11 +2,7 @@
 use Rattle.event_store.proofs.LentLaws.{Lent}
 use Rattle.events.specs.BufferView.{not_carried}
 use Rattle.laws.specs.Lists.{filter}
-use Prim.Native.Nat.{◌-◌}
 use Rattle.event_store.proofs.release.Given as goal
 
 abbrev pub invariant-loop-i : goal.invariant-loop-i
-invariant-loop-i l = Lent (filter not_carried) (filter not_carried) l.n l.initial.held l.held l.i l.j
-
-abbrev pub decreases-loop-i : goal.decreases-loop-i
-decreases-loop-i l = l.n - l.i
+invariant-loop-i l = Lent (filter not_carried) (filter not_carried) l.i-end l.initial.held l.held l.i l.j

@@ -1,16 +1,17 @@
--- `events::cost` meets its contract.
--- Assumes nothing.
-use mathlib.Core.Path.{ap}
-use Prim.Native.Nat.{ℕ, ◌+◌}
-use borrow.Author.Tests.{eq-eqb, ne_eqb}
+-- `events::cost` meets its contract. Assumes nothing.
+use Rattle.std.proofs.Common.{arith, sym, ap, ◌∙◌, ℕ, ◌+◌}
 use Rattle.events.specs.Placing.{cost_of}
-use borrow.Author.Rules.{rules}
+use Rattle.events.proofs.EventKindLaws.{last-is}
 use Rattle.events.proofs.cost.Goals as goal
 
-pub returns-then-kind-k : goal.returns-then-kind-k
+pub returns-then-eq : goal.returns-then-eq
 unfolding cost_of
-returns-then-kind-k c = (simp (eq-eqb _ _ c.if-kind-k.true) c.size-n.ensures.0, search rules)
+returns-then-eq c =
+    let t = sym (last-is c.args.k.kind c.args.kind) ∙ sym c.eq.ensures ∙ c.if-eq.true in
+    (rw t c.size-n.ensures.0, omega arith)
 
-pub returns-else-kind-k : goal.returns-else-kind-k
+pub returns-else-eq : goal.returns-else-eq
 unfolding cost_of
-returns-else-kind-k c = (simp (ne_eqb _ _ c.if-kind-k.false) (ap (λ (n : ℕ). n + 5) c.size-n.ensures.0), search rules)
+returns-else-eq c =
+    let t = sym (last-is c.args.k.kind c.args.kind) ∙ sym c.eq.ensures ∙ c.if-eq.false in
+    (rw t (ap (λ (n : ℕ). n + 5) c.size-n.ensures.0), omega arith)

@@ -1,7 +1,7 @@
 -- `fragments::answer_read` meets its contract.
 -- Assumes nothing.
 use mathlib.Core.List.{List}
-use mathlib.Core.Path.{subst, ◌∙◌}
+use mathlib.Core.Path.{refl, subst, ◌∙◌}
 use Prim.Native.Nat.{ℕ}
 use Rattle.laws.proofs.Filling.{to_end}
 use Rattle.point_store.specs.PointWords.{points_view_in}
@@ -25,6 +25,6 @@ returns c =
     subst (λ (x : List ℕ). RepliedAs (points_view_in (installed_of a.h) a.binaries.now a.analogs.now) x (buffer_view_in a.held.now t.result) a.out.now re.result (buffer_view_in re.new.held t.result) re.new.out)
     (to_end a.f.now 2) re.ensures in
     read-in a.h a.binaries.now a.analogs.now a.held.now a.request.now a.answer.now a.q.0 a.time a.f.now _ _ _ re.result a.out.now _ _ _ _
-    c.remember-kept.result c.after_read-next.result c.none-none.result c.none-none.ensures c.after_read-next.ensures c.remember-kept.ensures
-    c.requires.1 c.requires.2 t.result _ t.ensures c.truth.ensures g rs.ensures c.any_carried.ensures
+    c.remember-kept.result c.after_read.result c.none.result c.none.ensures c.after_read.ensures c.remember-kept.ensures
+    c.requires.1 c.requires.2 t.result _ t.ensures refl g rs.ensures c.any_carried.ensures
     c.put_response_header.ensures

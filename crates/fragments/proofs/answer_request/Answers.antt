@@ -54,7 +54,7 @@ returns c =
     let pa = c.put_answer-n in
     let short : length (take pa.result pa.new.out) ≤ 113 = simp length-take (omega (arith, less (goal.at.returns c).After-put_answer-n)) in
     other-in a.h a.held.now a.request.now a.answer.now a.objects.now a.outputs.now a.q.0 a.function a.time a.f.now _ _ _ _ dd.result a.out.now _ _
-    pa.result _ c.remember-kept.result c.after_request-next.result c.after_request-next.ensures c.remember-kept.ensures c.requires.1 short c.requires.2
-    c.answer_as-a.ensures _ seen.result c.buffer_status-t.ensures seen.ensures
+    pa.result _ c.remember-kept.result c.after_request.result c.after_request.ensures c.remember-kept.ensures c.requires.1 short c.requires.2
+    c.answer_as.ensures _ seen.result c.buffer_status-t.ensures seen.ensures
     (λ (u : BufferView). subst (λ (x : List ℕ). EffectMeets dd.result a.out.now dd.new.out (effect_by (context_view seen.result a.outputs.now u) a.q.0 a.function a.time x)) (to_end a.f.now 2) (dd.ensures u))
     c.clear.ensures pa.ensures

@@ -4,6 +4,7 @@ use mathlib.Core.Path.{refl, ap, ◌∙◌}
 use native.Mathlib.Omega.{arith}
 use borrow.Author.Tests.{eq-eqb, ne_eqb}
 use lib.ListN.{length}
+use Rattle.std.proofs.Common.{Option}
 use Rattle.octets.specs.Bytes.{splice}
 use Rattle.last_request.specs.Repeat.{kept_answer, last_in}
 use Rattle.last_request.specs.declared.LastLengths.{LastLengths}
@@ -18,7 +19,7 @@ returns c =
     let e = c.last_of.ensures in
     let a = c.args in
     rw (ne_eqb _ _ c.if-function-eq6.false) (
-      an.0 ∙ ap (λ (k : LastLengths). splice a.out.now 0 (kept_answer (last_in a.request.now a.answer.now k))) e,
-      an.1 ∙ ap (λ (k : LastLengths). length (kept_answer (last_in a.request.now a.answer.now k))) e,
+      an.0 ∙ ap (λ (k : Option LastLengths). splice a.out.now 0 (kept_answer (last_in a.request.now a.answer.now k))) e,
+      an.1 ∙ ap (λ (k : Option LastLengths). length (kept_answer (last_in a.request.now a.answer.now k))) e,
       an.2,
     )

@@ -1,6 +1,7 @@
 -- `fragments::take_request` meets its contract.
 -- Assumes nothing.
 use mathlib.Core.Path.{sym, ap, ◌∙◌}
+use Rattle.std.proofs.Common.{Option}
 use borrow.Author.Tests.{eq-eqb, ne_eqb}
 use Rattle.outstation.specs.OutstationView.{OutstationView}
 use Rattle.last_request.specs.Repeat.{is_repeat, last_in}
@@ -42,7 +43,7 @@ returns-then-is_repeat c =
     let a = c.args in
     let r = c.repeat_request in
     by-repeat (was (goal.at.returns-then-is_repeat c).Start) a.q.0 a.function a.time a.f.now (PartMeets a.h r.result _ a.out.now _) (ne_eqb _ _ c.if-function-eq1.false)
-    (sym (c.is_repeat.ensures ∙ ap (λ (k : LastLengths). is_repeat (last_in a.request.now a.answer.now k) a.f.now) c.last_of.ensures) ∙ c.if-is_repeat.true) (r.ensures (mem (goal.at.returns-then-is_repeat c).Start))
+    (sym (c.is_repeat.ensures ∙ ap (λ (k : Option LastLengths). is_repeat (last_in a.request.now a.answer.now k) a.f.now) c.last_of.ensures) ∙ c.if-is_repeat.true) (r.ensures (mem (goal.at.returns-then-is_repeat c).Start))
 
 pub answer_request-requires : goal.answer_request-requires
 answer_request-requires c =
@@ -53,4 +54,4 @@ returns c =
     let a = c.args in
     let r = c.answer_request in
     by-other (was (goal.at.returns c).Start) a.q.0 a.function a.time a.f.now (PartMeets a.h r.result _ a.out.now _) (ne_eqb _ _ c.if-function-eq1.false)
-    (sym (c.is_repeat.ensures ∙ ap (λ (k : LastLengths). is_repeat (last_in a.request.now a.answer.now k) a.f.now) c.last_of.ensures) ∙ c.if-is_repeat.false) (r.ensures a.binaries.now a.analogs.now)
+    (sym (c.is_repeat.ensures ∙ ap (λ (k : Option LastLengths). is_repeat (last_in a.request.now a.answer.now k) a.f.now) c.last_of.ensures) ∙ c.if-is_repeat.false) (r.ensures a.binaries.now a.analogs.now)

@@ -1,41 +1,24 @@
 -- `last_request::is_repeat` meets its contract. Assumes nothing.
-use Rattle.last_request.proofs.RepeatLaws.{last_none, last-held, repeat-none, repeat_read, repeat-same}
-use Rattle.last_request.specs.Repeat.{LastRequestView, is_repeat}
-use Rattle.laws.proofs.Filling.{clamped}
+use Rattle.std.proofs.Common.{sym, ap, ◌∙◌}
+use borrow.Author.Tests.{eq-eqb}
 use Rattle.laws.specs.Lists.{same}
 use Rattle.laws.specs.Limits.{fragment_max}
-use lib.ListN.{length, length-take}
-use borrow.Author.Tests.{not-true, not-false}
-use native.Mathlib.Omega.{arith}
-use mathlib.Core.Bool.{Bool}
-use mathlib.Core.Path.{◌≡◌, sym, ap, ◌∙◌}
-use borrow.Author.Rules.{rules}
+use Rattle.laws.proofs.Filling.{clamped}
+use Rattle.laws.proofs.SameLaws.{same_as_eq}
+use Rattle.last_request.specs.Repeat.{last_in}
+use Rattle.last_request.proofs.RepeatLaws.{repeat-none, repeat_read, repeat-same}
 use Rattle.last_request.proofs.is_repeat.Goals as goal
-use Rattle.last_request.proofs.is_repeat.Goals.{After-whole-1, Start}
 
-module _ (c : Start) where
-  abbrev told : LastRequestView → Bool
-  told m = is_repeat m c.args.f.now
+pub returns-in_default : goal.returns-in_default
+unfolding last_in
+returns-in_default c = rw c.in_default.is (sym (repeat-none c.args.f.now))
 
-long : (c : After-whole-1) → length c.args.request.now ≡ fragment_max
-long c = let g = c.whole-1.given in search rules
+pub returns-then-f-ne1 : goal.returns-then-f-ne1
+unfolding last_in
+returns-then-f-ne1 c =
+    let whole = clamped c.args.request.now fragment_max c.in-Some.kept.request_len c.min-n.result c.told-request c.min-n.ensures in
+    rw c.in-Some.is (c.eq.ensures ∙ same_as_eq _ _ ∙ ap (same c.args.f.now) whole ∙ sym (repeat-same _ _ c.args.f.now c.if-f-ne1.true))
 
-pub returns-then-not-lengths : goal.returns-then-not-lengths
-returns-then-not-lengths c =
-    sym (ap (told (goal.at.returns-then-not-lengths c).Start) (last_none c.args.request.now c.args.answer.now c.args.lengths (not-true _ c.if-not-lengths.true)) ∙ repeat-none c.args.f.now)
-
-pub returns-then-f-eq1 : goal.returns-then-f-eq1
-returns-then-f-eq1 c =
-    sym (ap (told (goal.at.returns-then-f-eq1 c).Start) (last-held c.args.request.now c.args.answer.now c.args.lengths (not-false _ c.if-not-lengths.false)) ∙ repeat_read _ _ c.args.f.now c.if-f-eq1.true)
-
-pub slice_bounds-equal-end : goal.slice_bounds-equal-end
-slice_bounds-equal-end c = let h = long c in simp length-take (omega arith)
-
-pub returns : goal.returns
-returns c =
-    let whole = clamped c.args.request.now fragment_max c.args.lengths.request_len c.least-n.result (long (goal.at.returns c).After-whole-1) c.least-n.ensures in
-    sym
-    (ap (told (goal.at.returns c).Start) (last-held c.args.request.now c.args.answer.now c.args.lengths (not-false _ c.if-not-lengths.false))
-    ∙ repeat-same _ _ c.args.f.now c.if-f-eq1.false
-    ∙ ap (same c.args.f.now) (sym whole)
-    ∙ sym c.equal.ensures)
+pub returns-else-f-ne1 : goal.returns-else-f-ne1
+unfolding last_in
+returns-else-f-ne1 c = rw (c.in-Some.is, eq-eqb _ 1 c.if-f-ne1.false) (sym (repeat_read _ _ c.args.f.now c.if-f-ne1.false))

@@ -11,8 +11,8 @@ unfolding last_in
 returns c =
     let a = c.args in (
       ap₂ kept
-          (ap (take (length a.f.now)) c.copy.ensures ∙ stored-splice _ 0 a.f.now (let g = c.copy-arg-1.given in omega arith))
-          (ap (take (length a.a.now)) c.copy-2.ensures ∙ stored-splice _ 0 a.a.now (let g = c.copy-arg-2-1.given in omega arith)),
+          (ap (take (length a.f.now)) c.copy.ensures ∙ stored-splice _ 0 a.f.now (omega (arith, c.told-request)))
+          (ap (take (length a.a.now)) c.copy-2.ensures ∙ stored-splice _ 0 a.a.now (omega (arith, c.told-answer))),
       refl,
       refl,
     )

@@ -1,36 +1,43 @@
 -- `outstation::apply_binary` meets its contract. Assumes nothing.
-use Rattle.outstation.proofs.HeadLaws.{binary-taken, binary-refused, no-binary}
-use Rattle.points.specs.Reading.{read_binary}
+use mathlib.Core.Path.{◌≡◌, refl, ap, ◌∙◌}
+use lib.ListN.{get_or}
+use Rattle.std.proofs.lemmas.Result.{err_from_is_err_and}
 use Rattle.points.specs.declared.BinaryPoint.{BinaryPoint}
-use native.Mathlib.Omega.{arith}
-use mathlib.Core.Path.{ap, ◌∙◌}
+use Rattle.points.specs.PointsView.{no_binary}
+use Rattle.points.specs.Reading.{read_binary}
+use Rattle.point_store.specs.PointWords.{binaries_in}
 use Rattle.outstation.specs.ReadingParts.{with_changes}
+use Rattle.outstation.proofs.HeadLaws.{binary-taken, binary-refused, no-binary}
 use Rattle.outstation.proofs.apply_binary.Goals as goal
+use Rattle.outstation.proofs.apply_binary.Goals.{After-load_binary}
 
-pub returns-in-Taken : goal.returns-in-Taken
-returns-in-Taken c =
+-- the point that was read
+loaded : (c : After-load_binary) → c.load_binary.result ≡ get_or (binaries_in c.args.binaries.now) c.args.r.point no_binary
+loaded c = rw c.in_ok-i.ensures.ok.0 at c.load_binary.ensures
+
+pub returns-in_err-i : goal.returns-in_err-i
+returns-in_err-i c =
+    let i = c.args in
+    let p = err_from_is_err_and c.from_residual.result c.from_residual.ensures.1 in
+    let e = c.in_err-i.ensures.err in
+    λ h a.
+    rw (p.1, p.2, e.0)
+    (no-binary (with_changes h i.n i.m) (record { binaries = i.binaries.now; analogs = a; held = i.held.now }) i.r i.state e.1)
+
+pub returns-in_err-t : goal.returns-in_err-t
+returns-in_err-t c =
+    let i = c.args in
+    let p = err_from_is_err_and c.from_residual-in_err-t.result c.from_residual-in_err-t.ensures.1 in
+    λ h a.
+    rw (p.1, p.2)
+    (binary-refused (with_changes h i.n i.m) (record { binaries = i.binaries.now; analogs = a; held = i.held.now }) i.r i.state c.in_ok-i.ensures.ok.1 _
+    (c.in_err-t.ensures ∙ ap (λ (x : BinaryPoint). read_binary x i.state i.r.flags) (loaded (goal.at.returns-in_err-t c).After-load_binary))
+    _ refl)
+
+pub returns : goal.returns
+returns c =
     let i = c.args in
     λ h a.
-    rw c.taken.ensures.1
-    (binary-taken (with_changes h i.n i.m) (record { binaries = i.binaries.now; analogs = a; held = i.held.now }) i.r i.state
-    (omega (arith, c.if-i-k.true, c.installed-k.ensures)) c.read_binary-t.result
-    (c.read_binary-t.ensures ∙ ap (λ (x : BinaryPoint). read_binary x i.state i.r.flags) c.load_binary.ensures)
-    _ _ c.in-Taken.is _ _ _ c.store_binary.ensures (c.taken.ensures.0 h i.n))
-
-pub returns-in-Refused : goal.returns-in-Refused
-returns-in-Refused c =
-    let i = c.args in
-    λ h a.
-    rw (c.refused.ensures, c.refusal_number.ensures)
-    (binary-refused (with_changes h i.n i.m) (record { binaries = i.binaries.now; analogs = a; held = i.held.now }) i.r i.state
-    (omega (arith, c.if-i-k.true, c.installed-k.ensures)) c.read_binary-t.result
-    (c.read_binary-t.ensures ∙ ap (λ (x : BinaryPoint). read_binary x i.state i.r.flags) c.load_binary.ensures)
-    _ c.in-Refused.is)
-
-pub returns-else-i-k : goal.returns-else-i-k
-returns-else-i-k c =
-    let i = c.args in
-    λ h a.
-    rw c.refused-else-i-k.ensures
-    (no-binary (with_changes h i.n i.m) (record { binaries = i.binaries.now; analogs = a; held = i.held.now }) i.r i.state
-    (omega (arith, c.if-i-k.false, c.installed-k.ensures)))
+    binary-taken (with_changes h i.n i.m) (record { binaries = i.binaries.now; analogs = a; held = i.held.now }) i.r i.state c.in_ok-i.ensures.ok.1 _
+    (c.in_ok-t.ensures ∙ ap (λ (x : BinaryPoint). read_binary x i.state i.r.flags) (loaded (goal.at.returns c).After-load_binary))
+    _ refl _ _ _ (rw c.in_ok-i.ensures.ok.0 at c.store_binary.ensures) (c.taken.ensures h i.n)

@@ -1,27 +1,46 @@
 -- `outstation::apply_whole` meets its contract. Assumes nothing.
-use Rattle.outstation.proofs.HeadLaws.{analog-effect, no-analog}
-use Rattle.points.specs.Reading.{read_whole}
-use lib.IntN.{ℤ}
+use mathlib.Core.Path.{◌≡◌, ap, ◌∙◌}
+use lib.ListN.{get_or}
 use mir.Facts.{to_z-of_z}
+use Rattle.std.proofs.lemmas.Result.{err_from_is_err_and}
 use Rattle.points.specs.declared.AnalogPoint.{AnalogPoint}
-use native.Mathlib.Omega.{arith}
-use mathlib.Core.Path.{ap, ◌∙◌}
+use Rattle.points.specs.PointsView.{no_analog}
+use Rattle.points.specs.Reading.{read_whole}
+use Rattle.point_store.specs.PointWords.{analogs_in}
+use Rattle.outstation.specs.Lent.{Words}
 use Rattle.outstation.specs.ReadingParts.{with_changes}
+use Rattle.outstation.proofs.HeadLaws.{analog-effect, analog-refused, no-analog}
 use Rattle.outstation.proofs.apply_whole.Goals as goal
+use Rattle.outstation.proofs.apply_whole.Goals.{After-load_analog}
 
-pub returns-then-i-k : goal.returns-then-i-k
-returns-then-i-k c =
+-- the point that was read
+loaded : (c : After-load_analog) → c.load_analog.result ≡ get_or (analogs_in c.args.analogs.now) c.args.r.point no_analog
+loaded c = rw c.in_ok-i.ensures.ok.0 at c.load_analog.ensures
+
+pub returns-in_err-i : goal.returns-in_err-i
+returns-in_err-i c =
     let i = c.args in
+    let p = err_from_is_err_and c.from_residual.result c.from_residual.ensures.1 in
+    let e = c.in_err-i.ensures.err in
     λ h b.
-    analog-effect (with_changes h i.n i.m) (record { binaries = b; analogs = i.analogs.now; held = i.held.now }) i.r (λ q. read_whole q i.z i.r.flags)
-    (omega (arith, c.if-i-k.true, c.installed-k.ensures)) c.read_whole-t.result
-    (c.read_whole-t.ensures
-    ∙ ap (λ (y : ℤ). read_whole c.load_analog.result y i.r.flags) (to_z-of_z c.ranges.z)
-    ∙ ap (λ (q : AnalogPoint). read_whole q i.z i.r.flags) c.load_analog.ensures) c.apply_analog.result.refusal _ _ (c.apply_analog.ensures h b)
+    rw (p.1, p.2, e.0)
+    (no-analog (with_changes h i.n i.m) (record { binaries = b; analogs = i.analogs.now; held = i.held.now }) i.r (λ q. read_whole q i.z i.r.flags) e.1)
+
+pub returns-in_err-t : goal.returns-in_err-t
+returns-in_err-t c =
+    let i = c.args in
+    let p = err_from_is_err_and c.from_residual-in_err-t.result c.from_residual-in_err-t.ensures.1 in
+    λ h b.
+    let w : Words = record { binaries = b; analogs = i.analogs.now; held = i.held.now } in
+    rw (p.1, p.2)
+    (analog-effect (with_changes h i.n i.m) w i.r (λ q. read_whole q i.z i.r.flags) c.in_ok-i.ensures.ok.1 _
+    ((rw (to_z-of_z c.ranges.z) at c.in_err-t.ensures) ∙ ap (λ (q : AnalogPoint). read_whole q i.z i.r.flags) (loaded (goal.at.returns-in_err-t c).After-load_analog)) _ _ _
+    (analog-refused (with_changes h i.n i.m) w i.r _))
 
 pub returns : goal.returns
 returns c =
     let i = c.args in
     λ h b.
-    rw c.refused.ensures
-    (no-analog (with_changes h i.n i.m) (record { binaries = b; analogs = i.analogs.now; held = i.held.now }) i.r (λ q. read_whole q i.z i.r.flags) (omega (arith, c.if-i-k.false, c.installed-k.ensures)))
+    analog-effect (with_changes h i.n i.m) (record { binaries = b; analogs = i.analogs.now; held = i.held.now }) i.r (λ q. read_whole q i.z i.r.flags)
+    c.in_ok-i.ensures.ok.1 _
+    ((rw (to_z-of_z c.ranges.z) at c.in_ok-t.ensures) ∙ ap (λ (q : AnalogPoint). read_whole q i.z i.r.flags) (loaded (goal.at.returns c).After-load_analog)) _ _ _ (c.take_analog.ensures h b)

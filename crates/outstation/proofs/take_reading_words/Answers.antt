@@ -4,6 +4,4 @@ use Rattle.outstation.specs.CallContracts.{reading_of}
 use Rattle.outstation.proofs.take_reading_words.Goals as goal
 
 pub returns : goal.returns
-returns c =
-    put-together c.args.h _ _ _ (reading_of c.args.w) c.apply_words-t.result.refusal c.apply_words-t.result _ _ c.installed_of-n.ensures c.changes_of.ensures
-    c.apply_words-t.ensures c.with_changes-next.ensures
+returns c = rw c.put_together.ensures.refusal (put-together c.args.h _ _ _ (reading_of c.args.w) _ c.apply_words.result _ _ c.installed_of-n.ensures c.changes_of.ensures c.apply_words.ensures c.put_together.ensures.head)

@@ -4,4 +4,4 @@ use Rattle.point_store.proofs.analog_of.Goals as goal
 
 pub returns : goal.returns
 unfolding analog_of
-returns c = rw (c.value_of-v.ensures, c.analog_state_of-m.ensures, c.truth.ensures)
+returns c = rw (c.value_of.ensures, c.analog_state_of.ensures)

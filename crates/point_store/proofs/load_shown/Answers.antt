@@ -6,4 +6,4 @@ use Rattle.point_store.proofs.load_shown.Goals as goal
 pub returns : goal.returns
 returns c =
     let e = shown-at c.args.ws.now c.args.i c.requires in
-    (e.0, c.value_of-v.ensures ∙ e.1)
+    (e.0, c.value_of.ensures ∙ e.1)

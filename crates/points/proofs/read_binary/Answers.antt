@@ -1,8 +1,7 @@
--- `points::read_binary` meets its contract.
--- Assumes nothing.
+-- `points::read_binary` meets its contract. Assumes nothing.
 use mathlib.Core.Path.{◌≡◌, refl}
 use mathlib.Core.Bool.{Bool, true, false, not, beq}
-use borrow.Author.Tests.{lt-ltb, le-ltb}
+use Rattle.std.proofs.lemmas.Result.{err_from_is_err_and}
 use Rattle.points.specs.Reading.{read_binary, changed}
 use Rattle.points.proofs.read_binary.Goals as goal
 
@@ -12,18 +11,15 @@ differ true false = refl
 differ false true = refl
 differ false false = refl
 
-pub returns-then-flags-gt-HOST_FLAGS_MAX : goal.returns-then-flags-gt-HOST_FLAGS_MAX
+pub returns-in_err-check_flags : goal.returns-in_err-check_flags
 unfolding read_binary
-returns-then-flags-gt-HOST_FLAGS_MAX c = rw (lt-ltb _ _ c.if-flags-gt-HOST_FLAGS_MAX.true)
+returns-in_err-check_flags c =
+    let p = err_from_is_err_and c.from_residual.result c.from_residual.ensures.1 in
+    let e = c.in_err-check_flags.ensures.err in
+    rw (p.1, p.2, e.0, e.1)
 
 pub returns : goal.returns
 unfolding read_binary
 returns c =
     let a = c.args in
-    rw (
-      le-ltb _ _ c.if-flags-gt-HOST_FLAGS_MAX.false,
-      c.last_flags.ensures,
-      c.is_raised.ensures,
-      c.is_reported-report.ensures,
-      differ a.state a.p.state,
-    )
+    rw (c.in_ok-check_flags.ensures.ok, c.last_flags.ensures, c.is_raised.ensures, c.is_reported-report.ensures, differ a.state a.p.state)

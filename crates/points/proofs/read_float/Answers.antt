@@ -1,15 +1,11 @@
--- `points::read_float` meets its contract.
--- Assumes nothing.
+-- `points::read_float` meets its contract. Assumes nothing.
+use Rattle.std.proofs.Common.{⊎_elim}
 use Rattle.points.specs.Reading.{read_float}
 use Rattle.points.proofs.read_float.Goals as goal
 
 pub returns-in-Int32 : goal.returns-in-Int32
 unfolding read_float
-returns-in-Int32 c = rw c.in-Int32.is
-
-pub returns-in-Int16 : goal.returns-in-Int16
-unfolding read_float
-returns-in-Int16 c = rw c.in-Int16.is
+returns-in-Int32 c = ⊎_elim (λ w. rw w.1) (λ w. rw w.1) c.in-Int32.is
 
 pub returns-in-Float32 : goal.returns-in-Float32
 unfolding read_float

@@ -1,24 +1,29 @@
--- `points::read_float32` meets its contract.
--- Assumes nothing.
-use borrow.Author.Tests.{lt-ltb, le-ltb}
+-- `points::read_float32` meets its contract. Assumes nothing.
 use mathlib.Core.Path.{sym, ◌∙◌}
+use lib.Ieee.{of_bits}
+use Rattle.std.proofs.lemmas.Result.{err_from_is_err_and}
+use Rattle.points.proofs.StdLaws.{finite-is}
 use Rattle.points.proofs.read_float32.Goals as goal
 
-pub returns-then-flags-gt-HOST_FLAGS_MAX : goal.returns-then-flags-gt-HOST_FLAGS_MAX
-returns-then-flags-gt-HOST_FLAGS_MAX c = rw (sym c.is_finite.ensures ∙ c.if-is_finite.true, lt-ltb _ _ c.if-flags-gt-HOST_FLAGS_MAX.true)
+pub returns-then-not-is_finite : goal.returns-then-not-is_finite
+returns-then-not-is_finite c = rw (sym (finite-is c.args.x) ∙ sym c.is_finite.ensures.value ∙ c.if-not-is_finite.true)
 
-pub returns-then-is_finite : goal.returns-then-is_finite
-returns-then-is_finite c =
+pub returns-in_err-check_flags : goal.returns-in_err-check_flags
+returns-in_err-check_flags c =
+    let p = err_from_is_err_and c.from_residual.result c.from_residual.ensures.1 in
+    let e = c.in_err-check_flags.ensures.err in
+    rw (sym (finite-is c.args.x) ∙ sym c.is_finite.ensures.value ∙ c.if-not-is_finite.false, p.1, p.2, e.0, e.1)
+
+pub returns : goal.returns
+unfolding of_bits
+returns c =
     rw (
-      sym c.is_finite.ensures ∙ c.if-is_finite.true,
-      le-ltb _ _ c.if-flags-gt-HOST_FLAGS_MAX.false,
+      sym (finite-is c.args.x) ∙ sym c.is_finite.ensures.value ∙ c.if-not-is_finite.false,
+      c.in_ok-check_flags.ensures.ok,
       ← c.scale_value-v.ensures,
       ← c.gate_float-gated.ensures,
       ← c.shown_flags-f.ensures,
       ← c.is_reported-report.ensures,
-      ← c.float_gate_after-next.ensures,
+      ← c.gate_after-next.ensures,
+      ← c.analog_after.ensures,
     )
-    c.analog_after.ensures
-
-pub returns : goal.returns
-returns c = rw (sym c.is_finite.ensures ∙ c.if-is_finite.false)

@@ -1,40 +1,27 @@
--- `points::read_int16` meets its contract: a signed number is read back from its bits.
--- Assumes nothing.
-use borrow.Author.Rules.{sfits_of}
-use borrow.Author.Tests.{lt-ltb, le-ltb}
-use mathlib.Core.Path.{◌≡◌}
-use mir.Syntax.{w16, w32}
-use mir.Val.{SFits}
+-- `points::read_int16` meets its contract. Assumes nothing.
 use mir.Facts.{to_z-of_z}
-use Rattle.points.specs.Reading.{whole_gate}
+use mir.Syntax.{w16}
+use mir.Val.{SFits}
+use borrow.Author.Rules.{rules}
+use Rattle.std.proofs.lemmas.Result.{err_from_is_err_and}
 use Rattle.points.proofs.read_int16.Goals as goal
-use Rattle.points.proofs.read_int16.Goals.{After-gate_whole-gated, After-struct_told-1, After-struct_told-2-1}
 
--- fields 1 and 2 of the struct: the value last reported and the previous value
-reported-fits : (c : After-struct_told-1) → SFits w32 c.args.t.reported_value
-reported-fits c = sfits_of c.type_inv.t.1.0.1
-
-previous-fits : (c : After-struct_told-2-1) → SFits w32 c.args.t.previous
-previous-fits c = sfits_of c.type_inv.t.1.1.0.1
-
-gated : (c : After-gate_whole-gated) →
-    let a = c.args in
-    c.gate_whole-gated.result ≡ whole_gate a.t a.z
-gated c =
-    rw (to_z-of_z c.ranges.z, to_z-of_z (reported-fits (goal.at.After-gate_whole-gated c).After-struct_told-1), to_z-of_z (previous-fits (goal.at.After-gate_whole-gated c).After-struct_told-2-1)) at c.gate_whole-gated.ensures
-
-pub returns-then-flags-gt-HOST_FLAGS_MAX : goal.returns-then-flags-gt-HOST_FLAGS_MAX
-returns-then-flags-gt-HOST_FLAGS_MAX c = rw (lt-ltb _ _ c.if-flags-gt-HOST_FLAGS_MAX.true)
+pub returns-in_err-check_flags : goal.returns-in_err-check_flags
+returns-in_err-check_flags c =
+    let p = err_from_is_err_and c.from_residual.result c.from_residual.ensures.1 in
+    let e = c.in_err-check_flags.ensures.err in
+    rw (p.1, p.2, e.0, e.1)
 
 pub returns : goal.returns
 returns c =
     let z = to_z-of_z c.ranges.z in
+    let short : SFits w16 c.clamp_value-c.result.value = search rules in
     rw (
-      le-ltb _ _ c.if-flags-gt-HOST_FLAGS_MAX.false,
-      ← (gated (goal.at.returns c).After-gate_whole-gated),
+      c.in_ok-check_flags.ensures.ok,
+      ← (rw z at c.gate_whole-gated.ensures),
       ← (rw z at c.clamp_value-c.ensures),
       ← c.shown_flags-f.ensures,
       ← c.is_reported-report.ensures,
-      ← (rw z at c.whole_gate_after-next.ensures),
+      ← (rw z at c.gate_after-next.ensures),
+      rw (to_z-of_z short) at c.analog_after.ensures,
     )
-    (rw (to_z-of_z (sfits_of {w = w16} c.struct_told-3-1.given.0.1)) at c.analog_after.ensures)

@@ -1,5 +1,4 @@
--- `points::read_whole` meets its contract.
--- Assumes nothing.
+-- `points::read_whole` meets its contract. Assumes nothing.
 use mir.Facts.{to_z-of_z}
 use Rattle.points.specs.Reading.{read_whole}
 use Rattle.points.proofs.read_whole.Goals as goal

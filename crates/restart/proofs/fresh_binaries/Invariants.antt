@@ -1,6 +1,5 @@
--- `restart::fresh_binaries` meets its contract. The invariant: so many classes passed, and their points are stored.
+-- `restart::fresh_binaries` meets its contract. The invariant: so many passed, and they are stored.
 -- Assumes nothing.
-use Prim.Native.Nat.{◌-◌}
 use Rattle.points.specs.Setup.{class_ok, fresh_binary}
 use Rattle.point_store.specs.PointWords.{binaries_in}
 use Rattle.restart.proofs.StoringLaws.{Storing}
@@ -8,6 +7,3 @@ use Rattle.restart.proofs.fresh_binaries.Given as goal
 
 abbrev pub invariant-loop-i : goal.invariant-loop-i
 invariant-loop-i l = Storing class_ok fresh_binary l.classes (binaries_in l.binaries) l.i
-
-abbrev pub decreases-loop-i : goal.decreases-loop-i
-decreases-loop-i l = l.n - l.i

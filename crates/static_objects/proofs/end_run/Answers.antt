@@ -1,22 +1,7 @@
--- `static_objects::end_run` meets its contract.
--- Assumes nothing.
-use mathlib.Core.Path.{sym}
-use mathlib.Core.Bool.{true}
-use Prim.Native.Nat.{◌+◌}
-use native.Mathlib.Omega.{arith}
-use borrow.Author.Tests.{eq-eqb, ne_eqb}
+-- `static_objects::end_run` meets its contract. Assumes nothing.
 use Rattle.octets.proofs.Splice.{splice-nil}
-use Rattle.static_objects.proofs.StaticLaws.{heading-length}
+use Rattle.std.proofs.Common.{sym}
 use Rattle.static_objects.proofs.end_run.Goals as goal
 
-pub put_heading-requires : goal.put_heading-requires
-put_heading-requires c =
-    let a = c.args in
-    let room = rw (ne_eqb _ _ c.if-variation-ne0.true) at c.requires.0 in
-    (omega (arith, room, heading-length true a.variation a.first (a.m + 1)), c.requires.1)
-
-pub returns-then-variation-ne0 : goal.returns-then-variation-ne0
-returns-then-variation-ne0 c = rw (ne_eqb _ _ c.if-variation-ne0.true) c.put_heading.ensures.1
-
-pub returns-else-variation-ne0 : goal.returns-else-variation-ne0
-returns-else-variation-ne0 c = rw (eq-eqb _ _ c.if-variation-ne0.false) (sym (splice-nil _ _))
+pub returns-in_default : goal.returns-in_default
+returns-in_default c = rw c.in_default.is (sym (splice-nil _ _))

@@ -1,76 +1,87 @@
-use mathlib.Core.Path.{◌≡◌, refl, sym, ap, ◌∙◌}
-use mathlib.Core.Bool.{true}
-use native.Mathlib.Omega.{arith}
-use Rattle.static_objects.specs.Static.{shown_at, static_variation, point_bytes, static_heading, range_bytes}
-use Rattle.static_objects.proofs.StaticLaws.{heading-length, points-nil, points-cons, none_first, kind-some}
-use Rattle.static_objects.proofs.RunWriting.{running-start, running-end, top-fits, joined-fits, joined, begun-fits, begun}
+use Rattle.std.proofs.Common.{◌≡◌, arith, refl, ap, sym, ◌∙◌}
+use Rattle.octets.specs.Bytes.{splice}
+use Rattle.static_objects.specs.Static.{static_variation, point_bytes, static_heading, range_bytes}
+use Rattle.static_objects.specs.declared.PointKind.TheVariants.{AnalogInput}
+use Rattle.static_objects.proofs.StaticLaws.{heading-length, points-over, points-next, points-all, none_first, kind-some}
+use Rattle.static_objects.proofs.RunWriting.{running-start, running-end}
+use Rattle.static_objects.proofs.AnalogRuns.{run_variation, heading-is, run-fits, run-joined-fits, run-joined, run-begun-fits, run-begun}
 use Rattle.static_objects.specs.Alone.{analogs_alone}
 use Rattle.static_objects.proofs.put_analogs.Goals as goal
-use Rattle.static_objects.proofs.put_analogs.Goals.{After-variation-k}
+use Rattle.static_objects.proofs.put_analogs.Goals.{in-Some, in_default, in_default-via-in-Some+else-r-k, in_default-via-in_default}
 
--- the variation of the point to show
-kind : (c : After-variation-k)
-    → let a = c.args in
-    c.variation-k.result ≡ static_variation (shown_at (analogs_alone a.count a.ws.now) true c.loop-left.i)
-kind c = c.variation-k.ensures ∙ ap static_variation c.analog_shown-s.ensures
-
-pub loop-left-init : goal.loop-left-init
+pub loop-i-init : goal.loop-i-init
 unfolding range_bytes
-loop-left-init c =
+loop-i-init c =
     let a = c.args in
-    (running-start (static_heading true) 7 (heading-length true) _ _ _ (none_first (analogs_alone a.count a.ws.now) true a.from a.n) _ c.requires.0, refl, omega arith)
-
-pub overflow_add-i : goal.overflow_add-i
-overflow_add-i c =
-    omega (arith, c.loop-left-test.true, c.loop-left.invariant.1, c.requires.1)
+    let i = analogs_alone a.count a.ws.now in
+    let whole = points-all i AnalogInput a.from a.n in
+    rw whole
+    (record {
+      running = running-start (static_heading AnalogInput) 7 (heading-length AnalogInput) _ _ _ (none_first i AnalogInput a.from a.n) c.requires.0;
+      before = tt;
+    })
 
 pub put_point-to-requires : goal.put_point-to-requires
 put_point-to-requires c =
-    joined-fits (static_heading true) 7 (heading-length true) c.loop-left.invariant.0 _ _ (points-cons _ _ _ _ c.loop-left-test.true) _ (kind (goal.at.put_point-to-requires c).After-variation-k) _ (ap point_bytes c.analog_shown-s.ensures) c.if-k-last.true
-
-pub overflow_add-m : goal.overflow_add-m
-overflow_add-m c =
-    omega (arith, c.loop-left-test.true, c.loop-left.invariant.1, c.loop-left.invariant.2, c.requires.1)
-
-pub loop-left-preserved-then-k-last : goal.loop-left-preserved-then-k-last
-loop-left-preserved-then-k-last c =
-    let put = c.put_point-to in (
-      joined (static_heading true) 7 (heading-length true) c.loop-left.invariant.0 _ _ (points-cons _ _ _ _ c.loop-left-test.true) _ (kind (goal.at.loop-left-preserved-then-k-last c).After-variation-k) _ (ap point_bytes c.analog_shown-s.ensures) c.if-k-last.true _ _ put.ensures.0 put.ensures.1,
-      omega (arith, c.loop-left-test.true, c.loop-left.invariant.1),
-      omega (arith, c.loop-left.invariant.2),
-    )
+    let s = c.analog_shown-s in
+    run-joined-fits _ c.loop-i.invariant _ _ (points-next (analogs_alone c.args.count c.args.ws.now) AnalogInput c.loop-i.i _ c.loop-i-test.true)
+    _ (c.variation-k.ensures ∙ ap static_variation s.ensures) _ (ap point_bytes s.ensures) c.in-Some.r c.in-Some.is (sym c.if-r-k.true)
 
 pub end_run-requires : goal.end_run-requires
-end_run-requires c = (
-  top-fits (static_heading true) 7 (heading-length true) c.loop-left.invariant.0,
-  omega (arith, c.loop-left.invariant.1, c.loop-left.invariant.2, c.requires.1),
-)
+end_run-requires c =
+    let fits = run-fits c.loop-i.run (omega (arith, c.requires.1, c.loop-i-test.true)) c.loop-i.invariant in
+    elim c.in_default.branch [
+      | in_default-via-in-Some+else-r-k w ↦ rw (w.run-is ∙ sym w.in-Some.is) fits
+      | in_default-via-in_default w ↦ rw w.run-is fits
+    ]
 
-pub put_point-to-requires-else-k-last : goal.put_point-to-requires-else-k-last
-put_point-to-requires-else-k-last c =
-    let f = begun-fits (static_heading true) 7 (heading-length true) c.loop-left.invariant.0 _ _ (points-cons _ _ _ _ c.loop-left-test.true) _ (kind (goal.at.put_point-to-requires-else-k-last c).After-variation-k) _ (ap point_bytes c.analog_shown-s.ensures) c.if-k-last.false in
-    omega (arith, f, c.end_run.auto.out)
+pub put_point-to-requires-in_default : goal.put_point-to-requires-in_default
+put_point-to-requires-in_default c =
+    let s = c.analog_shown-s in
+    let new : c.variation-k.result ≡ run_variation c.loop-i.run → ⊥ =
+    elim c.in_default.branch [
+      | in_default-via-in-Some+else-r-k w ↦ λ q. w.if-r-k.false (sym (q ∙ ap run_variation w.in-Some.is))
+      | in_default-via-in_default w ↦ λ q. kind-some s.result (sym c.variation-k.ensures ∙ q ∙ ap run_variation w.in_default.is)
+    ] in
+    let fits = run-begun-fits _ c.loop-i.invariant _ _ (points-next (analogs_alone c.args.count c.args.ws.now) AnalogInput c.loop-i.i _ c.loop-i-test.true)
+    _ (c.variation-k.ensures ∙ ap static_variation s.ensures) _ (ap point_bytes s.ensures) new in
+    omega (arith, fits, c.end_run.auto.out)
 
-pub loop-left-preserved : goal.loop-left-preserved
-loop-left-preserved c =
-    let put = c.put_point-to-else-k-last in (
-      begun (static_heading true) 7 (heading-length true) c.loop-left.invariant.0 _ _ (points-cons _ _ _ _ c.loop-left-test.true) _ (kind (goal.at.loop-left-preserved c).After-variation-k) _ (ap point_bytes c.analog_shown-s.ensures) c.if-k-last.false
-          (λ z. kind-some c.analog_shown-s.result (sym c.variation-k.ensures ∙ z)) _ _ _ c.end_run.ensures put.ensures.0 put.ensures.1,
-      omega (arith, c.loop-left-test.true, c.loop-left.invariant.1),
-      omega arith,
-    )
+pub loop-i-preserved : goal.loop-i-preserved
+loop-i-preserved c =
+    let at = c.loop-i in
+    let s = c.analog_shown-s in
+    let next = points-next (analogs_alone c.args.count c.args.ws.now) AnalogInput at.i _ c.loop-i-test.true in
+    let kind = c.variation-k.ensures ∙ ap static_variation s.ensures in
+    let bytes = ap point_bytes s.ensures in
+    elim c.match-run.branch [
+      | in-Some w ↦
+          rw (w.out-is, w.to-is, w.run-is)
+          (run-joined _ at.invariant _ _ next _ kind _ bytes w.in-Some.r w.in-Some.is (sym w.if-r-k.true) _ _ w.put_point-to.ensures.0 w.put_point-to.ensures.1)
+      | in_default w ↦
+          let some = λ (z : c.variation-k.result ≡ 0). kind-some s.result (sym c.variation-k.ensures ∙ z) in
+          let new : c.variation-k.result ≡ run_variation at.run → ⊥ =
+          elim w.in_default.branch [
+            | in_default-via-in-Some+else-r-k v ↦ λ q. v.if-r-k.false (sym (q ∙ ap run_variation v.in-Some.is))
+            | in_default-via-in_default v ↦ λ q. some (q ∙ ap run_variation v.in_default.is)
+          ] in
+          let is : w.in_default.run ≡ at.run =
+          elim w.in_default.branch [
+            | in_default-via-in-Some+else-r-k v ↦ v.run-is ∙ sym v.in-Some.is
+            | in_default-via-in_default v ↦ v.run-is
+          ] in
+          rw (w.out-is, w.to-is, w.run-is)
+          (run-begun _ at.invariant _ _ next _ kind _ bytes new some refl _ _ _ (rw is at w.end_run.ensures) w.put_point-to-in_default.ensures.0 w.put_point-to-in_default.ensures.1)
+    ]
 
 pub end_run-requires-2 : goal.end_run-requires-2
-end_run-requires-2 c = (
-  top-fits (static_heading true) 7 (heading-length true) c.loop-left.invariant.0,
-  omega (arith, c.loop-left.invariant.1, c.loop-left.invariant.2, c.requires.1),
-)
-
-pub shape_of-out : goal.shape_of-out
-shape_of-out c = c.end_run-2.auto.out ∙ c.loop-left.invariant.0.long
+end_run-requires-2 c = run-fits c.loop-i.run (omega (arith, c.requires.1, c.loop-i.auto)) c.loop-i.invariant
 
 pub returns : goal.returns
 unfolding range_bytes
 returns c =
     let a = c.args in
-    running-end (static_heading true) 7 (heading-length true) _ _ _ (none_first (analogs_alone a.count a.ws.now) true a.from a.n) _ _ _ _ _ _ _ c.loop-left.invariant.0 (points-nil _ _ _ _ c.loop-left-test.false) _ c.end_run-2.ensures
+    let i = analogs_alone a.count a.ws.now in
+    let g = rw (points-all i AnalogInput a.from a.n) at c.loop-i.invariant in
+    running-end (static_heading AnalogInput) 7 (heading-length AnalogInput) _ _ _ (none_first i AnalogInput a.from a.n) _ _ _ _ _ _ _ g.running
+    (points-over i AnalogInput _ _ c.loop-i-test.false) _ (c.end_run-2.ensures ∙ ap (splice c.loop-i.out _) (heading-is c.loop-i.run c.loop-i.i g.before))

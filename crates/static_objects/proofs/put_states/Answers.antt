@@ -1,31 +1,27 @@
-use mathlib.Core.Path.{refl}
-use native.Mathlib.Omega.{arith}
-use Rattle.static_objects.proofs.StaticLaws.{length-binary, shown, all_shown}
+use Rattle.std.proofs.Common.{arith, refl, ◌∙◌, ap, List}
+use Rattle.octets.specs.Bytes.{splice}
+use Rattle.objects.specs.Runs.{Object, object_bytes}
+use Rattle.static_objects.specs.declared.PointKind.TheVariants.{BinaryInput}
+use Rattle.static_objects.proofs.StaticLaws.{length-binary, shown, all_shown, points-all}
 use Rattle.static_objects.specs.Alone.{binaries_alone}
 use Rattle.static_objects.proofs.put_states.Goals as goal
 
-pub loop-left-init : goal.loop-left-init
-loop-left-init c = record { ahead = refl; long = refl; room = refl; places = refl }
+pub loop-i-init : goal.loop-i-init
+loop-i-init c = record { ahead = refl; long = refl; room = refl }
 
 pub put_point-to-requires : goal.put_point-to-requires
 put_point-to-requires c =
-    let g = c.loop-left.invariant in
-    omega (arith, length-binary _ _ c.binary_shown-s.ensures, g.room, g.long, c.requires.0, c.loop-left-test.true)
+    let g = c.loop-i.invariant in
+    omega (arith, length-binary _ _ c.binary_shown.ensures, g.room, g.long, c.requires.0, c.loop-i-test.true, c.loop-i.auto.i)
 
-pub overflow_add-i : goal.overflow_add-i
-overflow_add-i c =
-    omega (arith, c.loop-left.invariant.places, c.loop-left-test.true, c.requires.1)
-
-pub loop-left-preserved : goal.loop-left-preserved
-loop-left-preserved c =
+pub loop-i-preserved : goal.loop-i-preserved
+loop-i-preserved c =
     let a = c.args in
-    let put = c.put_point-to in
-    shown (binaries_alone a.count a.ws.now) c.loop-left.invariant c.loop-left-test.true _ c.binary_shown-s.ensures _ _ put.ensures.0 put.ensures.1
-
-pub shape_of-out : goal.shape_of-out
-shape_of-out c = c.loop-left.invariant.long
+    shown (binaries_alone a.count a.ws.now) c.loop-i.invariant c.loop-i-test.true _ c.binary_shown.ensures _ _ c.put_point-to.ensures.0 c.put_point-to.ensures.1
 
 pub returns : goal.returns
 returns c =
     let a = c.args in
-    all_shown (binaries_alone a.count a.ws.now) c.loop-left.invariant c.loop-left-test.false
+    let i = binaries_alone a.count a.ws.now in
+    all_shown i c.loop-i.invariant c.loop-i-test.false
+    ∙ ap (λ (os : List Object). splice a.out.now a.at (object_bytes os)) (points-all i BinaryInput a.from a.n)

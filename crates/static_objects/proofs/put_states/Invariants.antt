@@ -4,8 +4,5 @@ use Rattle.static_objects.proofs.StaticLaws.{Showing}
 use Rattle.static_objects.specs.Alone.{binaries_alone}
 use Rattle.static_objects.proofs.put_states.Given as goal
 
-abbrev pub invariant-loop-left : goal.invariant-loop-left
-invariant-loop-left l = Showing (binaries_alone l.count l.ws) l.initial.out l.at l.from l.n l.out l.to l.i l.left
-
-abbrev pub decreases-loop-left : goal.decreases-loop-left
-decreases-loop-left l = l.left
+abbrev pub invariant-loop-i : goal.invariant-loop-i
+invariant-loop-i l = Showing (binaries_alone l.count l.ws) l.initial.out l.at l.from l.i-end l.out l.to l.i

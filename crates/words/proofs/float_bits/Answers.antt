@@ -2,14 +2,12 @@
 use lib.Ieee.{binary32}
 use lib.Ieee.Bits.{of_bits-to_bits}
 use borrow.Author.Rules.{rules}
-use Rattle.words.proofs.NumberLaws.{not-nan, nan-bits}
+use mathlib.Core.Path.{refl, sym, ◌∙◌}
+use Rattle.words.proofs.NumberLaws.{nan-bits, bits-nan}
 use Rattle.words.proofs.float_bits.Goals as goal
 
-pub float_to_bits-result : goal.float_to_bits-result
-float_to_bits-result c = not-nan _ c.if-x.true
+pub returns-then-is_nan : goal.returns-then-is_nan
+returns-then-is_nan c = let e = sym c.is_nan.ensures.value ∙ c.if-is_nan.true in (nan-bits c.args.x e, bits-nan c.args.x e)
 
-pub returns-then-x : goal.returns-then-x
-returns-then-x c = of_bits-to_bits binary32 c.args.x (search rules)
-
-pub returns-else-x : goal.returns-else-x
-returns-else-x c = nan-bits _ c.if-x.false
+pub returns-else-is_nan : goal.returns-else-is_nan
+returns-else-is_nan c = (of_bits-to_bits binary32 c.args.x (search rules), refl)

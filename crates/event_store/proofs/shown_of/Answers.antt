@@ -1,9 +1,0 @@
--- `event_store::shown_of` meets its contract. Assumes nothing.
-use borrow.Author.Tests.{eq-eqb, ne_eqb}
-use Rattle.event_store.proofs.shown_of.Goals as goal
-
-pub returns-then-kind-eq3 : goal.returns-then-kind-eq3
-returns-then-kind-eq3 c = rw (eq-eqb _ 3 c.if-kind-eq3.true, c.truth.ensures)
-
-pub returns : goal.returns
-returns c = rw (ne_eqb _ 3 c.if-kind-eq3.false, c.value_of.ensures)
