@@ -147,7 +147,13 @@ fn link_header(n: usize, control: u8, destination: u16, source: u16) -> [u8; 8]
 }
 
 // Writes a frame at the front of the lent bytes; a refusal leaves them.
-pub fn write_frame(out: &mut [u8], control: u8, destination: u16, source: u16, user: &[u8]) -> Result<usize, WriteRefusal>
+pub fn write_frame(
+    out: &mut [u8],
+    control: u8,
+    destination: u16,
+    source: u16,
+    user: &[u8],
+) -> Result<usize, WriteRefusal>
     ensures { FrameWritten result (parts control destination source user.now) out.old out.new }
 {
     if out.len() < FRAME_MAX {

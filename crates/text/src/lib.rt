@@ -1,7 +1,7 @@
 // The words of call scripts: taken from a line one after another, and shown in an array of answers.
 #![tactic(auto)]
 
-ghost use Rattle.std.specs.Prelude.{◌≡◌, [], ◌∷◌, ◌+◌, ◌*◌, ◌/◌, ◌%◌, ◌≤◌, ◌<◌, max, length, set, drop, IfOk, IfSome, MatchOption};
+ghost use Rattle.std.specs.Prelude.{◌≡◌, [], ◌∷◌, ◌+◌, ◌*◌, ◌/◌, ◌%◌, ◌≤◌, ◌<◌, max, length, set, drop, IfOk, IfSome, IsOk, IsNone, IsTrue, ◌↔◌, MatchOption, option_copied, ◌-◌, ◌^◌, ◌||◌, cond, leb, take};
 ghost use Rattle.octets.specs.Bytes.{splice};
 ghost use Rattle.text.specs.Words.{
   decimal_in,
@@ -15,6 +15,12 @@ ghost use Rattle.text.specs.Words.{
   digit_of,
   hex_of,
   cursor_after,
+  word_in,
+  TakesWord,
+  TakesValue,
+  nothing_in,
+  reading_in,
+  run_of,
 };
 
 // ---- numbers and bytes of a word
@@ -107,7 +113,9 @@ impl Signed {
     }
 
     // The number, where it is not negative and 32 bits hold it.
-    pub fn to_u32(self) -> Option<u32> {
+    pub fn to_u32(self) -> Option<u32>
+        ensures { result ≡ cond (self.negative || leb (2 ^ 32) self.size) None (Some self.size) }
+    {
         if self.negative {
             None
         } else {
@@ -157,20 +165,27 @@ pub struct WrongWord;
 // The words of a line that are still to be taken: none is left behind the last.
 #[derive(Clone, Copy)]
 pub struct Words<'a> {
-    rest: Option<&'a [u8]>,
+    pub rest: Option<&'a [u8]>,
 }
 
 impl<'a> Words<'a> {
-    pub fn new(line: &'a [u8]) -> Self {
+    // All words of the line.
+    pub fn new(line: &'a [u8]) -> Self
+        ensures { option_copied result.rest ≡ Some line.now }
+    {
         Words { rest: Some(line) }
     }
 
-    pub fn is_finished(&self) -> bool {
+    pub fn is_finished(&self) -> bool
+        ensures { IsTrue result ↔ IsNone self.now.rest }
+    {
         self.rest.is_none()
     }
 
     // All words were taken.
-    pub fn finish(&self) -> Result<(), WrongWord> {
+    pub fn finish(&self) -> Result<(), WrongWord>
+        ensures { IsOk result ↔ IsNone self.now.rest }
+    {
         if self.is_finished() {
             Ok(())
         } else {
@@ -179,7 +194,9 @@ impl<'a> Words<'a> {
     }
 
     // The next word, up to a mark.
-    pub fn word(&mut self, mark: u8) -> Result<&'a [u8], WrongWord> {
+    pub fn word(&mut self, mark: u8) -> Result<&'a [u8], WrongWord>
+        ensures { TakesWord mark (option_copied self.old.rest) (option_copied (word_in result)) (option_copied self.new.rest) }
+    {
         let Some(rest) = self.rest else {
             return Err(WrongWord);
         };
@@ -197,23 +214,23 @@ impl<'a> Words<'a> {
 
     // A number from 0 to the limit.
     pub fn number(&mut self, mark: u8, limit: u64) -> Result<u64, WrongWord>
-        ensures { IfOk result (λ n. n ≤ limit) }
+        ensures within { IfOk result (λ n. n ≤ limit) }
+        ensures said { TakesValue mark (decimal_in limit) (option_copied self.old.rest) (word_in result) (option_copied self.new.rest) }
     {
         decimal_of(self.word(mark)?, limit).ok_or(WrongWord)
     }
 
     // A signed number that 64 bits hold.
-    pub fn signed(&mut self, mark: u8) -> Result<Signed, WrongWord> {
-        signed_of(
-            self.word(mark)?,
-            9223372036854775808,
-            9223372036854775807,
-        )
-        .ok_or(WrongWord)
+    pub fn signed(&mut self, mark: u8) -> Result<Signed, WrongWord>
+        ensures { TakesValue mark (signed_of 9223372036854775808 9223372036854775807) (option_copied self.old.rest) (word_in result) (option_copied self.new.rest) }
+    {
+        signed_of(self.word(mark)?, 9223372036854775808, 9223372036854775807).ok_or(WrongWord)
     }
 
     // A whole reading.
-    pub fn reading(&mut self, mark: u8) -> Result<i32, WrongWord> {
+    pub fn reading(&mut self, mark: u8) -> Result<i32, WrongWord>
+        ensures { TakesValue mark reading_in (option_copied self.old.rest) (word_in result) (option_copied self.new.rest) }
+    {
         self.signed(mark)?.to_i32().ok_or(WrongWord)
     }
 
@@ -250,8 +267,10 @@ impl<'a> Words<'a> {
     }
 
     // The word `-`, where a field has nothing.
-    pub fn nothing(&mut self, mark: u8) -> Result<(), WrongWord> {
-        if matches!(self.word(mark)?, [b'-']) {
+    pub fn nothing(&mut self, mark: u8) -> Result<(), WrongWord>
+        ensures { TakesValue mark nothing_in (option_copied self.old.rest) (word_in result) (option_copied self.new.rest) }
+    {
+        if octets::equal(self.word(mark)?, b"-") {
             Ok(())
         } else {
             Err(WrongWord)
@@ -272,7 +291,9 @@ pub struct Answers {
 }
 
 impl Answers {
-    pub fn new() -> Self {
+    pub fn new() -> Self
+        ensures { result.len ≡ 0 }
+    {
         Answers {
             bytes: [0; ANSWERS_MAX],
             len: 0,
@@ -330,8 +351,11 @@ impl Answers {
     }
 
     // Puts the bytes, two digits each, `-` for none.
-    pub fn put_run(&mut self, s: &[u8]) {
-        if s.is_empty() {
+    pub fn put_run(&mut self, s: &[u8])
+        ensures bytes { self.new.bytes ≡ splice self.old.bytes self.old.len (run_of s.now) }
+        ensures len { self.new.len ≡ cursor_after (length self.old.bytes) self.old.len (length (run_of s.now)) }
+    {
+        if s.len() == 0 {
             self.put(b'-');
         } else {
             self.put_hex(s);
@@ -339,12 +363,16 @@ impl Answers {
     }
 
     // What there is to write out.
-    pub fn written(&self) -> &[u8] {
+    pub fn written(&self) -> &[u8]
+        ensures { result.now ≡ take self.now.len self.now.bytes }
+    {
         &self.bytes[..self.len.min(self.bytes.len())]
     }
 
     // How many bytes there is room for.
-    pub fn room(&self) -> usize {
+    pub fn room(&self) -> usize
+        ensures { result ≡ length self.now.bytes - self.now.len }
+    {
         self.bytes.len().saturating_sub(self.len)
     }
 }

@@ -64,7 +64,6 @@ module _ (first last : Bool) (q : ℕ) where
 -- ---- receiving
 
 module _ (d : List ℕ) (a : Assembly) (s : List ℕ) where
-
   pub got-first : fragment_max ≤ length d → 2 ≤ length s → length s ≤ segment_data_max + 1 → head_of s / 64 % 2 ≡ 1 → receiving d a s ≡ accepted (behind 0)
   unfolding receiving
   got-first h l m e = rw (le-ltb (length d) fragment_max h, le-ltb (length s) 2 l, le-ltb (segment_data_max + 1) (length s) m, eq-eqb (head_of s / 64 % 2) 1 e)
@@ -121,8 +120,10 @@ place-forgets a d s k e = go (not a.begun) (same s (last_segment a d)) (not (eqb
   where
     by_22 : ◌≡◌ {A = Outcome Place} (refused 22) (refused k) → forgets k ≡ true
     by_22 e = let z : 22 ≡ k = cc in rw (sym z)
+
     by-23 : ◌≡◌ {A = Outcome Place} (refused 23) (refused k) → forgets k ≡ true
     by-23 e = let z : 23 ≡ k = cc in rw (sym z)
+
     go : (b r q l : Bool) → cond b (refused 22) (cond r (accepted ignored) (cond q (refused 22) (cond l (refused 23) (accepted (behind a.len))))) ≡ refused k → forgets k ≡ true
     go true r q l e = by_22 e
     go false true q l e = cc
@@ -182,7 +183,6 @@ rest-length s = length-drop 1 s
 -- ---- sending
 
 module _ (room : ℕ) (p : Sender) (f : List ℕ) where
-
   pub send-next : segment_data_max + 1 ≤ room → 1 ≤ length f → length f ≤ fragment_max → sending room p f ≡ accepted (next_segment p f)
   unfolding sending
   send-next h l m = rw (le-ltb room (segment_data_max + 1) h, le-ltb (length f) 1 l, le-ltb fragment_max (length f) m)

@@ -32,7 +32,7 @@ unfolding others_of
 loop-b-init c =
     let rest = c.loop-eight.eight-iterator.rest.now in
     let inv = c.loop-eight.invariant in
-    ap (remainder c.loop-eight.r) (sym inv.2 ∙ few rest (omega (arith, c.in-None.ensures.steps.1.0, inv.0)))  ∙ inv.1
+    ap (remainder c.loop-eight.r) (sym inv.2 ∙ few rest (omega (arith, c.in-None.ensures.steps.1.0, inv.0))) ∙ inv.1
 
 pub loop-b-preserved : goal.loop-b-preserved
 loop-b-preserved c =

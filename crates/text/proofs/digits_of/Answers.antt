@@ -6,9 +6,10 @@ use Rattle.text.proofs.digits_of.Goals.{then-b-lt48-via-then-b-lt48, then-b-lt48
 
 pub returns-then-b-lt48-clause-said : goal.returns-then-b-lt48-clause-said
 returns-then-b-lt48-clause-said c = let l = c.loop-b in
-    sym (elim c.then-b-lt48.branch
-      [ then-b-lt48-via-then-b-lt48 w ↦ whole-within-low c.args.limit l.a l.b-index c.args.w.now (omega arith) w.if-b-lt48.true
-      | then-b-lt48-via-else-b-lt48+then-b-gt57 w ↦ whole-within-high c.args.limit l.a l.b-index c.args.w.now (omega arith) w.if-b-gt57.true ])
+    sym (elim c.then-b-lt48.branch [
+      | then-b-lt48-via-then-b-lt48 w ↦ whole-within-low c.args.limit l.a l.b-index c.args.w.now (omega arith) w.if-b-lt48.true
+      | then-b-lt48-via-else-b-lt48+then-b-gt57 w ↦ whole-within-high c.args.limit l.a l.b-index c.args.w.now (omega arith) w.if-b-gt57.true
+    ])
     ∙ l.invariant.0
 
 pub returns-then-limit-d-clause-said : goal.returns-then-limit-d-clause-said

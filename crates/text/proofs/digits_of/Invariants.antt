@@ -8,4 +8,3 @@ use Rattle.text.proofs.digits_of.Given as goal
 
 abbrev pub invariant-loop-b : goal.invariant-loop-b
 invariant-loop-b l = (whole_within l.limit l.a (drop l.b-index l.w) ≡ whole_within l.limit 0 l.w) × (l.a ≤ l.limit) × (l.b-index ≤ length l.w)
-

@@ -16,12 +16,12 @@ returns-then-w-ne0-clause-said c = sym (read-odd _ _ c.if-out-n.false c.if-w-ne0
 pub returns-in_err-high-clause-said : goal.returns-in_err-high-clause-said
 returns-in_err-high-clause-said c = let l = c.loop-k in let w = c.args.w.now in
     rw c.from_residual.ensures (sym (read-not _ w (omega arith) c.if-w-ne0.false
-      (sym l.invariant.digits ∙ first-none (2 * l.k) w (omega arith) (omega (arith, c.in_err-high.ensures)))))
+    (sym l.invariant.digits ∙ first-none (2 * l.k) w (omega arith) (omega (arith, c.in_err-high.ensures)))))
 
 pub returns-in_err-low-clause-said : goal.returns-in_err-low-clause-said
 returns-in_err-low-clause-said c = let l = c.loop-k in let w = c.args.w.now in
     rw c.from_residual-in_err-low.ensures (sym (read-not _ w (omega arith) c.if-w-ne0.false
-      (sym l.invariant.digits ∙ second_none (2 * l.k) w (omega arith) (omega (arith, c.in_ok-high.ensures.0, c.in_ok-high.ensures.1)) (omega (arith, c.in_err-low.ensures)))))
+    (sym l.invariant.digits ∙ second_none (2 * l.k) w (omega arith) (omega (arith, c.in_ok-high.ensures.0, c.in_ok-high.ensures.1)) (omega (arith, c.in_err-low.ensures)))))
 
 pub loop-k-preserved : goal.loop-k-preserved
 loop-k-preserved c = let l = c.loop-k in let w = c.args.w.now in
@@ -30,7 +30,8 @@ loop-k-preserved c = let l = c.loop-k in let w = c.args.w.now in
     record {
       bytes = rw next (unhex-turn (2 * l.k) w (omega arith) l.out l.k (16 * c.in_ok-high.high + c.in_ok-low.low) (omega arith) (omega (arith, n.0, m.0)) ∙ l.invariant.bytes);
       digits = rw next (both-digits (2 * l.k) w (omega arith) (omega (arith, n.0, n.1)) (omega (arith, m.0, m.1)) ∙ l.invariant.digits);
-      room = simp length-set l.invariant.room }
+      room = simp length-set l.invariant.room;
+    }
 
 pub returns-clause-said : goal.returns-clause-said
 returns-clause-said c = let l = c.loop-k in let w = c.args.w.now in

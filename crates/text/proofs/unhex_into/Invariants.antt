@@ -8,4 +8,5 @@ abbrev pub invariant-loop-k : goal.invariant-loop-k
 invariant-loop-k l = record {
   bytes : take l.k l.out ++ unhex (drop (2 * l.k) l.w) ≡ unhex l.w;
   digits : all_hex (drop (2 * l.k) l.w) ≡ all_hex l.w;
-  room : length l.out ≡ length l.initial.out }
+  room : length l.out ≡ length l.initial.out;
+}

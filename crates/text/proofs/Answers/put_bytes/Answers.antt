@@ -9,7 +9,8 @@ loop-b-preserved c = let l = c.loop-b in let s = c.args.s.now in
     record {
       bytes = cc (put-turn l.self.bytes l.self.len l.b-index s (omega arith), c.put.ensures.bytes, c.put.ensures.len, l.invariant.bytes);
       len = omega (arith, c.put.ensures.len, l.invariant.len, l.invariant.size);
-      size = rw c.put.ensures.bytes (simp length-set l.invariant.size) }
+      size = rw c.put.ensures.bytes (simp length-set l.invariant.size);
+    }
 
 pub returns-clause-bytes : goal.returns-clause-bytes
 returns-clause-bytes c = let l = c.loop-b in cc (splice-end l.self.bytes l.self.len l.b-index c.args.s.now (omega arith), l.invariant.bytes)
