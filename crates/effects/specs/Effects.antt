@@ -4,7 +4,7 @@ use Rattle.std.specs.Prelude.{ℕ, ◌+◌, ◌≤◌, ◌≡◌, Bool, false, c
 use Rattle.octets.specs.Bytes.{splice}
 use Rattle.control.specs.Objects.{echo_max, Holding}
 use Rattle.control.specs.Status.{outputs_of}
-use Rattle.select_latch.specs.Select.{latch_of}
+use Rattle.select_latch.specs.Select.{latch_of, latch_len}
 use Rattle.events.specs.BufferView.{BufferView}
 use Rattle.application.specs.Response.{is_faultless, write_fault}
 use Rattle.last_request.specs.Repeat.{nothing}
@@ -24,7 +24,7 @@ pub record EffectMeets (r : RequestEffect) (before after : List ℕ) (d : S.Requ
   pub operated : Holding r.operated d.operated
   pub wait : r.wait ≡ d.wait
   pub latch : latch_of r.latch ≡ d.latch
-  pub counted : r.latch.len ≤ echo_max
+  pub counted : latch_len r.latch ≤ echo_max
   pub restarted : r.restarted ≡ d.restarted
 
 -- the same, whatever events are held

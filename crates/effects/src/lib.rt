@@ -12,7 +12,7 @@ use analog_outputs::ANALOG_OUTPUT_WORDS;
 use application::{ApplicationSequence, Fault};
 use control::{ControlObjects, OutputCounts};
 use outstation::Awaited;
-use select_latch::{ControlFunction, Latch};
+use select_latch::{ControlFunction, Selection};
 
 // What a request other than READ sees of the state, beside the analog outputs' words.
 #[derive(Clone, Copy)]
@@ -20,7 +20,7 @@ pub struct RequestContext {
     pub outputs: OutputCounts,
     pub arm_time: u64,
     pub restarted: bool,
-    pub latch: Latch,
+    pub latch: Option<Selection>,
 }
 
 // What a request does beside the events, before its answer is put together.
@@ -31,7 +31,7 @@ pub struct RequestEffect {
     pub size: usize,
     pub operated: ControlObjects,
     pub wait: Option<Awaited>,
-    pub latch: Latch,
+    pub latch: Option<Selection>,
     pub restarted: bool,
 }
 
@@ -86,7 +86,7 @@ fn plain_effect(fault: Option<Fault>, restarted: bool) -> RequestEffect
         size: 4,
         operated: control::none(),
         wait: None,
-        latch: select_latch::empty(),
+        latch: None,
         restarted,
     }
 }

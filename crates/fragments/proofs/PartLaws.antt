@@ -11,7 +11,6 @@ use lib.Dec.{eqb}
 use lib.ListN.{length, take}
 use Rattle.laws.specs.Limits.{events_max, fragment_max}
 use Rattle.laws.specs.Lists.{some}
-use Rattle.laws.proofs.Choices.{by}
 use Rattle.octets.specs.Bytes.{splice}
 use Rattle.application.specs.declared.Fault.{Fault}
 use Rattle.std.specs.Prelude.{Option, Some, None}
@@ -25,9 +24,8 @@ use Rattle.static_objects.specs.Static.{asked_of}
 use Rattle.read.specs.Response.{buffer_after, response_objects, RepliedAs}
 use Rattle.control.specs.declared.ControlObjects.{ControlObjects}
 use Rattle.control.specs.Objects.{answer_max, list_of, Holding}
-use Rattle.select_latch.specs.declared.Latch.{Latch}
-use Rattle.select_latch.specs.declared.ControlGroup.TheVariants as G
-use Rattle.select_latch.specs.Select.{no_select, selected, latch_of}
+use Rattle.select_latch.specs.declared.Selection.{Selection}
+use Rattle.select_latch.specs.Select.{no_select, latch_of, latch_len}
 use Rattle.last_request.specs.Repeat.{kept, last_in, kept_answer}
 use Rattle.outstation.specs.declared.Awaited.{Awaited}
 use Rattle.outstation.specs.OutstationView.{OutstationView}
@@ -153,7 +151,7 @@ effect_for f con size wait restarted =
       size = size;
       operated = record { items = []; count = 0 };
       wait = wait;
-      latch = record { armed = false; group = G.Crob; sequence = record { 0 = 0 }; time = 0; objects = []; len = 0 };
+      latch = None;
       restarted = restarted;
     }
 
@@ -301,7 +299,7 @@ repeated-in h p s function time none b a n is hands put room said m =
 -- ---- any other request
 
 module _ (h : Head) (e p s o ws : List ℕ) (q function time : ℕ) (f e₁ p₁ s₁ o₁ : List ℕ) (r : RequestEffect) (b a₁ a₂ : List ℕ) (n : ℕ) (is : FragmentAnswer)
-    (k : LastLengths) (h₁ : Head) (left : LeftIn h time r.restarted None k (latch_of r.latch) r.latch.len h₁ o₁)
+    (k : LastLengths) (h₁ : Head) (left : LeftIn h time r.restarted None k (latch_of r.latch) (latch_len r.latch) h₁ o₁)
     (keeps : (last_in p₁ s₁ (Some k) ≡ kept f (take n a₂)) × (k.request_len ≡ length f) × (k.answer_len ≡ length (take n a₂))) (short : length f ≤ fragment_max)
     (small : length (take n a₂) ≤ answer_max) (room : fragment_max ≤ length b) (said : is ≡ cond (eqb function 6) Fs.Silent (Fs.Answer n)) where
   -- the rest of what is known, by the status and the part of the state that the code has
@@ -370,12 +368,9 @@ left_head h time restarted kind sequence sent showed_overflow dropped_since k ar
     }
 
 -- a latch in a head: its number says whether it is armed, and for what
-latch-left : (l : Latch) (n : ℕ) → (holds n ≡ l.armed) × (l.armed ≡ true → group_in n ≡ l.group)
-    → latch_of (record { armed = holds n; group = group_in n; sequence = l.sequence; time = l.time; objects = l.objects; len = l.len }) ≡ latch_of l
-unfolding latch_of
-latch-left l n e =
-    ap (λ (b : Bool). cond b (selected (group_in n) l.sequence.0 l.time (take l.len l.objects)) no_select) e.0
-    ∙ by l.armed (λ t. rw (t, e.1 t)) (λ t. rw t)
+latch-left : (s : Selection) (n : ℕ) → (holds n ≡ true) × (group_in n ≡ s.group)
+    → latch_of (cond (holds n) (Some (record { group = group_in n; sequence = s.sequence; time = s.time; objects = s.objects; len = s.len })) None) ≡ latch_of (Some s)
+latch-left s n e = rw (e.0, e.1)
 
 module _ (h : Head) (time : ℕ) (k : LastLengths) where
   pub after_read : (q : ApplicationSequence) (con : Bool) (kind : ℕ) → holds kind ≡ con
@@ -405,13 +400,13 @@ module _ (h : Head) (time : ℕ) (k : LastLengths) where
             record { binaries = c.binaries; analogs = c.analogs; events = c.events; request = request; answer = answer; objects = objects; outputs = c.outputs };
       }
 
-  pub after-request : (restarted : Bool) (latch : Latch) (again armed : ℕ) → holds again ≡ restarted
-      → (holds armed ≡ latch.armed) × (latch.armed ≡ true → group_in armed ≡ latch.group)
-      → LeftIn h time restarted None k (latch_of latch) latch.len
-      (left_head h time again 0 h.wait_sequence h.wait_time h.showed_overflow h.dropped_since k armed latch.sequence.0 latch.time latch.len)
-      latch.objects
+  after-latch : (restarted : Bool) (latch : Option Selection) (again armed q t n : ℕ) (o : List ℕ) → holds again ≡ restarted
+      → latch_of (cond (holds armed) (Some (record { group = group_in armed; sequence = record { 0 = q }; time = t; objects = o; len = n })) None) ≡ latch_of latch
+      → LeftIn h time restarted None k (latch_of latch) n
+      (left_head h time again 0 h.wait_sequence h.wait_time h.showed_overflow h.dropped_since k armed q t n)
+      o
   unfolding wait_of
-  after-request restarted latch again armed er ea =
+  after-latch restarted latch again armed q t n o er ea =
       record {
         view =
             λ m i.
@@ -425,7 +420,7 @@ module _ (h : Head) (time : ℕ) (k : LastLengths) where
                           restarted = er i;
                           wait = None;
                           last = last_in m.request m.answer (Some k);
-                          latch = latch-left latch armed ea i;
+                          latch = ea i;
                         };
                   };
             };
@@ -433,6 +428,18 @@ module _ (h : Head) (time : ℕ) (k : LastLengths) where
             λ request answer objects c.
             record { binaries = c.binaries; analogs = c.analogs; events = c.events; request = request; answer = answer; objects = objects; outputs = c.outputs };
       }
+
+  pub after-empty : (restarted : Bool) (again : ℕ) (o : List ℕ) → holds again ≡ restarted
+      → LeftIn h time restarted None k (latch_of None) 0
+      (left_head h time again 0 h.wait_sequence h.wait_time h.showed_overflow h.dropped_since k 0 0 0 0)
+      o
+  after-empty restarted again o er = after-latch restarted None again 0 0 0 0 o er refl
+
+  pub after-armed : (restarted : Bool) (s : Selection) (again armed : ℕ) → holds again ≡ restarted → (holds armed ≡ true) × (group_in armed ≡ s.group)
+      → LeftIn h time restarted None k (latch_of (Some s)) s.len
+      (left_head h time again 0 h.wait_sequence h.wait_time h.showed_overflow h.dropped_since k armed s.sequence.0 s.time s.len)
+      s.objects
+  after-armed restarted s again armed er ea = after-latch restarted (Some s) again armed s.sequence.0 s.time s.len s.objects er (latch-left s armed ea)
 
 -- ---- the step of a CONFIRM, by what it comes to
 

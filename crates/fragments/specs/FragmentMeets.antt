@@ -22,7 +22,7 @@ use Rattle.event_store.specs.EventWords.{buffer_view_in}
 use Rattle.outstation.specs.declared.Head.{Head}
 use Rattle.outstation.specs.declared.Awaited.{Awaited}
 use Rattle.outstation.specs.OutstationView.{OutstationView, SessionView, with_clock, with_inputs, with_buffer, with_session, with_shared, with_master}
-use Rattle.outstation.specs.Lent.{Lent, Outstation, outstation_view, HeadCountsWithin, CountsWithin, buffer_status, output_counts, group_in, wait_of, view_of}
+use Rattle.outstation.specs.Lent.{Lent, Outstation, outstation_view, HeadCountsWithin, CountsWithin, buffer_status, output_counts, latch_in, wait_of, view_of}
 use Rattle.outstation.specs.Step.{Answer, took, answers, silent, accepts, refuses, handed, output_after, Result, fragment, step, read_effect, plain_effect, read_step, repeat_step, request_step, effect_by, confirm_step, confirmed_step}
 use Rattle.outstation.specs.Step as S
 use Rattle.effects.specs.declared.RequestContext.{RequestContext}
@@ -183,15 +183,7 @@ context_in h objects =
       outputs = output_counts h;
       arm_time = h.arm_time;
       restarted = holds h.restarted;
-      latch =
-          record {
-            armed = holds h.latch_armed;
-            group = group_in h.latch_armed;
-            sequence = record { 0 = h.latch_sequence };
-            time = h.latch_time;
-            objects = objects;
-            len = h.latch_len;
-          };
+      latch = latch_in h objects;
     }
 
 -- ---- the head r and the latch's bytes o that a request leaves: IIN1.7, the wait, so many bytes of the request and its answer, the latch of

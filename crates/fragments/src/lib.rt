@@ -6,9 +6,9 @@ ghost use Rattle.laws.specs.Limits.{fragment_max};
 ghost use Rattle.octets.specs.Bytes.{splice};
 ghost use Rattle.application.specs.Response.{response_of};
 ghost use Rattle.control.specs.Objects.{Holding, answer_max};
-ghost use Rattle.select_latch.specs.Select.{latch_of};
+ghost use Rattle.select_latch.specs.Select.{latch_of, latch_len};
 ghost use Rattle.last_request.specs.Repeat.{kept_answer, last_in};
-ghost use Rattle.outstation.specs.Lent.{group_in, last_lengths};
+ghost use Rattle.outstation.specs.Lent.{group_in, latch_in, last_lengths};
 ghost use Rattle.outstation.specs.Step.{indications_of, newly_sent};
 ghost use Rattle.event_store.specs.EventWords.{buffer_view_in};
 ghost use Rattle.words.specs.Numbers.{holds};
@@ -34,7 +34,7 @@ use event_store::{BufferStatus, EVENT_WORDS};
 use last_request::LastLengths;
 use outstation::{Awaited, Head};
 use point_store::{ANALOG_WORDS, BINARY_WORDS, Installed};
-use select_latch::{ControlGroup, Latch};
+use select_latch::{ControlGroup, Selection};
 
 // Why a fragment is refused.
 #[derive(Clone, Copy)]
@@ -312,17 +312,30 @@ fn group_in(n: u8) -> ControlGroup
     }
 }
 
-// The number of a latch that is armed for this group, or is not armed.
-fn latch_byte(armed: bool, group: ControlGroup) -> u8
-    ensures { (holds result ≡ armed) × (armed ≡ true → group_in result ≡ group) }
+// The number of a latch that is armed for this group.
+fn latch_byte(group: ControlGroup) -> u8
+    ensures { (holds result ≡ true) × (group_in result ≡ group) }
 {
-    if !armed {
-        return 0;
-    }
     match group {
         ControlGroup::Crob => 1,
         ControlGroup::AnalogOutput => 2,
     }
+}
+
+// The latch of the head, with the object bytes that are lent.
+fn latch_in(h: Head, objects: &[u8; ECHO_MAX]) -> Option<Selection>
+    ensures { result ≡ latch_in h objects.now }
+{
+    if h.latch_armed == 0 {
+        return None;
+    }
+    Some(Selection {
+        group: group_in(h.latch_armed),
+        sequence: ApplicationSequence(h.latch_sequence),
+        time: h.latch_time,
+        objects: *objects,
+        len: h.latch_len,
+    })
 }
 
 // What it sees of the state: the latch is loaded by value.
@@ -336,14 +349,7 @@ fn context_of(h: Head, objects: &[u8; ECHO_MAX]) -> RequestContext
         },
         arm_time: h.arm_time,
         restarted: h.restarted != 0,
-        latch: Latch {
-            armed: h.latch_armed != 0,
-            group: group_in(h.latch_armed),
-            sequence: ApplicationSequence(h.latch_sequence),
-            time: h.latch_time,
-            objects: *objects,
-            len: h.latch_len,
-        },
+        latch: latch_in(h, objects),
     }
 }
 
@@ -378,25 +384,38 @@ fn after_request(
     objects: &mut [u8; ECHO_MAX],
     time: u64,
     restarted: bool,
-    latch: Latch,
+    latch: Option<Selection>,
     k: LastLengths,
 ) -> Head
-    ensures { LeftIn h time restarted None k (latch_of latch) latch.len result objects.new }
+    ensures { LeftIn h time restarted None k (latch_of latch) (latch_len latch) result objects.new }
 {
-    let bytes = latch.objects;
-    *objects = bytes;
-    Head {
+    let mut next = Head {
         clock: time,
         restarted: u8::from(restarted),
         waiting: 0,
         request_kept: 1,
         request_len: k.request_len,
         answer_len: k.answer_len,
-        latch_armed: latch_byte(latch.armed, latch.group),
-        latch_sequence: latch.sequence.0,
-        latch_time: latch.time,
-        latch_len: latch.len,
         ..h
+    };
+    match latch {
+        None => {
+            *objects = [0; ECHO_MAX];
+            next.latch_armed = 0;
+            next.latch_sequence = 0;
+            next.latch_time = 0;
+            next.latch_len = 0;
+            next
+        }
+        Some(selection) => {
+            let bytes = selection.objects;
+            *objects = bytes;
+            next.latch_armed = latch_byte(selection.group);
+            next.latch_sequence = selection.sequence.0;
+            next.latch_time = selection.time;
+            next.latch_len = selection.len;
+            next
+        }
     }
 }
 

@@ -9,6 +9,7 @@ use Rattle.control.specs.Status.{outputs_of}
 use Rattle.points.specs.PointsView.{PointsView}
 use Rattle.select_latch.specs.declared.ControlGroup.{ControlGroup}
 use Rattle.select_latch.specs.declared.ControlGroup.TheVariants as G
+use Rattle.select_latch.specs.declared.Selection.{Selection}
 use Rattle.select_latch.specs.Select.{latch_of}
 use Rattle.last_request.specs.declared.LastLengths.{LastLengths}
 use Rattle.last_request.specs.Repeat.{last_in}
@@ -64,22 +65,27 @@ wait_of h =
 abbrev pub last_lengths : Head → Option LastLengths
 last_lengths h = cond (holds h.request_kept) (Some (record { request_len = h.request_len; answer_len = h.answer_len })) None
 
+-- the latch, if it is armed, with these object bytes
+abbrev pub latch_in : Head → List ℕ → Option Selection
+latch_in h objects =
+    cond (holds h.latch_armed)
+    (Some
+    (record {
+      group = group_in h.latch_armed;
+      sequence = record { 0 = h.latch_sequence };
+      time = h.latch_time;
+      objects = objects;
+      len = h.latch_len;
+    }))
+    None
+
 abbrev pub session_in : Head → Lent → SessionView
 session_in h m =
     record {
       restarted = holds h.restarted;
       wait = wait_of h;
       last = last_in m.request m.answer (last_lengths h);
-      latch =
-          latch_of
-          (record {
-            armed = holds h.latch_armed;
-            group = group_in h.latch_armed;
-            sequence = record { 0 = h.latch_sequence };
-            time = h.latch_time;
-            objects = m.objects;
-            len = h.latch_len;
-          });
+      latch = latch_of (latch_in h m.objects);
     }
 
 -- ---- the view, with these inputs and with those of the memory

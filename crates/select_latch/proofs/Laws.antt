@@ -11,7 +11,7 @@ use lib.ListN.{take, drop}
 use Rattle.laws.specs.First.{first, ◌⇒◌}
 use Rattle.laws.specs.Lists.{all, same}
 use Rattle.application.specs.Fragment.{next_of}
-use Rattle.std.specs.Prelude.{Some, Ok, Err}
+use Rattle.std.specs.Prelude.{Option, Some, None, Ok, Err}
 use Rattle.application.specs.declared.Fault.{Fault}
 use Rattle.control.specs.declared.Form.{Form}
 use Rattle.control.specs.Objects.{formed, objects}
@@ -21,7 +21,7 @@ use Rattle.select_latch.specs.contracts.ControlFunction as Functions
 use Rattle.select_latch.specs.declared.ControlGroup.{ControlGroup}
 use Rattle.select_latch.specs.declared.ControlGroup.TheVariants as G
 use Rattle.select_latch.specs.declared.ControlFunction.TheVariants as F
-use Rattle.select_latch.specs.declared.Latch.{Latch}
+use Rattle.select_latch.specs.declared.Selection.{Selection}
 use Rattle.select_latch.specs.declared.ControlFunction.{ControlFunction}
 use Rattle.select_latch.specs.Select.{is_select, is_operate, is_unanswered, group_of, same_group, LatchView, no_select, selected, latch_of, operate_status, statuses_by, control_effect_with, control_effect}
 
@@ -35,31 +35,19 @@ by_tests true true false d = refl
 by_tests true true true false = refl
 by_tests true true true true = refl
 
-pub status-tested : (arm : ℕ) (l : Latch) (g : ControlGroup) (sequence time : ℕ) (o : List ℕ)
+pub status-tested : (arm : ℕ) (l : Option Selection) (s : Selection) → l ≡ Some s → (g : ControlGroup) (sequence time : ℕ) (o : List ℕ)
     → operate_status arm (latch_of l) g sequence time o
-    ≡ cond l.armed
-    (cond (same_group l.group g)
-    (cond (same o (take l.len l.objects)) (cond (eqb sequence (next_of l.sequence.0)) (cond (leb (time - l.time) arm) 0 1) 2) 2)
-    2)
+    ≡ cond (same_group s.group g)
+    (cond (same o (take s.len s.objects)) (cond (eqb sequence (next_of s.sequence.0)) (cond (leb (time - s.time) arm) 0 1) 2) 2)
     2
 unfolding latch_of operate_status
-status-tested arm l g sequence time o = go l.armed
-  where
-    by-four : operate_status arm (selected l.group l.sequence.0 l.time (take l.len l.objects)) g sequence time o
-        ≡ cond (same_group l.group g)
-        (cond (same o (take l.len l.objects)) (cond (eqb sequence (next_of l.sequence.0)) (cond (leb (time - l.time) arm) 0 1) 2) 2)
-        2
-    by-four = by_tests (same_group l.group g) (same o (take l.len l.objects)) (eqb sequence (next_of l.sequence.0)) (leb (time - l.time) arm)
+status-tested arm l s e g sequence time o =
+    rw e (by_tests (same_group s.group g) (same o (take s.len s.objects)) (eqb sequence (next_of s.sequence.0)) (leb (time - s.time) arm))
 
-    go : (t : Bool)
-        → operate_status arm (cond t (selected l.group l.sequence.0 l.time (take l.len l.objects)) no_select) g sequence time o
-        ≡ cond t
-        (cond (same_group l.group g)
-        (cond (same o (take l.len l.objects)) (cond (eqb sequence (next_of l.sequence.0)) (cond (leb (time - l.time) arm) 0 1) 2) 2)
-        2)
-        2
-    go true = by-four
-    go false = refl
+pub status-empty : (arm : ℕ) (l : Option Selection) → l ≡ None → (g : ControlGroup) (sequence time : ℕ) (o : List ℕ)
+    → operate_status arm (latch_of l) g sequence time o ≡ 2
+unfolding latch_of operate_status
+status-empty arm l e g sequence time o = rw e
 
 -- an OPERATE that is the one armed for, in time
 pub operate-good : (arm : ℕ) (h : ControlGroup) (q t : ℕ) (s : List ℕ) (g : ControlGroup) (sequence time : ℕ) (o : List ℕ)

@@ -14,7 +14,7 @@ use Rattle.control.specs.Objects.{echo_max, value_size, formed, objects, Holding
 use Rattle.control.specs.Status.{Outputs, statuses, all_zero, echo_of, chosen}
 use Rattle.select_latch.specs.declared.ControlGroup.{ControlGroup}
 use Rattle.select_latch.specs.declared.ControlGroup.TheVariants as G
-use Rattle.select_latch.specs.declared.Latch.{Latch}
+use Rattle.select_latch.specs.declared.Selection.{Selection}
 use Rattle.select_latch.specs.declared.Controlled.{Controlled}
 use Rattle.select_latch.specs.declared.ControlFunction.{ControlFunction}
 use Rattle.select_latch.specs.declared.ControlFunction.TheVariants.{Select, Operate, DirectOperate, DirectOperateNoResponse}
@@ -61,8 +61,14 @@ pub data LatchView : Type 0 where
   selected : ControlGroup → ℕ → ℕ → List ℕ → LatchView
 
 -- what the code's latch stands for
-unfoldable pub latch_of : Latch → LatchView
-latch_of l = cond l.armed (selected l.group l.sequence.0 l.time (take l.len l.objects)) no_select
+unfoldable pub latch_of : Option Selection → LatchView
+latch_of None = no_select
+latch_of (Some s) = selected s.group s.sequence.0 s.time (take s.len s.objects)
+
+-- how many object bytes it has
+abbrev pub latch_len : Option Selection → ℕ
+latch_len None = 0
+latch_len (Some s) = s.len
 
 -- "OPERATE carries out all objects when the latch was armed, objects (header included) are equal, its sequence is the next modulo 16
 -- and the arm time is not passed. Late only: all status 1. Else all status 2"; armed for the other group is not armed for this one (109)
@@ -129,4 +135,4 @@ pub record ControlHolds (r : Controlled) (before after : List ℕ) (e : ControlE
   pub lent : after ≡ splice before 4 e.echo
   pub carried : Holding r.carried e.carried
   pub latch : latch_of r.latch ≡ e.latch
-  pub counted : r.latch.len ≤ echo_max
+  pub counted : latch_len r.latch ≤ echo_max

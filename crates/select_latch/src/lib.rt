@@ -7,9 +7,9 @@ ghost use Rattle.control.specs.Objects.{objects_max, echo_max, answer_max, value
 ghost use Rattle.control.specs.Status.{outputs_of, echo_of};
 ghost use Rattle.select_latch.specs.Select.{
   group_of,
-  no_select,
   selected,
   latch_of,
+  latch_len,
   operate_status,
   statuses_by,
   carried_by,
@@ -39,10 +39,9 @@ pub enum ControlGroup {
     AnalogOutput,
 }
 
-// Empty, or armed for a group with a SELECT's sequence, time and object bytes.
+// What an armed latch has of its SELECT: the group, the sequence, the time and the object bytes. A latch is an Option of it.
 #[derive(Clone, Copy)]
-pub struct Latch {
-    pub armed: bool,
+pub struct Selection {
     pub group: ControlGroup,
     pub sequence: ApplicationSequence,
     pub time: u64,
@@ -56,38 +55,21 @@ pub struct Controlled {
     pub fault: Option<Fault>,
     pub len: usize,
     pub carried: ControlObjects,
-    pub latch: Latch,
-}
-
-// No select.
-pub fn empty() -> Latch
-    ensures { (latch_of result ≡ no_select) × (result.len ≤ echo_max) }
-{
-    let objects = [0u8; ECHO_MAX];
-    let group = ControlGroup::Crob;
-    Latch {
-        armed: false,
-        group: group,
-        sequence: ApplicationSequence(0),
-        time: 0,
-        objects: objects,
-        len: 0,
-    }
+    pub latch: Option<Selection>,
 }
 
 // Armed for a group by a SELECT with these object bytes.
-fn arm(group: ControlGroup, sequence: ApplicationSequence, time: u64, o: &[u8]) -> Latch
+fn arm(group: ControlGroup, sequence: ApplicationSequence, time: u64, o: &[u8]) -> Selection
     requires { length o.now ≤ echo_max }
-    ensures { (latch_of result ≡ selected group sequence.0 time o.now) × (result.len ≤ echo_max) }
+    ensures { (latch_of (Some result) ≡ selected group sequence.0 time o.now) × (result.len ≤ echo_max) }
 {
     let mut objects = [0u8; ECHO_MAX];
     octets::copy(&mut objects, 0, o);
-    Latch {
-        armed: true,
-        group: group,
-        sequence: sequence,
-        time: time,
-        objects: objects,
+    Selection {
+        group,
+        sequence,
+        time,
+        objects,
         len: o.len(),
     }
 }
@@ -103,7 +85,7 @@ fn group_of(kind: ObjectKind) -> ControlGroup
 
 // The status of every object of an OPERATE.
 pub fn operate_status(
-    latch: Latch,
+    latch: Option<Selection>,
     arm_time: u64,
     group: ControlGroup,
     sequence: ApplicationSequence,
@@ -112,20 +94,20 @@ pub fn operate_status(
 ) -> u8
     ensures { result ≡ operate_status arm_time (latch_of latch) group sequence.0 time o.now }
 {
-    if !latch.armed {
+    let Some(selection) = latch else {
+        return 2;
+    };
+    if selection.group != group {
         return 2;
     }
-    if latch.group != group {
+    let len = selection.len.min(ECHO_MAX);
+    if o != &selection.objects[..len] {
         return 2;
     }
-    let len = latch.len.min(ECHO_MAX);
-    if o != &latch.objects[..len] {
+    if sequence != application::next(selection.sequence) {
         return 2;
     }
-    if sequence != application::next(latch.sequence) {
-        return 2;
-    }
-    if arm_time < application::elapsed(latch.time, time) {
+    if arm_time < application::elapsed(selection.time, time) {
         1
     } else {
         0
@@ -162,6 +144,7 @@ fn carry(f: ControlFunction, cs: ControlObjects, ss: [u8; OBJECTS_MAX]) -> Contr
 }
 
 // The latch after a request with these statuses.
+#[tactic(auto, unfolding(crate::specs::Select::latch_of))]
 fn latch_after(
     f: ControlFunction,
     group: ControlGroup,
@@ -170,14 +153,14 @@ fn latch_after(
     sequence: ApplicationSequence,
     time: u64,
     o: &[u8],
-) -> Latch
+) -> Option<Selection>
     requires { length o.now ≤ echo_max }
-    ensures { (latch_of result ≡ latch_by f group (take n ss) sequence.0 time o.now) × (result.len ≤ echo_max) }
+    ensures { (latch_of result ≡ latch_by f group (take n ss) sequence.0 time o.now) × (latch_len result ≤ echo_max) }
 {
     if f == ControlFunction::Select && control::all_zero(ss, n) {
-        arm(group, sequence, time, o)
+        Some(arm(group, sequence, time, o))
     } else {
-        empty()
+        None
     }
 }
 
@@ -196,7 +179,7 @@ fn answer(f: ControlFunction, out: &mut [u8], o: &[u8], x: Form, ss: [u8; OBJECT
 
 // What a control request with these object bytes does.
 pub fn control_effect(
-    latch: Latch,
+    latch: Option<Selection>,
     counts: OutputCounts,
     ws: &[u32; ANALOG_OUTPUT_WORDS],
     arm_time: u64,
@@ -214,7 +197,7 @@ pub fn control_effect(
             fault: Some(fault),
             len: 0,
             carried: control::none(),
-            latch: empty(),
+            latch: None,
         },
         Ok(x) => {
             let group = group_of(x.kind);

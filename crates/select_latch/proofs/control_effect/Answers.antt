@@ -31,12 +31,13 @@ pub latch_after-requires : goal.latch_after-requires
 latch_after-requires c = (formed-fits c.args.o.now c.in-Ok.x (sym c.header.ensures ∙ c.in-Ok.is)).short
 
 pub returns-in-Err : goal.returns-in-Err
+unfolding latch_of
 returns-in-Err c =
     let a = c.args in
     rw
     (effect-wrong (outputs_of a.counts a.ws.now) a.arm_time (latch_of a.latch) a.f a.sequence.0 a.time a.o.now c.in-Err.fault
     (sym c.header.ensures ∙ c.in-Err.is))
-    (record { fault = refl; len = refl; lent = sym (splice-nil a.out.now 4); carried = c.none.ensures; latch = c.empty.ensures.0; counted = c.empty.ensures.1 })
+    (record { fault = refl; len = refl; lent = sym (splice-nil a.out.now 4); carried = c.none.ensures; latch = refl; counted = omega arith })
 
 pub returns-in-Ok : goal.returns-in-Ok
 returns-in-Ok c =
