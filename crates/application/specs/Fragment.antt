@@ -1,12 +1,12 @@
 -- What a fragment is: refused, a CONFIRM, or a request.
 -- Assumes nothing.
-use Rattle.std.specs.Prelude.{ℕ, ◌+◌, ◌/◌, ◌%◌, Bool, not, List, [], ◌∷◌, length, get_or, drop, ltb, eqb}
+use Rattle.std.specs.Prelude.{ℕ, ◌+◌, ◌/◌, ◌%◌, Bool, not, Option, Some, None, List, [], ◌∷◌, length, get_or, drop, ltb, eqb}
 use Rattle.laws.specs.First.{first, ◌⇒◌}
 use Rattle.laws.specs.Limits.{fragment_max}
 use Rattle.laws.specs.Outcome.{Outcome, accepted, refused}
 use Rattle.laws.specs.Lists.{any, all}
 use Rattle.application.specs.declared.Fragment.{Fragment}
-use Rattle.application.specs.declared.Fragment.TheVariants.{Malformed, Confirm, Request}
+use Rattle.application.specs.declared.Fragment.TheVariants.{Confirm, Request}
 
 -- ---- the control byte: FIR 80, FIN 40, CON 20, UNS 10, sequence in the low four bits
 
@@ -45,7 +45,7 @@ abbrev pub is_confirm : List ℕ → Bool
 is_confirm s = eqb (function_of s) 0
 
 -- ---- 31: "under 2 or over 2,048 bytes; FIR, FIN or CON wrong; UNS outside CONFIRM; function 128 or more; CONFIRM not 2 bytes"
-unfoldable pub malformed : List ℕ → Bool
+abbrev pub malformed : List ℕ → Bool
 malformed s =
     any
     (ltb (length s) 2
@@ -61,7 +61,7 @@ pub data Kind : Type 0 where
   confirm : ℕ → Bool → Kind
   request : ℕ → ℕ → Kind
 
-unfoldable pub classified : List ℕ → Outcome Kind
+abbrev pub classified : List ℕ → Outcome Kind
 classified s =
     first
     (malformed s ⇒ refused 31
@@ -69,8 +69,8 @@ classified s =
     ∷ [])
     (accepted (request (sequence_of (control_of s)) (function_of s)))
 
--- the number and the values of each case of the code's answer
-abbrev pub fragment_of : Fragment → Outcome Kind
-fragment_of Malformed = refused 31
-fragment_of (Confirm sequence uns) = accepted (confirm sequence.0 uns)
-fragment_of (Request sequence function) = accepted (request sequence.0 function)
+-- the number of the refusal, and the values of each case of the code's answer
+abbrev pub fragment_of : Option Fragment → Outcome Kind
+fragment_of None = refused 31
+fragment_of (Some (Confirm sequence uns)) = accepted (confirm sequence.0 uns)
+fragment_of (Some (Request sequence function)) = accepted (request sequence.0 function)

@@ -4,20 +4,18 @@
 ghost use Rattle.std.specs.Prelude.{◌≡◌, ◌+◌, ◌-◌, ◌≤◌, ◌<◌, length};
 ghost use Rattle.octets.specs.Bytes.{splice};
 ghost use Rattle.application.specs.Fragment.{classified, fragment_of, next_of};
-ghost use Rattle.application.specs.Response.{weight, is_faultless, fault_bits, iin1_of, iin2_of, response_control, response_of, write_fault};
+ghost use Rattle.application.specs.Response.{weight, fault_bits, iin1_of, iin2_of, response_control, response_of, write_fault};
 
 // A fragment has at most so many bytes.
 pub const FRAGMENT_MAX: usize = 2048;
 
 // An application sequence number, modulo 16.
-#[derive(Clone, Copy)]
+#[derive(Clone, Copy, Debug, PartialEq, Eq)]
 pub struct ApplicationSequence(pub u8);
 
-// What a fragment is.
-#[derive(Clone, Copy)]
+// What a fragment is that isn't malformed.
+#[derive(Clone, Copy, Debug, PartialEq, Eq)]
 pub enum Fragment {
-    // Refused, number 31.
-    Malformed,
     Confirm {
         sequence: ApplicationSequence,
         unsolicited: bool,
@@ -29,9 +27,8 @@ pub enum Fragment {
 }
 
 // The fault that an answer indicates.
-#[derive(Clone, Copy)]
+#[derive(Clone, Copy, Debug, PartialEq, Eq)]
 pub enum Fault {
-    Faultless,
     FunctionUnknown,
     ObjectUnknown,
     BadParameter,
@@ -54,7 +51,7 @@ pub struct Indications {
 pub fn elapsed(from: u64, to: u64) -> u64
     ensures { result ≡ to - from }
 {
-    if from < to { to - from } else { 0 }
+    to.saturating_sub(from)
 }
 
 // The next number, modulo 16.
@@ -64,40 +61,36 @@ pub fn next(s: ApplicationSequence) -> ApplicationSequence
     ApplicationSequence((s.0 % 16 + 1) % 16)
 }
 
-// What the bytes are.
-pub fn classify(s: &[u8]) -> Fragment
+// What the bytes are; a malformed fragment is refused, number 31.
+pub fn classify(s: &[u8]) -> Option<Fragment>
     ensures { fragment_of result ≡ classified s.now }
 {
-    if s.len() < 2 {
-        return Fragment::Malformed;
-    }
-    if FRAGMENT_MAX < s.len() {
-        return Fragment::Malformed;
+    if s.len() < 2 || FRAGMENT_MAX < s.len() {
+        return None;
     }
     let control = s[0];
     let function = s[1];
+    let sequence = ApplicationSequence(control % 16);
+    let unsolicited = control / 16 % 2 == 1;
     if control / 32 != 6 {
-        return Fragment::Malformed;
+        return None;
     }
     if function == 0 {
         if s.len() != 2 {
-            return Fragment::Malformed;
+            return None;
         }
-        return Fragment::Confirm {
-            sequence: ApplicationSequence(control % 16),
-            unsolicited: control / 16 % 2 == 1,
-        };
+        return Some(Fragment::Confirm {
+            sequence,
+            unsolicited,
+        });
     }
-    if control / 16 % 2 == 1 {
-        return Fragment::Malformed;
+    if unsolicited {
+        return None;
     }
     if 127 < function {
-        return Fragment::Malformed;
+        return None;
     }
-    Fragment::Request {
-        sequence: ApplicationSequence(control % 16),
-        function: function,
-    }
+    Some(Fragment::Request { sequence, function })
 }
 
 fn bit(on: bool, w: u8) -> u8
@@ -106,25 +99,14 @@ fn bit(on: bool, w: u8) -> u8
     if on { w } else { 0 }
 }
 
-pub fn is_faultless(f: Fault) -> bool
-    ensures { result ≡ is_faultless f }
-{
-    match f {
-        Fault::Faultless => true,
-        Fault::FunctionUnknown => false,
-        Fault::ObjectUnknown => false,
-        Fault::BadParameter => false,
-    }
-}
-
-fn fault_bits(f: Fault) -> u8
+fn fault_bits(f: Option<Fault>) -> u8
     ensures { (result ≡ fault_bits f) × (result ≤ 4) }
 {
     match f {
-        Fault::Faultless => 0,
-        Fault::FunctionUnknown => 1,
-        Fault::ObjectUnknown => 2,
-        Fault::BadParameter => 4,
+        None => 0,
+        Some(Fault::FunctionUnknown) => 1,
+        Some(Fault::ObjectUnknown) => 2,
+        Some(Fault::BadParameter) => 4,
     }
 }
 
@@ -136,7 +118,7 @@ pub fn iin1(i: Indications) -> u8
 }
 
 // The second indication byte.
-pub fn iin2(i: Indications, f: Fault) -> u8
+pub fn iin2(i: Indications, f: Option<Fault>) -> u8
     ensures { result ≡ iin2_of i f }
 {
     fault_bits(f) + bit(i.dropped, 8)
@@ -149,7 +131,13 @@ fn response_control(s: ApplicationSequence, con: bool) -> u8
 }
 
 // Puts a response's control byte, function 129 and the two indication bytes at the front of the lent bytes.
-pub fn put_response(out: &mut [u8], s: ApplicationSequence, con: bool, i: Indications, f: Fault)
+pub fn put_response(
+    out: &mut [u8],
+    s: ApplicationSequence,
+    con: bool,
+    i: Indications,
+    f: Option<Fault>,
+)
     requires { 4 ≤ length out.old }
     ensures { out.new ≡ splice out.old 0 (response_of s.0 con i f) }
 {
@@ -159,22 +147,19 @@ pub fn put_response(out: &mut [u8], s: ApplicationSequence, con: bool, i: Indica
     out[3] = iin2(i, f);
 }
 
-// The fault of a WRITE with these object bytes. Faultless, it clears the restart indication before its answer is built.
-pub fn write_fault(objects: &[u8]) -> Fault
+// The fault of a WRITE with these object bytes. With none, it clears the restart indication before its answer is built.
+pub fn write_fault(objects: &[u8]) -> Option<Fault>
     ensures { result ≡ write_fault objects.now }
 {
     if objects.len() < 3 {
-        return Fault::BadParameter;
+        return Some(Fault::BadParameter);
     }
-    if objects[0] != 80 {
-        return Fault::ObjectUnknown;
-    }
-    if objects[1] != 1 {
-        return Fault::ObjectUnknown;
+    if objects[0] != 80 || objects[1] != 1 {
+        return Some(Fault::ObjectUnknown);
     }
     let clear: [u8; 6] = [80, 1, 0, 7, 7, 0];
-    if octets::equal(objects, &clear) {
-        return Fault::Faultless;
+    if objects == clear.as_slice() {
+        return None;
     }
-    Fault::BadParameter
+    Some(Fault::BadParameter)
 }

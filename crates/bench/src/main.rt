@@ -12,6 +12,7 @@ mod stations;
 mod sums;
 
 use std::io::Read;
+use text::{Words, WrongWord};
 
 pub const COUNT_MAX: u64 = 1000000000000;
 
@@ -29,130 +30,80 @@ enum Work {
     OutstationReading,
     HeldReading,
     EventRead,
-    Unknown,
-}
-
-// The size that a work may be asked for: up to so many points or events, 0 where it has none.
-#[derive(Clone, Copy)]
-enum Extent {
-    UpTo(u64),
-    Unknown,
 }
 
 fn nothing(count: u64) -> u64 {
     let mut sum: u64 = 1;
-    let mut left = count;
-    while 0 < left {
-        sum = sums::fold(sum, left);
-        left -= 1;
+    for done in 0..count {
+        sum = sums::fold(sum, count - done);
     }
     sum
 }
 
-fn work_of(w: &[u8]) -> Work {
-    if octets::equal(w, b"nothing") {
-        return Work::Nothing;
+impl Work {
+    fn named(name: &[u8]) -> Option<Work> {
+        match name {
+            b"nothing" => Some(Work::Nothing),
+            b"frame-write" => Some(Work::FrameWrite),
+            b"frame-read" => Some(Work::FrameRead),
+            b"reading" => Some(Work::Reading),
+            b"class-0" => Some(Work::ClassZero),
+            b"outstation-reading" => Some(Work::OutstationReading),
+            b"held-reading" => Some(Work::HeldReading),
+            b"event-read" => Some(Work::EventRead),
+            _ => None,
+        }
     }
-    if octets::equal(w, b"frame-write") {
-        return Work::FrameWrite;
-    }
-    if octets::equal(w, b"frame-read") {
-        return Work::FrameRead;
-    }
-    if octets::equal(w, b"reading") {
-        return Work::Reading;
-    }
-    if octets::equal(w, b"class-0") {
-        return Work::ClassZero;
-    }
-    if octets::equal(w, b"outstation-reading") {
-        return Work::OutstationReading;
-    }
-    if octets::equal(w, b"held-reading") {
-        return Work::HeldReading;
-    }
-    if octets::equal(w, b"event-read") {
-        return Work::EventRead;
-    }
-    Work::Unknown
-}
 
-// A size is at most its work's extent; the remainder only shows that it fits its type.
-fn run(w: Work, count: u64, size: u64) -> u64 {
-    match w {
-        Work::Nothing => nothing(count),
-        Work::FrameWrite => frames::frame_write(count),
-        Work::FrameRead => frames::frame_read(count),
-        Work::Reading => parts::reading(count),
-        Work::ClassZero => class_zero::class_zero(count, size as usize),
-        Work::OutstationReading => stations::outstation_reading(count, (size % 256) as u16),
-        Work::HeldReading => stations::held_reading(count, size),
-        Work::EventRead => event_reads::event_read(count, size),
-        Work::Unknown => 0,
+    // The size that the work may be asked for: up to so many points or events, 0 where it has none.
+    fn extent(self) -> u64 {
+        match self {
+            Work::ClassZero | Work::OutstationReading => stations::POINTS,
+            Work::HeldReading => stations::EVENTS - 1,
+            Work::EventRead => stations::EVENTS,
+            _ => 0,
+        }
+    }
+
+    // A size is at most the work's extent; the remainder only shows that it fits its type.
+    fn run(self, count: u64, size: u64) -> u64 {
+        match self {
+            Work::Nothing => nothing(count),
+            Work::FrameWrite => frames::frame_write(count),
+            Work::FrameRead => frames::frame_read(count),
+            Work::Reading => parts::reading(count),
+            Work::ClassZero => class_zero::class_zero(count, size as usize),
+            Work::OutstationReading => stations::outstation_reading(count, (size % 256) as u16),
+            Work::HeldReading => stations::held_reading(count, size),
+            Work::EventRead => event_reads::event_read(count, size),
+        }
     }
 }
 
-fn extent_of(w: Work) -> Extent {
-    match w {
-        Work::Nothing => Extent::UpTo(0),
-        Work::FrameWrite => Extent::UpTo(0),
-        Work::FrameRead => Extent::UpTo(0),
-        Work::Reading => Extent::UpTo(0),
-        Work::ClassZero => Extent::UpTo(stations::POINTS),
-        Work::OutstationReading => Extent::UpTo(stations::POINTS),
-        Work::HeldReading => Extent::UpTo(stations::EVENTS - 1),
-        Work::EventRead => Extent::UpTo(stations::EVENTS),
-        Work::Unknown => Extent::Unknown,
-    }
+// The checksum that a line asks for: NAME COUNT, or NAME COUNT SIZE; with no size it is the full one.
+fn sum_of(line: &[u8]) -> Result<u64, WrongWord> {
+    let mut words = Words::new(line);
+    let work = Work::named(words.word(b' ')?).ok_or(WrongWord)?;
+    let count = words.number(b' ', COUNT_MAX)?;
+    let full = work.extent();
+    let size = if words.is_finished() {
+        full
+    } else {
+        words.number(b' ', full)?
+    };
+    words.finish()?;
+    Ok(work.run(count, size))
 }
 
 // What cannot be written is lost.
-fn say(rt: &impl Print, w: Work, count: u64, size: u64) {
-    let _ = rt.println(run(w, count, size));
+fn answer(rt: &impl Print, line: &[u8]) {
+    let _ = match sum_of(line) {
+        Ok(sum) => rt.println(sum),
+        Err(WrongWord) => rt.println("unknown"),
+    };
 }
 
-fn say_unknown(rt: &impl Print) {
-    let _ = rt.write_all(b"unknown\n");
-}
-
-// COUNT, or COUNT SIZE; with no size it is the full one.
-fn answer_counted(rt: &impl Print, s: &[u8], c: text::Cursor, w: Work, full: u64) {
-    let count = text::take_number(s, c, 32, COUNT_MAX);
-    if text::finished(count.next) {
-        return say(rt, w, count.value, full);
-    }
-    let size = text::take_number(s, count.next, 32, full);
-    if text::finished(size.next) {
-        return say(rt, w, count.value, size.value);
-    }
-    say_unknown(rt)
-}
-
-fn answer(rt: &impl Print, s: &[u8]) {
-    let name = text::word(s, text::start(), 32);
-    let from = name.from;
-    let to = name.to;
-    let w = work_of(&s[from..to]);
-    let e = extent_of(w);
-    match e {
-        Extent::UpTo(full) => answer_counted(rt, s, name.next, w, full),
-        Extent::Unknown => say_unknown(rt),
-    }
-}
-
-fn lines(rt: &impl Print, s: &[u8]) {
-    let mut from: usize = 0;
-    while from < s.len() {
-        let to = text::until(s, from, 10);
-        if s.len() < to {
-            return;
-        }
-        answer(rt, &s[from..to]);
-        from = to + 1;
-    }
-}
-
-// Reads until the text is full, the input ends or a read fails, and answers how many bytes were read.
+// Reads until the text is full, the input ends or a read fails, and answers how many bytes were read. How often is not known before.
 fn read_full(rt: &impl Input, t: &mut [u8]) -> usize
     ensures { result ≤ length t.new }
 {
@@ -174,5 +125,7 @@ fn read_full(rt: &impl Input, t: &mut [u8]) -> usize
 fn main(rt: HostRuntime) {
     let mut t = [0u8; TEXT_MAX];
     let n = read_full(&rt, &mut t);
-    lines(&rt, &t[..n]);
+    for line in t[..n].split_inclusive(|&b| b == b'\n') {
+        answer(&rt, line.strip_suffix(b"\n").unwrap_or(line));
+    }
 }

@@ -1,10 +1,10 @@
 // One reading against one point.
-use crate::sums::{bit, fold, plus};
-use points::{AnalogKind, AnalogPoint, AnalogSetup, AnalogTaken, Value, WholeGate};
+use crate::sums::fold;
+use points::{AnalogKind, AnalogPoint, AnalogSetup, Gate, Value};
 
 fn value_of(v: Value) -> u64 {
     match v {
-        Value::Int32(z) => points::whole_distance(z, 0) as u64,
+        Value::Int32(z) => u64::from(z.unsigned_abs()),
         Value::Int16(_) => 1,
         Value::Float32(_) => 2,
     }
@@ -12,35 +12,31 @@ fn value_of(v: Value) -> u64 {
 
 // A 32-bit point with a limit. Its kind hangs on the count, so that no compiler knows it before the run.
 fn one_point(count: u64) -> AnalogPoint {
-    let g = if count == 999999999999 {
-        WholeGate::Summed(100)
+    let gate = if count == 999999999999 {
+        Gate::Summed(100)
     } else {
-        WholeGate::Beyond(100)
+        Gate::Beyond(100)
     };
-    let k = if count == crate::COUNT_MAX {
-        AnalogKind::Int16(g)
+    let kind = if count == crate::COUNT_MAX {
+        AnalogKind::Int16(gate)
     } else {
-        AnalogKind::Int32(g)
+        AnalogKind::Int32(gate)
     };
-    points::fresh_analog(AnalogSetup { class: 1, kind: k })
+    points::fresh_analog(AnalogSetup { class: 1, kind })
 }
 
 pub fn reading(count: u64) -> u64 {
-    let mut p = one_point(count);
+    let mut point = one_point(count);
     let mut sum: u64 = 1;
-    let mut left = count;
-    while 0 < left {
-        let z = (left % 4096) as i32;
-        let t = points::read_whole(p, z, 1);
-        match t {
-            AnalogTaken::Taken(q, raised) => {
-                p = q;
-                let v = q.value;
-                sum = fold(sum, plus(value_of(v), bit(raised)));
-            }
-            AnalogTaken::Refused(_) => {}
+    for done in 0..count {
+        let z = ((count - done) % 4096) as i32;
+        if let Ok(taken) = points::read_whole(point, z, 1) {
+            point = taken.point;
+            sum = fold(
+                sum,
+                value_of(point.value).wrapping_add(u64::from(taken.raised)),
+            );
         }
-        left -= 1;
     }
     sum
 }

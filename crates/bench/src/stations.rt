@@ -1,15 +1,14 @@
 // The whole outstation in lent memory: one reading, by the points installed and by the events held.
-ghost use Rattle.std.specs.Prelude.{◌≡◌, ◌≤◌};
-ghost use Rattle.laws.specs.Limits.{points_max};
+ghost use Rattle.std.specs.Prelude.{◌≡◌};
 
-use crate::sums::{digest, fold, plus};
+use crate::sums::{digest, fold};
 use analog_outputs::{ANALOG_OUTPUT_WORDS, ANALOG_OUTPUTS_MAX, AnalogOutputWords};
 use event_store::{BufferStatus, EVENT_WORDS};
 use events::{CAPACITY, Event, Shown};
 use outstation::{Head, Measured, Reading, Took};
 use point_store::{ANALOG_WORDS, BINARY_WORDS};
 use points::{POINTS_MAX, Value};
-use restart::{AnalogSetupWords, RestartProgress, SetupWords};
+use restart::{AnalogSetupWords, SetupWords};
 
 // The most points of a kind and the most events, in the types that they are counted in here.
 pub const POINTS: u64 = POINTS_MAX as u64;
@@ -18,255 +17,173 @@ const POINTS_END: u16 = POINTS_MAX as u16;
 
 pub const EVENTS: u64 = CAPACITY as u64;
 
-// Adds n analogs, all alike.
-fn added(first: RestartProgress, n: usize, analogs: &mut [u32; ANALOG_WORDS]) -> RestartProgress {
-    let a = AnalogSetupWords {
-        limit: 100,
-        gain: 0,
-        offset: 0,
-        class: 2,
-        kind: 0,
-        gate: 2,
-    };
-    let mut g = first;
-    let mut left: usize = POINTS_MAX;
-    while 0 < left {
-        if !restart::analogs_left(g, n) {
-            return g;
+// The memory that a reading is lent.
+#[derive(Drop)]
+pub struct Memory {
+    pub binaries: [u32; BINARY_WORDS],
+    pub analogs: [u32; ANALOG_WORDS],
+    pub held: [u64; EVENT_WORDS],
+}
+
+impl Memory {
+    pub fn new() -> Self {
+        Memory {
+            binaries: [0; BINARY_WORDS],
+            analogs: [0; ANALOG_WORDS],
+            held: [0; EVENT_WORDS],
         }
-        if POINTS_MAX <= g.at {
-            return g;
-        }
-        g = restart::add_analog(g, analogs, a);
-        left -= 1;
     }
-    g
-}
 
-// A size as a number of points.
-fn points_of(n: u16) -> usize
-    ensures { result ≤ points_max }
-{
-    octets::least(n as usize, POINTS_MAX)
-}
+    // So many points of each kind, none read yet.
+    fn restart(&mut self, n: usize) -> Head {
+        let output = AnalogOutputWords {
+            low: 0,
+            high: 0,
+            kind: 0,
+        };
+        let s = SetupWords {
+            arm_time: 2000,
+            confirm_time: 5000,
+            own: 10,
+            master: 1,
+            outputs: 8,
+            analog_output_count: 0,
+            analog_outputs: [output; ANALOG_OUTPUTS_MAX],
+        };
+        let analog = AnalogSetupWords {
+            limit: 100,
+            gain: 0,
+            offset: 0,
+            class: 2,
+            kind: 0,
+            gate: 2,
+        };
+        let k = n.min(POINTS_MAX);
+        let mut outputs = [0u32; ANALOG_OUTPUT_WORDS];
+        let r = restart::restart(
+            s,
+            &[1; POINTS_MAX][..k],
+            &[analog; POINTS_MAX][..k],
+            &mut self.binaries,
+            &mut self.analogs,
+            &mut outputs,
+        );
+        r.head
+    }
 
-// So many points of each kind, none read yet.
-fn fresh(n: u16, binaries: &mut [u32; BINARY_WORDS], analogs: &mut [u32; ANALOG_WORDS]) -> Head {
-    let none = AnalogOutputWords {
-        low: 0,
-        high: 0,
-        kind: 0,
-    };
-    let items = [none; ANALOG_OUTPUTS_MAX];
-    let s = SetupWords {
-        arm_time: 2000,
-        confirm_time: 5000,
-        own: 10,
-        master: 1,
-        outputs: 8,
-        analog_output_count: 0,
-        analog_outputs: items,
-    };
-    let classes = [1u8; POINTS_MAX];
-    let k = points_of(n);
-    let mut outputs = [0u32; ANALOG_OUTPUT_WORDS];
-    let g = restart::begin_restart(s, &classes[0..k], k, binaries, &mut outputs);
-    let r = restart::finish_restart(s, k, added(g, k, analogs));
-    r.head
-}
+    fn read_state(&mut self, h: Head, time: u64, point: u16, state: bool) -> Took {
+        let r = Reading {
+            time,
+            point,
+            measured: Measured::State(state),
+            flags: 1,
+        };
+        outstation::take_reading(
+            h,
+            &mut self.binaries,
+            &mut self.analogs,
+            &mut self.held,
+            r,
+        )
+    }
 
-// The head with so many events held.
-fn with_events(h: Head, n: usize) -> Head {
-    let mut next = h;
-    next.event_count = n;
-    next
+    // Holds n events.
+    fn hold(&mut self, n: u64) -> usize {
+        let mut t = BufferStatus {
+            count: 0,
+            overflow: false,
+        };
+        for i in 0..n.min(EVENTS) {
+            t = event_store::push(&mut self.held, t, event_at(i));
+        }
+        t.count
+    }
+
+    // All points of each kind, the binaries read once, so that a changed state raises an event; n events are held.
+    pub fn holding(&mut self, n: u64) -> Head {
+        let mut h = self.restart(POINTS_MAX);
+        for point in 0..POINTS_END {
+            h = self.read_state(h, 0, point, false).head;
+        }
+        h.event_count = self.hold(n);
+        h
+    }
 }
 
 // The answer as the checksums have it.
 fn accepted(refusal: u8) -> u64 {
-    refusal as u64 + 1
-}
-
-fn state_reading(
-    h: Head,
-    binaries: &mut [u32; BINARY_WORDS],
-    analogs: &mut [u32; ANALOG_WORDS],
-    held: &mut [u64; EVENT_WORDS],
-    time: u64,
-    point: u16,
-    state: bool,
-) -> Took {
-    let m = Measured::State(state);
-    let r = Reading {
-        time,
-        point,
-        measured: m,
-        flags: 1,
-    };
-    outstation::take_reading(h, binaries, analogs, held, r)
+    u64::from(refusal) + 1
 }
 
 // The next of n points, from the first again after the last.
 fn following(point: u16, n: u16) -> u16 {
-    if point < n {
-        let next = point + 1;
-        if next < n {
-            return next;
-        }
+    if point < n && point + 1 < n {
+        point + 1
+    } else {
+        0
     }
-    0
 }
 
 // Each reading changes its point's state and raises an event; the buffer is emptied when full.
-fn read_all(
-    count: u64,
-    n: u16,
-    first: Head,
-    binaries: &mut [u32; BINARY_WORDS],
-    analogs: &mut [u32; ANALOG_WORDS],
-    held: &mut [u64; EVENT_WORDS],
-) -> u64 {
-    let mut h = first;
+pub fn outstation_reading(count: u64, n: u16) -> u64 {
+    let mut memory = Memory::new();
+    let mut h = memory.restart(usize::from(n));
     let mut point: u16 = 0;
     let mut state = true;
     let mut sum: u64 = 1;
-    let mut left = count;
-    while 0 < left {
-        if left % EVENTS == 0 {
-            h = with_events(h, 0);
+    for time in 0..count {
+        if (count - time) % EVENTS == 0 {
+            h.event_count = 0;
         }
-        let t = state_reading(h, binaries, analogs, held, count - left, point, state);
-        let next = t.head;
-        h = next;
-        sum = fold(sum, plus(accepted(t.refusal), h.clock));
+        let t = memory.read_state(h, time, point, state);
+        h = t.head;
+        sum = fold(sum, accepted(t.refusal).wrapping_add(h.clock));
         point = following(point, n);
         if point == 0 {
             state = !state;
         }
-        left -= 1;
     }
-    sum
-}
-
-pub fn outstation_reading(count: u64, n: u16) -> u64 {
-    let mut binaries = [0u32; BINARY_WORDS];
-    let mut analogs = [0u32; ANALOG_WORDS];
-    let mut held = [0u64; EVENT_WORDS];
-    let h = fresh(n, &mut binaries, &mut analogs);
-    let sum = read_all(count, n, h, &mut binaries, &mut analogs, &mut held);
-    digest(sum, &held)
+    digest(sum, &memory.held)
 }
 
 // ---- an outstation that holds events
 
 fn shown_of(i: u64) -> Shown {
-    let k = i % 4;
-    if k == 0 {
-        return Shown::State(i % 8 == 0);
+    match i % 4 {
+        0 => Shown::State(i % 8 == 0),
+        1 => Shown::Analog(Value::Int32((i % 4096) as i32)),
+        2 => Shown::Analog(Value::Int16((i % 4096) as i16)),
+        _ => Shown::Analog(Value::Float32(2.25)),
     }
-    if k == 1 {
-        return Shown::Analog(Value::Int32((i % 4096) as i32));
-    }
-    if k == 2 {
-        return Shown::Analog(Value::Int16((i % 4096) as i16));
-    }
-    Shown::Analog(Value::Float32(2.25))
 }
 
 // The kinds and the classes take turns.
 fn event_at(i: u64) -> Event
     ensures { result.time ≡ i }
 {
-    let s = shown_of(i);
     Event {
         time: i,
-        shown: s,
+        shown: shown_of(i),
         point: (i % POINTS) as u16,
         flags: 1,
         class: (i % 3 + 1) as u8,
     }
 }
 
-// Holds n events.
-fn hold(n: u64, held: &mut [u64; EVENT_WORDS]) -> usize {
-    let mut t = BufferStatus {
-        count: 0,
-        overflow: false,
-    };
-    let mut i: u64 = 0;
-    while i < n {
-        if EVENTS <= i {
-            return t.count;
-        }
-        t = event_store::push(held, t, event_at(i));
-        i += 1;
-    }
-    t.count
-}
-
-// All points of each kind, the binaries read once, so that a changed state raises an event; n events are held.
-pub fn holding(
-    n: u64,
-    binaries: &mut [u32; BINARY_WORDS],
-    analogs: &mut [u32; ANALOG_WORDS],
-    held: &mut [u64; EVENT_WORDS],
-) -> Head {
-    let mut h = fresh(POINTS_END, binaries, analogs);
-    let mut point: u16 = 0;
-    while point < POINTS_END {
-        let t = state_reading(h, binaries, analogs, held, 0, point, false);
-        let next = t.head;
-        h = next;
-        point += 1;
-    }
-    with_events(h, hold(n, held))
-}
-
-// Sets a binary back to what it was.
-fn set_back(binaries: &mut [u32; BINARY_WORDS], i: usize, word: u32) {
-    if i < POINTS_MAX {
-        binaries[i] = word;
-    }
-}
-
 // Each reading is taken with the same head, which holds events, and raises one more; then its point is set back. The binaries are all alike.
-fn read_held(
-    count: u64,
-    full: Head,
-    word: u32,
-    binaries: &mut [u32; BINARY_WORDS],
-    analogs: &mut [u32; ANALOG_WORDS],
-    held: &mut [u64; EVENT_WORDS],
-) -> u64 {
-    let mut sum: u64 = 1;
-    let mut left = count;
-    while 0 < left {
-        let point = (left % POINTS) as u16;
-        let t = state_reading(full, binaries, analogs, held, left, point, true);
-        sum = fold(sum, plus(accepted(t.refusal), clock_and_count(t.head)));
-        set_back(binaries, point as usize, word);
-        left -= 1;
-    }
-    state_reading(full, binaries, analogs, held, 1, 0, true);
-    sum
-}
-
-fn clock_and_count(h: Head) -> u64 {
-    plus(h.clock, held_in(h))
-}
-
-// How many events are held.
-pub fn held_in(h: Head) -> u64 {
-    let t = outstation::buffer_status(h);
-    t.count as u64
-}
-
 pub fn held_reading(count: u64, n: u64) -> u64 {
-    let mut binaries = [0u32; BINARY_WORDS];
-    let mut analogs = [0u32; ANALOG_WORDS];
-    let mut held = [0u64; EVENT_WORDS];
-    let full = holding(n, &mut binaries, &mut analogs, &mut held);
-    let word = binaries[0];
-    let sum = read_held(count, full, word, &mut binaries, &mut analogs, &mut held);
-    digest(sum, &held)
+    let mut memory = Memory::new();
+    let full = memory.holding(n);
+    let word = memory.binaries[0];
+    let mut sum: u64 = 1;
+    for done in 0..count {
+        let left = count - done;
+        let point = (left % POINTS) as u16;
+        let t = memory.read_state(full, left, point, true);
+        let result = t.head.clock.wrapping_add(t.head.event_count as u64);
+        sum = fold(sum, accepted(t.refusal).wrapping_add(result));
+        memory.binaries[usize::from(point)] = word;
+    }
+    memory.read_state(full, 1, 0, true);
+    digest(sum, &memory.held)
 }

@@ -12,9 +12,7 @@ use Rattle.points.specs.declared.Gate.TheVariants as G
 use Rattle.points.specs.declared.AnalogKind.TheVariants as Ks
 use Rattle.events.specs.declared.Shown.TheVariants.{State}
 use Rattle.events.specs.Placing as E
-use Rattle.read_headers.specs.Headers as H
 use Rattle.read_headers.specs.Parse as A
-use Rattle.application.specs.Fragment as F
 use Rattle.objects.specs.Runs.{encoded, runs, all_bytes}
 use Rattle.static_objects.specs.Static.{static_bytes, range_bytes, point_objects}
 use Rattle.outstation.specs.Setup.{Setup}
@@ -73,6 +71,6 @@ run :
     × (history_after calls (book_of one_binary) [] ≡ confirmed! 0 ∷ built! 0 (0 ∷ []) ∷ hold! 0 ∷ [])
 unfolding B.book_of B.enter B.reading_entry B.enter_reading B.reading_entries B.enter_event B.full B.fragment_entry B.read_entry B.confirm_entry B.confirmed_entry
     U.binary_classes U.analog_setups R.apply_reading R.bad_time P.read_binary P.is_reported P.is_raised
-    Q.ask Q.is_confirmed F.classified F.malformed A.headers_of H.front_header H.object_of H.class_header A.asks_for
+    Q.ask Q.is_confirmed A.headers_of A.asks_for
     E.fits E.space_after E.cost_of static_bytes range_bytes point_objects encoded runs all_bytes
 run = (refl, refl, refl)

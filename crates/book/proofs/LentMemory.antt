@@ -5,7 +5,7 @@ use Prim.Native.Nat.{ℕ, zero, suc, ◌+◌, ◌*◌, ◌-◌, ◌/◌, ◌%◌
 use mathlib.Core.Path.{◌≡◌, refl, sym, ap, ◌∙◌}
 use mathlib.Core.Bool.{Bool, true, false, cond}
 use mathlib.Core.List.{List, [], ◌∷◌, ◌++◌}
-use Rattle.std.proofs.Common.{Some, None}
+use Rattle.std.proofs.Common.{Option, Some, None}
 use native.Mathlib.Nat.{le_of_suc-le-suc, not-suc-le-zero}
 use native.Mathlib.Omega.{arith}
 use lib.Dec.{eqb}
@@ -28,8 +28,7 @@ use Rattle.words.proofs.RecordLaws.{tab-same}
 use Rattle.point_store.specs.PointWords.{binaries_in}
 use Rattle.event_store.specs.EventWords.{event_of, held_of, slots_in}
 use Rattle.outstation.specs.declared.Head.{Head}
-use Rattle.outstation.specs.declared.Wait.{Wait}
-use Rattle.outstation.specs.declared.Wait.TheVariants.{Idle, Awaiting}
+use Rattle.outstation.specs.declared.Awaited.{Awaited}
 use Rattle.outstation.specs.OutstationView.{OutstationView}
 use Rattle.outstation.specs.Lent.{Lent, Outstation, outstation_view, wait_of}
 
@@ -71,25 +70,25 @@ is_kept nothing = false
 is_kept (kept f a) = true
 
 -- the awaited confirmation in numbers
-abbrev waiting_in : Wait → ℕ
-waiting_in Idle = 0
-waiting_in (Awaiting q t shown since) = 1
+abbrev waiting_in : Option Awaited → ℕ
+waiting_in None = 0
+waiting_in (Some a) = 1
 
-abbrev sequence_in : Wait → ℕ
-sequence_in Idle = 0
-sequence_in (Awaiting q t shown since) = q.0
+abbrev sequence_in : Option Awaited → ℕ
+sequence_in None = 0
+sequence_in (Some a) = a.sequence.0
 
-abbrev time_in : Wait → ℕ
-time_in Idle = 0
-time_in (Awaiting q t shown since) = t
+abbrev time_in : Option Awaited → ℕ
+time_in None = 0
+time_in (Some a) = a.time
 
-abbrev shown_in : Wait → ℕ
-shown_in Idle = 0
-shown_in (Awaiting q t shown since) = bit shown
+abbrev shown_in : Option Awaited → ℕ
+shown_in None = 0
+shown_in (Some a) = bit a.showed_overflow
 
-abbrev since_in : Wait → ℕ
-since_in Idle = 0
-since_in (Awaiting q t shown since) = bit since
+abbrev since_in : Option Awaited → ℕ
+since_in None = 0
+since_in (Some a) = bit a.dropped_since
 
 abbrev head_for : OutstationView → Head
 head_for w =
@@ -202,9 +201,15 @@ wait-for : (w : OutstationView) → wait_of (head_for w) ≡ w.master.session.wa
 unfolding wait_of
 wait-for w = go w.master.session.wait
   where
-    go : (v : Wait) → cond (eqb (waiting_in v) 0) Idle (Awaiting (record { 0 = sequence_in v }) (time_in v) (holds (shown_in v)) (holds (since_in v))) ≡ v
-    go Idle = refl
-    go (Awaiting q t shown since) = λ k. Awaiting q t (holds-bit shown k) (holds-bit since k)
+    go : (v : Option Awaited)
+        → cond (eqb (waiting_in v) 0) None
+        (Some (record { sequence = record { 0 = sequence_in v }; time = time_in v; showed_overflow = holds (shown_in v); dropped_since = holds (since_in v) }))
+        ≡ v
+    go None = refl
+    go (Some a) =
+        λ k.
+        Some
+        (record { sequence = a.sequence; time = a.time; showed_overflow = holds-bit a.showed_overflow k; dropped_since = holds-bit a.dropped_since k })
 
 -- a state that it is laid out for
 pub record Fits (w : OutstationView) : Type 0 where

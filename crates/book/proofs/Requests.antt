@@ -13,7 +13,8 @@ use borrow.Author.Tests.{ltb-false, eqb-true}
 use Rattle.laws.specs.Lists.{same}
 use Rattle.points.specs.PointsView.{PointsView}
 use Rattle.application.specs.declared.Fault.{Fault}
-use Rattle.application.specs.declared.Fault.TheVariants.{Faultless, FunctionUnknown, ObjectUnknown, BadParameter}
+use Rattle.application.specs.declared.Fault.TheVariants.{FunctionUnknown, ObjectUnknown, BadParameter}
+use Rattle.std.specs.Prelude.{Option, Some, None, Result, Ok, Err}
 use Rattle.application.specs.declared.Indications.{Indications}
 use Rattle.application.specs.Fragment as F
 use Rattle.application.specs.Fragment.{classified, function_of, sequence_of, control_of, is_confirm, objects_of}
@@ -22,7 +23,6 @@ use Rattle.read_headers.specs.declared.Header.{Header}
 use Rattle.read_headers.specs.Parse.{Parsed, headers, fault}
 use Rattle.control.specs.declared.ControlObject.{ControlObject}
 use Rattle.control.specs.declared.Form.{Form}
-use Rattle.control.specs.declared.Form.TheVariants.{Wrong, Objects}
 use Rattle.control.proofs.ObjectLaws.{objects-length}
 use Rattle.control.specs.Objects.{formed, objects, objects_by}
 use Rattle.control.specs.Status.{Outputs, echo_with}
@@ -33,7 +33,7 @@ use Rattle.last_request.specs.Repeat.{LastRequestView, nothing, kept, is_repeat,
 use Rattle.last_request.proofs.ReplyLaws.{length-by}
 use Rattle.events.specs.BufferView.{BufferView, cleared}
 use Rattle.static_objects.specs.Static.{asked_of}
-use Rattle.outstation.specs.declared.Wait.TheVariants.{Idle}
+use Rattle.std.proofs.Common.{None}
 use Rattle.outstation.specs.OutstationView.{OutstationView}
 use Rattle.outstation.specs.Requests.{Ask, malformed, confirms, reads, misreads, asks, ask, read_ask}
 use Rattle.outstation.specs.Step.{RequestEffect, effect_by}
@@ -73,11 +73,10 @@ or_left false b h = refl
 
 -- fewer than two bytes are malformed
 well-long : (f : List ℕ) → F.malformed f ≡ false → 0 < length f
-unfolding F.malformed
 well-long f h = let l = ltb-false (length f) 2 (or_left (ltb (length f) 2) _ h) in omega arith
 
 pub asks-inverse : (i : PointsView) (f : List ℕ) (q function : ℕ) → ask i f ≡ asks q function → Asks f function
-unfolding ask classified
+unfolding ask
 asks-inverse i f q function =
     by (F.malformed f)
     (λ t. rw t (λ e. absurd (let z : ◌≡◌ {A = ℕ} 0 1 = cc in omega arith)))
@@ -97,7 +96,7 @@ NoRead (asks q function) = Unit {0}
 
 -- the function of a READ
 read-function : (i : PointsView) (f : List ℕ) → (NoRead (ask i f) → ⊥) → eqb (function_of f) 1 ≡ true
-unfolding ask classified
+unfolding ask
 read-function i f =
     by (F.malformed f)
     (λ t. rw t (λ n. absurd (n tt)))
@@ -121,7 +120,7 @@ repeated (kept bytes answer) f l e = rw (same-eq f bytes e)
 -- a request that is no READ ends the wait and takes the marks away
 pub record Ends (k : BufferView) (d : RequestEffect) : Type 0 where
   pub buffer : d.buffer ≡ cleared k
-  pub wait : d.wait ≡ Idle
+  pub wait : d.wait ≡ None
 
 pub effect-ends : (w : OutstationView) (q function time : ℕ) (o : List ℕ) → Ends w.master.buffer (effect_by w q function time o)
 effect-ends w q function time o =
@@ -136,19 +135,19 @@ effect-ends w q function time o =
 -- ---- its objects
 
 -- the echo by a form, with some status for each object
-pub record Echo (x : Form) (o echo : List ℕ) : Type 0 where
+pub record Echo (x : Result Form Fault) (o echo : List ℕ) : Type 0 where
   pub statuses : List ℕ
   pub each : length statuses ≡ length (objects_by x o)
   pub is : echo ≡ echo_with x statuses o
 
 module _ (outputs : Outputs) (arm : ℕ) (l : LatchView) (g : ControlFunction) (u : is_unanswered g ≡ false) (q time : ℕ) (o : List ℕ) where
-  echo-form : (x : Form) → Echo x o (by_form x outputs arm l g q time o).echo
-  echo-form (Wrong y) = record { statuses = []; each = refl; is = refl }
-  echo-form (Objects j w n) =
-      let cs : List ControlObject = objects j w n (drop (3 + w) o) in
-      let ss : List ℕ = statuses_by g outputs (operate_status arm l (group_of j) q time o) cs in
-      let k : length ss ≡ length cs = length-by g outputs (operate_status arm l (group_of j) q time o) cs in
-      record { statuses = ss; each = k; is = rw (u, take_all n ss (le_of_eq (k ∙ objects-length j w n (drop (3 + w) o)))) }
+  echo-form : (x : Result Form Fault) → Echo x o (by_form x outputs arm l g q time o).echo
+  echo-form (Err y) = record { statuses = []; each = refl; is = refl }
+  echo-form (Ok x) =
+      let cs : List ControlObject = objects x.kind x.width x.count (drop (3 + x.width) o) in
+      let ss : List ℕ = statuses_by g outputs (operate_status arm l (group_of x.kind) q time o) cs in
+      let k : length ss ≡ length cs = length-by g outputs (operate_status arm l (group_of x.kind) q time o) cs in
+      record { statuses = ss; each = k; is = rw (u, take_all x.count ss (le_of_eq (k ∙ objects-length x.kind x.width x.count (drop (3 + x.width) o)))) }
 
   echo_of : Echo (formed o) o (control_effect outputs arm l g q time o).echo
   unfolding control_effect
@@ -184,25 +183,25 @@ effect-bears w q function time o t₆ =
 -- ---- its response
 
 -- four bytes, then the objects
-pub response-long : (q : ℕ) (con : Bool) (i : Indications) (f : Fault) (o : List ℕ) → length (response_of q con i f ++ o) ≡ 4 + length o
+pub response-long : (q : ℕ) (con : Bool) (i : Indications) (f : Option Fault) (o : List ℕ) → length (response_of q con i f ++ o) ≡ 4 + length o
 unfolding response_of
 response-long q con i f o = omega arith
 
-pub response-objects : (q : ℕ) (con : Bool) (i : Indications) (f : Fault) (o : List ℕ) → drop 4 (response_of q con i f ++ o) ≡ o
+pub response-objects : (q : ℕ) (con : Bool) (i : Indications) (f : Option Fault) (o : List ℕ) → drop 4 (response_of q con i f ++ o) ≡ o
 unfolding response_of
 response-objects q con i f o = refl
 
 -- the bit IIN2.3 beside a fault's
-bit-beside : (f : Fault) (t : Bool) → eqb ((fault_bits f + weight t 8) / 8 % 2) 1 ≡ t
-bit-beside Faultless true = refl
-bit-beside Faultless false = refl
-bit-beside FunctionUnknown true = refl
-bit-beside FunctionUnknown false = refl
-bit-beside ObjectUnknown true = refl
-bit-beside ObjectUnknown false = refl
-bit-beside BadParameter true = refl
-bit-beside BadParameter false = refl
+bit-beside : (f : Option Fault) (t : Bool) → eqb ((fault_bits f + weight t 8) / 8 % 2) 1 ≡ t
+bit-beside None true = refl
+bit-beside None false = refl
+bit-beside (Some FunctionUnknown) true = refl
+bit-beside (Some FunctionUnknown) false = refl
+bit-beside (Some ObjectUnknown) true = refl
+bit-beside (Some ObjectUnknown) false = refl
+bit-beside (Some BadParameter) true = refl
+bit-beside (Some BadParameter) false = refl
 
-pub response-bit : (q : ℕ) (con : Bool) (i : Indications) (f : Fault) (o : List ℕ) → overflow_bit (response_of q con i f ++ o) ≡ i.dropped
+pub response-bit : (q : ℕ) (con : Bool) (i : Indications) (f : Option Fault) (o : List ℕ) → overflow_bit (response_of q con i f ++ o) ≡ i.dropped
 unfolding response_of
 response-bit q con i f o = bit-beside f i.dropped

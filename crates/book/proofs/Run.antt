@@ -18,12 +18,10 @@ use Rattle.events.specs.declared.Held.{Held}
 use Rattle.events.specs.declared.Shown.TheVariants.{State}
 use Rattle.events.specs.declared.EventKind.TheVariants as EventKind
 use Rattle.events.specs.Placing as E
-use Rattle.std.proofs.Common.{Some}
+use Rattle.std.proofs.Common.{Option, Some, None}
 use Rattle.events.specs.BufferView as K
-use Rattle.application.specs.Fragment as F
 use Rattle.application.specs.Response as I
-use Rattle.application.specs.declared.Fault.TheVariants.{Faultless}
-use Rattle.read_headers.specs.Headers as H
+use Rattle.std.specs.Prelude.{None}
 use Rattle.read_headers.specs.Headers.{events_of}
 use Rattle.read_headers.specs.Parse as A
 use Rattle.objects.specs.Runs.{encoded, runs, all_bytes}
@@ -36,8 +34,7 @@ use Rattle.words.specs.Records.{tab, chunk, records}
 use Rattle.point_store.specs.PointWords.{binary_of, binaries_in}
 use Rattle.outstation.specs.declared.Reading.{Reading}
 use Rattle.outstation.specs.declared.Measured.TheVariants as Ms
-use Rattle.outstation.specs.declared.Wait as D
-use Rattle.outstation.specs.declared.Wait.TheVariants.{Idle, Awaiting}
+use Rattle.outstation.specs.declared.Awaited.{Awaited}
 use Rattle.outstation.specs.Setup as U
 use Rattle.outstation.specs.OutstationView.{OutstationView, SessionView, restarted}
 use Rattle.outstation.specs.Lent.{CountsWithin}
@@ -128,19 +125,19 @@ state_at clock held overflow session =
       master = record { buffer = record { held = held; overflow = overflow }; session = session };
     }
 
-abbrev pub session_with : (restarted : Bool) → D.Wait → LastRequestView → SessionView
+abbrev pub session_with : (restarted : Bool) → Option Awaited → LastRequestView → SessionView
 session_with restarted wait last = record { restarted = restarted; wait = wait; last = last; latch = no_select }
 
 -- a response with this sequence was built at this time; it showed IIN2.3, and nothing was dropped since
-abbrev pub awaits : ℕ → ℕ → D.Wait
-awaits q time = Awaiting (record { 0 = q }) time true false
+abbrev pub awaits : ℕ → ℕ → Option Awaited
+awaits q time = Some (S.newly_sent (record { 0 = q }) time true)
 
 abbrev bytes_of : LastRequestView → List ℕ
 bytes_of nothing = []
 bytes_of (kept f a) = f
 
 abbrev pub w₁ : OutstationView
-w₁ = state_at 257 (all256 false) true (session_with true Idle nothing)
+w₁ = state_at 257 (all256 false) true (session_with true None nothing)
 
 abbrev pub w₂ : OutstationView
 w₂ = state_at 2000 (all256 true) true (session_with true (awaits 1 2000) (kept (read 0xC1) []))
@@ -149,16 +146,16 @@ abbrev pub w₄ : OutstationView
 w₄ = state_at 8000 (all256 true) true (session_with true (awaits 2 8000) (kept (read 0xC2) []))
 
 abbrev pub w₅ : OutstationView
-w₅ = state_at 9000 newest false (session_with true Idle (kept (read 0xC2) []))
+w₅ = state_at 9000 newest false (session_with true None (kept (read 0xC2) []))
 
 abbrev pub w₆ : OutstationView
-w₆ = state_at 9500 newest false (session_with false Idle (kept write written))
+w₆ = state_at 9500 newest false (session_with false None (kept write written))
 
 abbrev pub w₇ : OutstationView
-w₇ = state_at 9600 newest false (session_with false Idle (kept write written))
+w₇ = state_at 9600 newest false (session_with false None (kept write written))
 
 -- no count passes its array, by the numbers of the events and of the kept bytes
-pub counted-at : (clock : ℕ) (held : List Held) (overflow restarted : Bool) (wait : D.Wait) (m : LastRequestView) → length held ≤ events_max
+pub counted-at : (clock : ℕ) (held : List Held) (overflow restarted : Bool) (wait : Option Awaited) (m : LastRequestView) → length held ≤ events_max
     → length (bytes_of m) ≤ fragment_max → length (kept_answer m) ≤ answer_max
     → CountsWithin (outstation_for (state_at clock held overflow (session_with restarted wait m)))
 counted-at clock held overflow restarted wait nothing e f a =
@@ -178,7 +175,7 @@ coded-newest = rw (← (append-nil newest)) (coded-events false 30 227 true [] (
 pub coded-256 : (carried : Bool) → Coded (all256 carried)
 coded-256 carried = coded-events carried 226 1 true newest (omega arith) coded-newest
 
-pub fits-at : (clock : ℕ) (held : List Held) (overflow restarted : Bool) (wait : D.Wait) (m : LastRequestView) → length held ≤ events_max → Coded held
+pub fits-at : (clock : ℕ) (held : List Held) (overflow restarted : Bool) (wait : Option Awaited) (m : LastRequestView) → length held ≤ events_max → Coded held
     → Fits (state_at clock held overflow (session_with restarted wait m))
 unfolding binaries_in records tab chunk binary_of
 fits-at clock held overflow restarted wait m few coded = record { binaries = refl; analogs = refl; outputs = refl; events = coded; few = few; latch = refl }
@@ -271,21 +268,21 @@ module _ (clock time q : ℕ) (f : List ℕ) (held after : List Held) (x : Sessi
       → step (fragment time f fragment_max) (state_at clock held true x)
       ≡ record {
         state = state_at time after true (session_with x.restarted (awaits q time) (kept f []));
-        answer = answers (I.response_of q true (S.indications_of (record { held = after; overflow = true }) x.restarted) Faultless ++ (carried_bytes after ++ [])) [];
+        answer = answers (I.response_of q true (S.indications_of (record { held = after; overflow = true }) x.restarted) None ++ (carried_bytes after ++ [])) [];
       }
   unfolding S.step S.fragment_step S.read_step A.asks_for static_bytes range_bytes point_objects encoded runs all_bytes
   read_at b a e = rw (b, a, e, or-true (some K.is_carried after))
 
 -- the classes are read from the state's own inputs, whatever it holds
 abbrev pub points : PointsView
-points = (state_at 0 [] false (session_with true Idle nothing)).shared.inputs
+points = (state_at 0 [] false (session_with true None nothing)).shared.inputs
 
 pub asks₁ : Q.ask points (read 0xC1) ≡ Q.reads 1 (events_of 1 ∷ [])
-unfolding Q.ask F.classified F.malformed A.headers_of H.front_header H.object_of H.class_header A.asks_for static_bytes range_bytes point_objects encoded runs all_bytes
+unfolding Q.ask A.headers_of A.asks_for static_bytes range_bytes point_objects encoded runs all_bytes
 asks₁ = refl
 
 pub asks₂ : Q.ask points (read 0xC2) ≡ Q.reads 2 (events_of 1 ∷ [])
-unfolding Q.ask F.classified F.malformed A.headers_of H.front_header H.object_of H.class_header A.asks_for static_bytes range_bytes point_objects encoded runs all_bytes
+unfolding Q.ask A.headers_of A.asks_for static_bytes range_bytes point_objects encoded runs all_bytes
 asks₂ = refl
 
 pub in-time : (R.bad_time 257 2000 ≡ false) × (R.bad_time 2000 8000 ≡ false)
@@ -294,9 +291,9 @@ in-time = (refl, refl)
 
 -- the bytes: the front as computed, then the events
 read-bytes : (q control : ℕ)
-    → I.response_of q true (S.indications_of (record { held = all256 true; overflow = true }) true) Faultless ≡ control ∷ 0x81 ∷ 0x82 ∷ 0x08 ∷ []
+    → I.response_of q true (S.indications_of (record { held = all256 true; overflow = true }) true) None ≡ control ∷ 0x81 ∷ 0x82 ∷ 0x08 ∷ []
     → ◌≡◌ {A = Answer}
-    (answers (I.response_of q true (S.indications_of (record { held = all256 true; overflow = true }) true) Faultless ++ (carried_bytes (all256 true) ++ [])) [])
+    (answers (I.response_of q true (S.indications_of (record { held = all256 true; overflow = true }) true) None ++ (carried_bytes (all256 true) ++ [])) [])
     (read_answer control)
 read-bytes q control e =
     ap (λ (l : List ℕ). answers (l ++ (carried_bytes (all256 true) ++ [])) []) e
@@ -306,7 +303,7 @@ read-bytes q control e =
 pub by-read₁ : step (fragment 2000 (read 0xC1) fragment_max) w₁ ≡ record { state = w₂; answer = read_answer 0xE1 }
 unfolding I.response_of
 by-read₁ =
-    read_at 257 2000 1 (read 0xC1) (all256 false) (all256 true) (session_with true Idle nothing) in-time.0 asks₁
+    read_at 257 2000 1 (read 0xC1) (all256 false) (all256 true) (session_with true None nothing) in-time.0 asks₁
     (ap (K.carry class1 (E.empty_space response_objects_max)) (unmarked-all false) ∙ marks)
     ∙ ap (λ (a : Answer). record { state = w₂; answer = a }) (read-bytes 1 0xE1 refl)
 
@@ -321,13 +318,13 @@ by-read₂ =
 
 pub by-late : (held : List Held) (m : LastRequestView) → let w = state_at 2000 held true (session_with true (awaits 1 2000) m) in
     step (fragment 7001 (confirm 0xC1) fragment_max) w ≡ record { state = w; answer = refuses 32 }
-unfolding S.step S.fragment_step S.confirm_step R.bad_time Q.ask Q.is_confirmed F.classified F.malformed
+unfolding S.step S.fragment_step S.confirm_step R.bad_time Q.ask Q.is_confirmed
 by-late held m = refl
 
 confirm-at : (held : List Held) (m : LastRequestView)
     → step (fragment 9000 (confirm 0xC2) fragment_max) (state_at 8000 held true (session_with true (awaits 2 8000) m))
-    ≡ record { state = state_at 9000 (filter K.not_carried held) false (session_with true Idle m); answer = accepts }
-unfolding S.step S.fragment_step S.confirm_step S.confirmed_step R.bad_time Q.ask Q.is_confirmed F.classified F.malformed
+    ≡ record { state = state_at 9000 (filter K.not_carried held) false (session_with true None m); answer = accepts }
+unfolding S.step S.fragment_step S.confirm_step S.confirmed_step R.bad_time Q.ask Q.is_confirmed
 confirm-at held m = refl
 
 pub by-confirm : step (fragment 9000 (confirm 0xC2) fragment_max) w₄ ≡ record { state = w₅; answer = accepts }
@@ -338,9 +335,9 @@ by-confirm =
 -- ---- WRITE, and its repeat
 
 pub by-write : step (fragment 9500 write fragment_max) w₅ ≡ record { state = w₆; answer = answers written [] }
-unfolding S.step S.fragment_step S.request_step R.bad_time Q.ask F.classified F.malformed I.response_of I.write_fault is_repeat same
+unfolding S.step S.fragment_step S.request_step R.bad_time Q.ask I.response_of is_repeat same
 by-write = refl
 
 pub by-repeat : step (fragment 9600 write fragment_max) w₆ ≡ record { state = w₇; answer = answers written [] }
-unfolding S.step S.fragment_step S.repeat_step R.bad_time Q.ask F.classified F.malformed is_repeat same
+unfolding S.step S.fragment_step S.repeat_step R.bad_time Q.ask is_repeat same
 by-repeat = refl

@@ -3,6 +3,7 @@
 use Prim.Native.Nat.{ℕ, suc, ◌+◌, ◌≤◌, ◌<◌}
 use mathlib.Core.Path.{◌≡◌, refl, sym, ap, ◌∙◌, subst}
 use mathlib.Core.Logic.{◌↔◌}
+use Rattle.std.specs.Prelude.{Some}
 use mathlib.Core.Bool.{Bool, true, false, not, cond, ◌&&◌, ◌||◌}
 use mathlib.Core.List.{List, [], ◌∷◌, ◌++◌, map, append-nil}
 use native.Mathlib.Omega.{arith}
@@ -27,8 +28,8 @@ use Rattle.static_objects.specs.Static.{static_bytes}
 use Rattle.read_headers.specs.declared.Header.{Header}
 use Rattle.outstation.specs.Setup.{Setup, outputs_set_up}
 use Rattle.outstation.specs.declared.Reading.{Reading}
-use Rattle.outstation.specs.declared.Wait as D
-use Rattle.outstation.specs.declared.Wait.TheVariants.{Idle, Awaiting}
+use Rattle.outstation.specs.declared.Awaited.{Awaited}
+use Rattle.std.proofs.Common.{Option, Some, None}
 use Rattle.outstation.specs.OutstationView.{OutstationView, with_master, restarted}
 use Rattle.outstation.specs.Readings.{bad_time, ReadingEffect, apply_reading}
 use Rattle.read.specs.Response.{classes_of, room_beside}
@@ -63,9 +64,9 @@ abbrev pub wait_from : B.BookWait → ℕ
 wait_from B.idle = 0
 wait_from (B.awaiting q t ws n k) = n
 
-abbrev pub wait_view : Bool → List Row → B.BookWait → D.Wait
-wait_view shown rows B.idle = Idle
-wait_view shown rows (B.awaiting q t ws n k) = Awaiting (record { 0 = q }) t shown (drop_since n rows)
+abbrev pub wait_view : Bool → List Row → B.BookWait → Option Awaited
+wait_view shown rows B.idle = None
+wait_view shown rows (B.awaiting q t ws n k) = Some (record { sequence = record { 0 = q }; time = t; showed_overflow = shown; dropped_since = drop_since n rows })
 
 abbrev pub view : Book → Extra → OutstationView
 view b x =
@@ -419,7 +420,7 @@ module _ (h : List HistoryEntry) (last : Answer) (b : Book) (x : Extra) (i : Fit
   ask-ok (confirms q uns) time f e = confirm-ok h last q uns time b x b.master.wait refl i
   ask-ok (reads q hs) time f e = read_ok q time hs b x h last f (reads-function b.shared.inputs f q hs e) p
   ask-ok (misreads q n) time f e =
-      misread-ok h last q time f b x (S.plain_effect (view b x) n x.restarted) (record { buffer = refl; wait = refl }) p refl
+      misread-ok h last q time f b x (S.plain_effect (view b x) (Some n) x.restarted) (record { buffer = refl; wait = refl }) p refl
       (misreads-function b.shared.inputs f q n e)
   ask-ok (asks q function) time f e =
       let a = asks-inverse b.shared.inputs f q function e in

@@ -16,15 +16,13 @@ use Rattle.events.specs.declared.Event.{Event}
 use Rattle.events.specs.declared.Shown.TheVariants.{State}
 use Rattle.events.specs.declared.EventKind.TheVariants as EventKind
 use Rattle.events.specs.Placing as E
-use Rattle.std.proofs.Common.{Some}
-use Rattle.application.specs.Fragment as F
+use Rattle.std.proofs.Common.{Some, None}
 use Rattle.read_headers.specs.Headers.{events_of}
 use Rattle.read_headers.specs.Parse as A
 use Rattle.objects.specs.Runs.{encoded, runs, all_bytes}
 use Rattle.static_objects.specs.Static.{static_bytes, range_bytes, point_objects}
 use Rattle.last_request.specs.Repeat.{nothing, kept}
 use Rattle.outstation.specs.Setup.{Setup}
-use Rattle.outstation.specs.declared.Wait.TheVariants.{Idle}
 use Rattle.outstation.specs.Setup as U
 use Rattle.outstation.specs.Setup.{setup_ok}
 use Rattle.outstation.specs.OutstationView.{restarted}
@@ -118,23 +116,23 @@ module _ (rows : List Row) where
 
   book-late : (ws : List ℕ) (n k : ℕ) (last : List ℕ) (built : ℕ) → let b = book_at 2000 rows (awaiting 1 2000 ws n k) true last built in
       (enter (fragment 7001 (confirm 0xC1) fragment_max) b).book ≡ b
-  unfolding B.enter B.fragment_entry B.confirm_entry R.bad_time Q.ask Q.is_confirmed F.classified F.malformed
+  unfolding B.enter B.fragment_entry B.confirm_entry R.bad_time Q.ask Q.is_confirmed
   book-late ws n k last built = refl
 
   book-confirm : (ws : List ℕ) (n k : ℕ) (last : List ℕ) (built : ℕ)
       → (enter (fragment 9000 (confirm 0xC2) fragment_max) (book_at 8000 rows (awaiting 2 8000 ws n k) true last built)).book
       ≡ book_at 9000 (release ws 0 rows) idle (cond (drop_since n rows) true false) last built
-  unfolding B.enter B.fragment_entry B.confirm_entry B.confirmed_entry R.bad_time Q.ask Q.is_confirmed F.classified F.malformed
+  unfolding B.enter B.fragment_entry B.confirm_entry B.confirmed_entry R.bad_time Q.ask Q.is_confirmed
   book-confirm ws n k last built = refl
 
   book-write : (warning : Bool) (built : ℕ)
       → (enter (fragment 9500 write fragment_max) (book_at 9000 rows idle warning (read 0xC2) built)).book ≡ book_at 9500 rows idle warning write (suc built)
-  unfolding B.enter B.fragment_entry B.other_entry R.bad_time Q.ask F.classified F.malformed same
+  unfolding B.enter B.fragment_entry B.other_entry R.bad_time Q.ask same
   book-write warning built = refl
 
   book-repeat : (warning : Bool) (built : ℕ)
       → (enter (fragment 9600 write fragment_max) (book_at 9500 rows idle warning write built)).book ≡ book_at 9600 rows idle warning write built
-  unfolding B.enter B.fragment_entry B.repeat_entry R.bad_time Q.ask F.classified F.malformed same
+  unfolding B.enter B.fragment_entry B.repeat_entry R.bad_time Q.ask same
   book-repeat warning built = refl
 
 -- the rows after the calls
@@ -202,14 +200,14 @@ run =
     let k₂ = kept (read 0xC2) [] in
     let k₃ = kept write written in
     let f₀ = fits-restarted in
-    let f₁ = fits-at 257 (all256 false) true true Idle nothing l (coded-256 false) in
+    let f₁ = fits-at 257 (all256 false) true true None nothing l (coded-256 false) in
     let f₂ = fits-at 2000 (all256 true) true true (awaits 1 2000) k₁ m (coded-256 true) in
     let f₄ = fits-at 8000 (all256 true) true true (awaits 2 8000) k₂ m (coded-256 true) in
-    let f₅ = fits-at 9000 newest false true Idle k₂ n coded-newest in
-    let f₆ = fits-at 9500 newest false false Idle k₃ n coded-newest in
-    let f₇ = fits-at 9600 newest false false Idle k₃ n coded-newest in
+    let f₅ = fits-at 9000 newest false true None k₂ n coded-newest in
+    let f₆ = fits-at 9500 newest false false None k₃ n coded-newest in
+    let f₇ = fits-at 9600 newest false false None k₃ n coded-newest in
     let in₂ = counted-at 2000 (all256 true) true true (awaits 1 2000) k₁ m (omega arith) (omega arith) in
-    more (did-for (restarted one_binary) w₁ (table readings) (took 258 4) f₀ f₁ (counted-at 257 (all256 false) true true Idle nothing l (omega arith) (omega arith)) by-table)
+    more (did-for (restarted one_binary) w₁ (table readings) (took 258 4) f₀ f₁ (counted-at 257 (all256 false) true true None nothing l (omega arith) (omega arith)) by-table)
     (more (did-for w₁ w₂ (fragment 2000 (read 0xC1) fragment_max) (read_answer 0xE1) f₁ f₂ in₂ by-read₁)
     (more (did-for w₂ w₂ (fragment 7001 (confirm 0xC1) fragment_max) (refuses 32) f₂ f₂ in₂ (by-late (all256 true) k₁))
     (more
@@ -217,13 +215,13 @@ run =
     (counted-at 8000 (all256 true) true true (awaits 2 8000) k₂ m (omega arith) (omega arith)) by-read₂)
     (more
     (did-for w₄ w₅ (fragment 9000 (confirm 0xC2) fragment_max) accepts f₄ f₅
-    (counted-at 9000 newest false true Idle k₂ n (omega arith) (omega arith)) by-confirm)
+    (counted-at 9000 newest false true None k₂ n (omega arith) (omega arith)) by-confirm)
     (more
     (did-for w₅ w₆ (fragment 9500 write fragment_max) (answers written []) f₅ f₆
-    (counted-at 9500 newest false false Idle k₃ n (omega arith) (omega arith)) by-write)
+    (counted-at 9500 newest false false None k₃ n (omega arith) (omega arith)) by-write)
     (more
     (did-for w₆ w₇ (fragment 9600 write fragment_max) (answers written []) f₆ f₇
-    (counted-at 9600 newest false false Idle k₃ n (omega arith) (omega arith)) by-repeat)
+    (counted-at 9600 newest false false None k₃ n (omega arith) (omega arith)) by-repeat)
     none))))))
 
 -- answer number k, and its bytes

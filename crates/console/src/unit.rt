@@ -1,60 +1,105 @@
-// What is kept from call to call, beside the arrays that are lent.
-use analog_outputs::{ANALOG_OUTPUTS_MAX, AnalogOutputWords};
-use line_calls::session::LineSession;
-use line_calls::{answers, session};
-use outstation::Head;
-use restart::SetupWords;
+// The outstation's head and the memory that it is lent, in one place.
+use analog_outputs::ANALOG_OUTPUT_WORDS;
+use application::FRAGMENT_MAX;
+use control::{ANSWER_MAX, ECHO_MAX};
+use event_store::EVENT_WORDS;
+use fragments::FragmentResult;
+use outstation::{Head, Reading, ReadingWords};
+use point_calls::setup::Setup;
+use point_store::{ANALOG_WORDS, BINARY_WORDS};
+use points::POINTS_MAX;
+use tables::TableTook;
 
-// The session, the outstation's head, and how long the line was that set it up.
-#[derive(Clone, Copy)]
+#[derive(Drop)]
 pub struct Unit {
-    pub session: LineSession,
-    pub head: Head,
-    pub setup_len: usize,
+    // None before the first setup.
+    pub head: Option<Head>,
+    pub held: [u64; EVENT_WORDS],
+    binaries: [u32; BINARY_WORDS],
+    analogs: [u32; ANALOG_WORDS],
+    request: [u8; FRAGMENT_MAX],
+    answer: [u8; ANSWER_MAX],
+    objects: [u8; ECHO_MAX],
+    outputs: [u32; ANALOG_OUTPUT_WORDS],
 }
 
-// Until there is an outstation, the head of one without points and outputs stands in its place.
-pub fn fresh() -> Unit {
-    let session = session::fresh();
-    let none = AnalogOutputWords {
-        low: 0,
-        high: 0,
-        kind: 0,
-    };
-    let items = [none; ANALOG_OUTPUTS_MAX];
-    let r = restart::finish_restart(
-        SetupWords {
-            arm_time: 0,
-            confirm_time: 0,
-            own: 0,
-            master: 0,
-            outputs: 0,
-            analog_output_count: 0,
-            analog_outputs: items,
-        },
-        0,
-        restart::RestartProgress { at: 0, refusal: 5 },
-    );
-    let head = r.head;
-    Unit {
-        session,
-        head,
-        setup_len: 0,
+impl Unit {
+    pub fn new() -> Self {
+        Unit {
+            head: None,
+            held: [0; EVENT_WORDS],
+            binaries: [0; BINARY_WORDS],
+            analogs: [0; ANALOG_WORDS],
+            request: [0; FRAGMENT_MAX],
+            answer: [0; ANSWER_MAX],
+            objects: [0; ECHO_MAX],
+            outputs: [0; ANALOG_OUTPUT_WORDS],
+        }
     }
 }
 
-// The answer to a line that is no call, or to a call for which there is no outstation.
-pub fn told_all(u: Unit, out: &mut [u8], at: usize, words: &[u8]) -> Unit {
-    let h = u.head;
-    left(u, h, answers::answer(out, at, words))
-}
+impl Unit {
+    // Restarts with a setup. Its counts may be past the arrays, and are then refused, as one that breaks a limit is; the refusal's number.
+    pub fn restart(&mut self, s: &Setup) -> Result<(), u8> {
+        self.head = None;
+        if POINTS_MAX < s.binary_count || POINTS_MAX < s.analog_count {
+            return Err(5);
+        }
+        let r = restart::restart(
+            s.setup,
+            &s.classes[..s.binary_count],
+            &s.analogs[..s.analog_count],
+            &mut self.binaries,
+            &mut self.analogs,
+            &mut self.outputs,
+        );
+        if r.refusal != 0 {
+            return Err(r.refusal);
+        }
+        self.head = Some(r.head);
+        Ok(())
+    }
 
-// What a call leaves: the outstation's head, and where the next answer goes.
-pub fn left(u: Unit, head: Head, at: usize) -> Unit {
-    let session = session::moved(u.session, at);
-    Unit {
-        session,
-        head,
-        setup_len: u.setup_len,
+    // One reading; the refusal's number, 0 where it was taken.
+    pub fn take_reading(&mut self, head: Head, reading: Reading) -> u8 {
+        let r = outstation::take_reading(
+            head,
+            &mut self.binaries,
+            &mut self.analogs,
+            &mut self.held,
+            reading,
+        );
+        self.head = Some(r.head);
+        r.refusal
+    }
+
+    pub fn take_table(&mut self, head: Head, readings: &[ReadingWords]) -> TableTook {
+        let r = tables::take_table(
+            head,
+            &mut self.binaries,
+            &mut self.analogs,
+            &mut self.held,
+            readings,
+        );
+        self.head = Some(r.head);
+        r
+    }
+
+    pub fn fragment(&mut self, head: Head, time: u64, f: &[u8], out: &mut [u8]) -> FragmentResult {
+        let r = fragments::fragment(
+            head,
+            &self.binaries,
+            &self.analogs,
+            &mut self.held,
+            &mut self.request,
+            &mut self.answer,
+            &mut self.objects,
+            &self.outputs,
+            time,
+            f,
+            out,
+        );
+        self.head = Some(r.head);
+        r
     }
 }

@@ -13,7 +13,7 @@ use Rattle.analog_outputs.specs.Output.{within, within_float, takes}
 use Rattle.control.specs.declared.Command.{Command}
 use Rattle.control.specs.declared.Command.TheVariants as C
 use Rattle.control.specs.declared.ControlObject.{ControlObject}
-use Rattle.control.specs.Status.{Outputs, relay_can, analog_can, status_of}
+use Rattle.control.specs.Status.{Outputs, status_of}
 
 -- 16 relays, and an analog output of each kind: −5 to 7, 3 to 3, +0 to −0 as bits of floats
 outputs : Outputs
@@ -49,23 +49,23 @@ record Latch (code : ℕ) : Type 0 where
   again : limits code 1 0 true ≡ 8 ∷ 8 ∷ 8 ∷ 8 ∷ []
 
 plain : Pulse 0x01
-unfolding status_of relay_can limits relay asked outputs
+unfolding limits relay asked outputs
 plain = record { alone = refl; counted = refl; again = refl; given = refl }
 
 close : Pulse 0x41
-unfolding status_of relay_can limits relay asked outputs
+unfolding limits relay asked outputs
 close = record { alone = refl; counted = refl; again = refl; given = refl }
 
 trip : Pulse 0x81
-unfolding status_of relay_can limits relay asked outputs
+unfolding limits relay asked outputs
 trip = record { alone = refl; counted = refl; again = refl; given = refl }
 
 latch-on : Latch 0x03
-unfolding status_of relay_can limits relay asked outputs
+unfolding limits relay asked outputs
 latch-on = record { alone = refl; again = refl }
 
 latch-off : Latch 0x04
-unfolding status_of relay_can limits relay asked outputs
+unfolding limits relay asked outputs
 latch-off = record { alone = refl; again = refl }
 
 -- ---- analog outputs
@@ -98,7 +98,7 @@ record WholeEnds : Type 0 where
   missing : pair 3 (Vs.Int32 (pos 0)) ≡ bad
 
 whole-ends : WholeEnds
-unfolding status_of analog_can takes within within_float of_bits le pair good bad asked outputs
+unfolding takes within within_float of_bits le pair good bad asked outputs
 whole-ends =
     record {
       below = refl;
@@ -125,5 +125,5 @@ record FloatEnds : Type 0 where
   minus-infinity : pair 2 (Vs.Float32 (of_bits binary32 0xFF800000)) ≡ bad
 
 float-ends : FloatEnds
-unfolding status_of analog_can takes within within_float of_bits le pair good bad asked outputs
+unfolding takes within within_float of_bits le pair good bad asked outputs
 float-ends = record { plus = refl; minus = refl; above = refl; below = refl; nan = refl; infinity = refl; minus-infinity = refl }

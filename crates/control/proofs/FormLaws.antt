@@ -1,6 +1,7 @@
 -- Laws of a faultless form: its width, its count and the bytes; and of the echo's length.
 -- Assumes nothing.
-use mathlib.Core.Path.{◌≡◌, refl, sym, ap, ◌∙◌}
+use mathlib.Core.Path.{◌≡◌, refl, sym, ap, ◌∙◌, subst}
+use Rattle.std.specs.Prelude.{Result, Ok, Err}
 use mathlib.Core.Bool.{Bool, true, false, cond, not}
 use mathlib.Core.List.{List, [], ◌∷◌}
 use Prim.Native.Nat.{ℕ, ◌+◌, ◌-◌, ◌*◌, ◌≤◌}
@@ -20,7 +21,6 @@ use Rattle.application.specs.declared.Fault.TheVariants.{ObjectUnknown, BadParam
 use Rattle.control.specs.declared.ObjectKind.{ObjectKind}
 use Rattle.control.specs.declared.ObjectKind.TheVariants as K
 use Rattle.control.specs.declared.Form.{Form}
-use Rattle.control.specs.declared.Form.TheVariants.{Wrong, Objects}
 use Rattle.control.specs.Objects.{objects_max, echo_max, value_size, width_of, span, count_of, exact, formed_as, formed}
 use Rattle.control.specs.Status.{echoed, echo_of}
 use Rattle.control.proofs.ObjectLaws.{value-most, span-most}
@@ -33,7 +33,6 @@ pub record Fitting (k : ObjectKind) (w n : ℕ) (o : List ℕ) : Type 0 where
   pub short : length o ≤ echo_max
 
 width-most : (q : ℕ) → width_of q ≤ 2
-unfolding width_of
 width-most q = go (eqb q 0x17) (eqb q 0x28) where
   go : (s t : Bool) → cond s 1 (cond t 2 0) ≤ 2
   go true t = omega arith
@@ -41,7 +40,6 @@ width-most q = go (eqb q 0x17) (eqb q 0x28) where
   go false false = omega arith
 
 exact-fits : (k : ObjectKind) (w : ℕ) (o : List ℕ) → w ≤ 2 → exact (value_size k) w o ≡ true → Fitting k w (count_of w o) o
-unfolding exact
 exact-fits k w o h e =
     let f = all-four (not (eqb w 0)) (eqb (length o) (3 + w + span w (value_size k) (count_of w o))) (leb 1 (count_of w o)) (leb (count_of w o) objects_max) e in
     let size : length o ≡ 3 + w + span w (value_size k) (count_of w o) = eqb-true _ _ f.1 in
@@ -51,39 +49,31 @@ exact-fits k w o h e =
     record { narrow = h; few = few; some = some; size = size; short = omega arith }
 
 -- a form that is not wrong
-module _ (o : List ℕ) (k : ObjectKind) (w n : ℕ) where
-  abbrev Told : Form → Type 0
-  Told x = x ≡ Objects k w n
+module _ (o : List ℕ) (x : Form) where
+  abbrev Fits : Type 0
+  Fits = Fitting x.kind x.width x.count o
 
-  not-wrong : {P : Type 0} (f : Fault) → Told (Wrong f) → P
-  not-wrong f e = let z : ◌≡◌ {A = ℕ} 0 1 = cc in absurd (omega arith)
-
-  as_fits : (j : ObjectKind) → Told (formed_as j o) → Fitting k w n o
-  unfolding formed_as
+  as_fits : (j : ObjectKind) → formed_as j o ≡ Ok x → Fits
   as_fits j e =
       by (exact (value_size j) (width_of (get_or o 2 0)) o)
       (λ t.
-      let d : Objects j (width_of (get_or o 2 0)) (count_of (width_of (get_or o 2 0)) o) ≡ Objects k w n = rw t at e in
-      let ek : j ≡ k = cc d in
-      let ew : width_of (get_or o 2 0) ≡ w = cc d in
-      let en : count_of (width_of (get_or o 2 0)) o ≡ n = cc d in
-      let narrow : w ≤ 2 = rw (← ew) (width-most (get_or o 2 0)) in
-      rw (← ek, ← en, ← ew) (exact-fits j (width_of (get_or o 2 0)) o (width-most (get_or o 2 0)) t))
-      (λ t. not-wrong BadParameter (rw t at e))
+      let d : ◌≡◌ {A = Result Form Fault} (Ok (record { kind = j; width = width_of (get_or o 2 0); count = count_of (width_of (get_or o 2 0)) o })) (Ok x) = rw t at e in
+      let p : record { kind = j; width = width_of (get_or o 2 0); count = count_of (width_of (get_or o 2 0)) o } ≡ x = cc d in
+      subst (λ (y : Form). Fitting y.kind y.width y.count o) p (exact-fits j (width_of (get_or o 2 0)) o (width-most (get_or o 2 0)) t))
+      (λ t. let d : ◌≡◌ {A = Result Form Fault} (Err BadParameter) (Ok x) = rw t at e in cc)
 
   -- the test that holds decides
-  one_of : (t : Bool) (x y : Form) → (Told x → Fitting k w n o) → (Told y → Fitting k w n o) → Told (cond t x y) → Fitting k w n o
-  one_of true x y f g e = f e
-  one_of false x y f g e = g e
+  one_of : (t : Bool) (a b : Result Form Fault) → (a ≡ Ok x → Fits) → (b ≡ Ok x → Fits) → cond t a b ≡ Ok x → Fits
+  one_of true a b f g e = f e
+  one_of false a b f g e = g e
 
-  pub formed-fits : formed o ≡ Objects k w n → Fitting k w n o
-  unfolding formed
+  pub formed-fits : formed o ≡ Ok x → Fits
   formed-fits =
-      one_of (ltb (length o) 3) _ _ (not-wrong BadParameter)
+      one_of (ltb (length o) 3) (Err BadParameter) _ (λ e. cc)
       (one_of (is_object 12 1 o) _ _ (as_fits K.Crob)
       (one_of (is_object 41 1 o) _ _ (as_fits K.Int32)
       (one_of (is_object 41 2 o) _ _ (as_fits K.Int16)
-      (one_of (is_object 41 3 o) _ _ (as_fits K.Float32) (not-wrong ObjectUnknown)))))
+      (one_of (is_object 41 3 o) _ (Err ObjectUnknown) (as_fits K.Float32) (λ e. cc)))))
 
 -- ---- the echo is as long as the object bytes
 

@@ -56,7 +56,6 @@ at_least_one : (t : ℕ) → (t ≡ 0 → ⊥) → 1 ≤ t
 at_least_one t h = omega arith
 
 relay-operable : (relays index : ℕ) (c : Crob) → relay_can relays index c ≡ true → RelayOperable relays index c
-unfolding relay_can
 relay-operable relays index c h =
     let f = all-four (ltb index relays) (known_code c.code) (eqb c.count 1) (not (wrong_pulse c.code c.on_time)) h in
     let p = not-wrong (is_pulse c.code) (eqb c.on_time 0) (ltb on_time_max c.on_time) (not-true _ f.3) in
@@ -79,18 +78,15 @@ wrong-no c s l =
     (λ t. rw t)
 
 operable-relay : (relays index : ℕ) (c : Crob) → RelayOperable relays index c → relay_can relays index c ≡ true
-unfolding relay_can
 operable-relay relays index c o =
     rw (lt-ltb _ _ o.output, o.code, eq-eqb _ _ o.count, wrong-no c o.shortest o.longest)
 
 analog-operable : (outputs : List AnalogOutput) (index : ℕ) (v : Value) → analog_can outputs index v ≡ true → AnalogOperable outputs index v
-unfolding analog_can
 analog-operable outputs index v h =
     let f = both (ltb index (length outputs)) (takes (get_or outputs index no_output) v && true) h in
     record { output = ltb-true _ _ f.0; value = (both _ true f.1).0 }
 
 operable-analog : (outputs : List AnalogOutput) (index : ℕ) (v : Value) → AnalogOperable outputs index v → analog_can outputs index v ≡ true
-unfolding analog_can
 operable-analog outputs index v o = rw (lt-ltb _ _ o.output, o.value)
 
 can-operable : (u : Outputs) (index : ℕ) (c : Command) → can_do u index c ≡ true → CommandOperable u index c
@@ -110,7 +106,6 @@ all-failed false true g h = absurd (omega arith)
 all-failed false false g h = (refl, refl)
 
 pub zero-operable : (u : Outputs) (again : Bool) (c : ControlObject) → status_of u again c ≡ 0 → Operable u c
-unfolding status_of
 zero-operable u again c h =
     let f = all-failed (not (eqb c.status 0)) (not (can_do u c.index c.command)) again h in
     record {

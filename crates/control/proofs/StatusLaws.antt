@@ -22,7 +22,6 @@ use Rattle.control.proofs.ObjectLaws.{earlier_more, earlier-none, earlier-next}
 
 pub undisturbed : (u : Outputs) (again : Bool) (c : ControlObject) → c.status ≡ 0
     → status_of u again c ≡ first (not (can_do u c.index c.command) ⇒ 4 ∷ again ⇒ 8 ∷ []) 0
-unfolding status_of
 undisturbed u again c s = rw (eq-eqb _ _ s)
 
 -- ---- an index among those of the objects before

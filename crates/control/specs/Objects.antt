@@ -1,7 +1,7 @@
 -- The object bytes of a control request: "one header 12 var 1, qualifier 17 or 28, 1 to 8 objects, nothing after"; since document 02, 109,
 -- "group 41 variations 1, 2 and 3" too.
 -- Assumes nothing.
-use Rattle.std.specs.Prelude.{◌≡◌, ℕ, zero, suc, ◌+◌, Bool, true, false, not, cond, List, [], ◌∷◌, length, get_or, take, drop, ltb, leb, eqb}
+use Rattle.std.specs.Prelude.{◌≡◌, ℕ, zero, suc, ◌+◌, Bool, true, false, not, cond, Result, Ok, Err, List, [], ◌∷◌, length, get_or, take, drop, ltb, leb, eqb}
 use Rattle.std.specs.Float.{binary32}
 use Rattle.std.specs.Float.Ieee.{of_bits}
 use Rattle.std.specs.Int.{w16, w32}
@@ -11,6 +11,7 @@ use Rattle.laws.specs.First.{first, ◌⇒◌}
 use Rattle.laws.specs.Lists.{all}
 use Rattle.points.specs.declared.Value.TheVariants as Vs
 use Rattle.application.specs.Response.{is_object}
+use Rattle.application.specs.declared.Fault.{Fault}
 use Rattle.application.specs.declared.Fault.TheVariants.{ObjectUnknown, BadParameter}
 use Rattle.control.specs.declared.ObjectKind.{ObjectKind}
 use Rattle.control.specs.declared.ObjectKind.TheVariants as K
@@ -19,7 +20,6 @@ use Rattle.control.specs.declared.Command.TheVariants as C
 use Rattle.control.specs.declared.ControlObject.{ControlObject}
 use Rattle.control.specs.declared.ControlObjects.{ControlObjects}
 use Rattle.control.specs.declared.Form.{Form}
-use Rattle.control.specs.declared.Form.TheVariants.{Wrong, Objects}
 
 abbrev pub objects_max : ℕ
 objects_max = 8
@@ -43,7 +43,7 @@ value_size K.Float32 = 4
 -- ---- the header
 
 -- qualifier 17: count and index of one byte; 28: of two; 0 for any other
-unfoldable pub width_of : ℕ → ℕ
+abbrev pub width_of : ℕ → ℕ
 width_of qualifier = first (eqb qualifier 0x17 ⇒ 1 ∷ eqb qualifier 0x28 ⇒ 2 ∷ []) 0
 
 -- the bytes of n objects, each an index of w bytes, z bytes, and its status
@@ -56,7 +56,7 @@ abbrev pub count_of : ℕ → List ℕ → ℕ
 count_of w o = value_at w 3 o
 
 -- one of the two qualifiers, exactly the objects that the count says, 1 to 8
-unfoldable pub exact : ℕ → ℕ → List ℕ → Bool
+abbrev pub exact : ℕ → ℕ → List ℕ → Bool
 exact z w o =
     all
     (not (eqb w 0)
@@ -66,25 +66,27 @@ exact z w o =
     ∷ [])
 
 -- objects of this kind; "else 2.2"
-unfoldable pub formed_as : ObjectKind → List ℕ → Form
+abbrev pub formed_as : ObjectKind → List ℕ → Result Form Fault
 formed_as k o =
-    cond (exact (value_size k) (width_of (get_or o 2 0)) o) (Objects k (width_of (get_or o 2 0)) (count_of (width_of (get_or o 2 0)) o)) (Wrong BadParameter)
+    cond (exact (value_size k) (width_of (get_or o 2 0)) o)
+    (Ok (record { kind = k; width = width_of (get_or o 2 0); count = count_of (width_of (get_or o 2 0)) o }))
+    (Err BadParameter)
 
 -- "Under 3 object bytes 2.2, here and for controls"; "Another object 2.1, else 2.2"; 109: "group 41 variations 1, 2 and 3"
-unfoldable pub formed : List ℕ → Form
+abbrev pub formed : List ℕ → Result Form Fault
 formed o =
     first
-    (ltb (length o) 3 ⇒ Wrong BadParameter
+    (ltb (length o) 3 ⇒ Err BadParameter
     ∷ is_object 12 1 o ⇒ formed_as K.Crob o
     ∷ is_object 41 1 o ⇒ formed_as K.Int32 o
     ∷ is_object 41 2 o ⇒ formed_as K.Int16 o
     ∷ is_object 41 3 o ⇒ formed_as K.Float32 o
     ∷ [])
-    (Wrong ObjectUnknown)
+    (Err ObjectUnknown)
 
--- the header says n objects of this kind, their indices of w bytes
-abbrev pub HasObjects : ObjectKind → ℕ → ℕ → List ℕ → Type 0
-HasObjects k w n o = formed o ≡ Objects k w n
+-- the header says this of the objects
+abbrev pub HasObjects : Form → List ℕ → Type 0
+HasObjects x o = formed o ≡ Ok x
 
 -- ---- the objects
 
@@ -112,9 +114,9 @@ objects k w zero b = []
 objects k w (suc n) b = object_at k w b ∷ objects k w n (drop (w + value_size k + 1) b)
 
 -- those of a request, by its form: of a wrong one none
-abbrev pub objects_by : Form → List ℕ → List ControlObject
-objects_by (Wrong x) o = []
-objects_by (Objects k w n) o = objects k w n (drop (3 + w) o)
+abbrev pub objects_by : Result Form Fault → List ℕ → List ControlObject
+objects_by (Err f) o = []
+objects_by (Ok x) o = objects x.kind x.width x.count (drop (3 + x.width) o)
 
 -- the objects that a struct holds
 unfoldable pub list_of : ControlObjects → List ControlObject

@@ -1,7 +1,7 @@
 -- The status of each object of SELECT and direct operation, the echo, and the objects that are carried out: one rule for CROBs and analog
 -- outputs (document 02, 109: "Document 01's control rule now takes both groups").
 -- Assumes nothing.
-use Rattle.std.specs.Prelude.{ℕ, ◌+◌, Bool, true, not, cond, ◌&&◌, ◌||◌, List, [], ◌∷◌, ◌++◌, length, get_or, take, drop, ltb, eqb}
+use Rattle.std.specs.Prelude.{ℕ, ◌+◌, Bool, true, not, cond, Result, Ok, Err, ◌&&◌, ◌||◌, List, [], ◌∷◌, ◌++◌, length, get_or, take, drop, ltb, eqb}
 use Rattle.laws.specs.First.{first, ◌⇒◌}
 use Rattle.laws.specs.Lists.{all, member}
 use Rattle.analog_outputs.specs.declared.AnalogOutput.{AnalogOutput}
@@ -13,7 +13,7 @@ use Rattle.control.specs.declared.Command.{Command}
 use Rattle.control.specs.declared.Command.TheVariants as C
 use Rattle.control.specs.declared.ControlObject.{ControlObject}
 use Rattle.control.specs.declared.Form.{Form}
-use Rattle.control.specs.declared.Form.TheVariants.{Wrong, Objects}
+use Rattle.application.specs.declared.Fault.{Fault}
 use Rattle.control.specs.declared.OutputCounts.{OutputCounts}
 use Rattle.control.specs.Objects.{value_size}
 
@@ -43,11 +43,11 @@ abbrev pub wrong_pulse : ℕ → ℕ → Bool
 wrong_pulse code on_time = is_pulse code && (eqb on_time 0 || ltb on_time_max on_time)
 
 -- there is such a relay, the code is one of the five, the count 1, and no pulse wrong
-unfoldable pub relay_can : ℕ → ℕ → Crob → Bool
+abbrev pub relay_can : ℕ → ℕ → Crob → Bool
 relay_can relays index c = all (ltb index relays ∷ known_code c.code ∷ eqb c.count 1 ∷ not (wrong_pulse c.code c.on_time) ∷ [])
 
 -- there is such an analog output, and it takes the value
-unfoldable pub analog_can : List AnalogOutput → ℕ → Value → Bool
+abbrev pub analog_can : List AnalogOutput → ℕ → Value → Bool
 analog_can analog index v = all (ltb index (length analog) ∷ takes (get_or analog index no_output) v ∷ [])
 
 -- what is asked of the output with this index can be done
@@ -58,7 +58,7 @@ can_do outputs index (C.AnalogOutput v) = analog_can outputs.analog index v
 -- "status of each, first that applies: status byte not 0, 3; no such output, 4; control code not 01, 03, 04, 41 or 81, 4;
 -- count not 1, 4; index already in this request, 8 (house); else 0"; a wrong pulse "gets status 4, tested after the count and before
 -- the repeated index" (108); "Another kind, outside them, or a float that isn't finite: status 4, tested before the repeated index" (109)
-unfoldable pub status_of : Outputs → Bool → ControlObject → ℕ
+abbrev pub status_of : Outputs → Bool → ControlObject → ℕ
 status_of outputs again c =
     first
     (not (eqb c.status 0) ⇒ 3
@@ -86,9 +86,9 @@ abbrev pub echo_of : ℕ → ℕ → List ℕ → List ℕ → List ℕ
 echo_of w z ss o = take (3 + w) o ++ echoed w z ss (drop (3 + w) o)
 
 -- by the form, given at least as many statuses: of a wrong one nothing
-abbrev pub echo_with : Form → List ℕ → List ℕ → List ℕ
-echo_with (Wrong x) ss o = []
-echo_with (Objects k w n) ss o = echo_of w (value_size k) (take n ss) o
+abbrev pub echo_with : Result Form Fault → List ℕ → List ℕ → List ℕ
+echo_with (Err f) ss o = []
+echo_with (Ok x) ss o = echo_of x.width (value_size x.kind) (take x.count ss) o
 
 -- "Direct operation carries out those with 0", "in the order asked"
 unfoldable pub chosen : List ControlObject → List ℕ → List ControlObject

@@ -1,18 +1,16 @@
 // Control requests: their one object header, the status of each object, the echo, and what is carried out.
 #![tactic(auto)]
 
-ghost use Rattle.std.specs.Prelude.{◌≡◌, [], ◌+◌, ◌≤◌, ◌<◌, min, length, take, drop};
+ghost use Rattle.std.specs.Prelude.{◌≡◌, [], ◌+◌, ◌≤◌, ◌<◌, length, take, drop};
 ghost use Rattle.std.specs.Int.{w16};
 ghost use Rattle.std.proofs.Common.{to_z};
 ghost use Rattle.octets.specs.Bytes.{splice, value_at};
 ghost use Rattle.laws.specs.Lists.{member};
-ghost use Rattle.application.specs.Response.{is_object};
 ghost use Rattle.analog_outputs.specs.OutputWords.{outputs_in};
 ghost use Rattle.control.specs.Objects.{
   objects_max,
   answer_max,
   value_size,
-  width_of,
   span,
   formed_as,
   formed,
@@ -54,7 +52,7 @@ pub const ANSWER_MAX: usize = 113;
 const ON_TIME_MAX: u32 = 60000;
 
 // The objects that a control request may have: group 12 variation 1, group 41 variations 1 to 3.
-#[derive(Clone, Copy)]
+#[derive(Clone, Copy, Debug, PartialEq, Eq)]
 pub enum ObjectKind {
     Crob,
     Int32,
@@ -63,7 +61,7 @@ pub enum ObjectKind {
 }
 
 // What a control relay output block asks of its relay.
-#[derive(Clone, Copy)]
+#[derive(Clone, Copy, Debug, PartialEq, Eq)]
 pub struct Crob {
     pub on_time: u32,
     pub off_time: u32,
@@ -94,32 +92,18 @@ pub struct ControlObjects {
 }
 
 // How many outputs of each kind are installed.
-#[derive(Clone, Copy)]
+#[derive(Clone, Copy, Debug, PartialEq, Eq)]
 pub struct OutputCounts {
     pub relays: u16,
     pub analog: u16,
 }
 
-// What the object bytes of a control request are.
-#[derive(Clone, Copy)]
-pub enum Form {
-    Wrong(Fault),
-    Objects {
-        kind: ObjectKind,
-        width: usize,
-        count: usize,
-    },
-}
-
-// The bytes of count and index by the qualifier.
-fn width(qualifier: u8) -> usize
-    ensures { (result ≡ width_of qualifier) × (result ≤ 2) }
-{
-    if qualifier == 0x17 {
-        1
-    } else {
-        if qualifier == 0x28 { 2 } else { 0 }
-    }
+// What the one header of a control request says: so many objects of a kind, the count and each index in so many bytes.
+#[derive(Clone, Copy, Debug, PartialEq, Eq)]
+pub struct Form {
+    pub kind: ObjectKind,
+    pub width: usize,
+    pub count: usize,
 }
 
 // A number of one or two bytes.
@@ -151,78 +135,51 @@ fn bytes(w: usize, z: usize, n: u16) -> usize
 }
 
 // The one header of a control request, its group and variation known.
-fn header_as(kind: ObjectKind, o: &[u8]) -> Form
+fn header_as(kind: ObjectKind, o: &[u8]) -> Result<Form, Fault>
     requires { 3 ≤ length o.now }
     ensures { result ≡ formed_as kind o.now }
 {
-    let w = width(o[2]);
-    if w == 0 {
-        return Form::Wrong(Fault::BadParameter);
+    let width = match o[2] {
+        0x17 => 1,
+        0x28 => 2,
+        _ => return Err(Fault::BadParameter),
+    };
+    if o.len() < 3 + width {
+        return Err(Fault::BadParameter);
     }
-    if o.len() < 3 + w {
-        return Form::Wrong(Fault::BadParameter);
+    let n = number(o, 3, width);
+    if o.len() != 3 + width + bytes(width, value_size(kind), n) {
+        return Err(Fault::BadParameter);
     }
-    let n = number(o, 3, w);
-    if o.len() != 3 + w + bytes(w, value_size(kind), n) {
-        return Form::Wrong(Fault::BadParameter);
+    let count = usize::from(n);
+    if count == 0 || OBJECTS_MAX < count {
+        return Err(Fault::BadParameter);
     }
-    if n == 0 {
-        return Form::Wrong(Fault::BadParameter);
-    }
-    let count = n as usize;
-    if OBJECTS_MAX < count {
-        return Form::Wrong(Fault::BadParameter);
-    }
-    Form::Objects {
-        kind: kind,
-        width: w,
-        count: count,
-    }
-}
-
-// The bytes begin with this group and variation.
-fn is_object(o: &[u8], group: u8, variation: u8) -> bool
-    requires { 2 ≤ length o.now }
-    ensures { result ≡ is_object group variation o.now }
-{
-    if o[0] == group {
-        o[1] == variation
-    } else {
-        false
-    }
+    Ok(Form { kind, width, count })
 }
 
 // The one header of a control request.
-pub fn header(o: &[u8]) -> Form
+pub fn header(o: &[u8]) -> Result<Form, Fault>
     ensures { result ≡ formed o.now }
 {
     if o.len() < 3 {
-        return Form::Wrong(Fault::BadParameter);
+        return Err(Fault::BadParameter);
     }
-    if is_object(o, 12, 1) {
-        return header_as(ObjectKind::Crob, o);
-    }
-    if is_object(o, 41, 1) {
-        return header_as(ObjectKind::Int32, o);
-    }
-    if is_object(o, 41, 2) {
-        return header_as(ObjectKind::Int16, o);
-    }
-    if is_object(o, 41, 3) {
-        return header_as(ObjectKind::Float32, o);
-    }
-    Form::Wrong(Fault::ObjectUnknown)
+    let kind = match (o[0], o[1]) {
+        (12, 1) => ObjectKind::Crob,
+        (41, 1) => ObjectKind::Int32,
+        (41, 2) => ObjectKind::Int16,
+        (41, 3) => ObjectKind::Float32,
+        _ => return Err(Fault::ObjectUnknown),
+    };
+    header_as(kind, o)
 }
 
 // The signed number of these bits, two's complement.
 fn signed_16(bits: u16) -> i16
     ensures { result ≡ to_z w16 bits }
 {
-    if bits < 32768 {
-        bits as i16
-    } else {
-        (bits as i32 - 65536) as i16
-    }
+    bits.cast_signed()
 }
 
 // What the object at the offset asks.
@@ -252,13 +209,10 @@ fn take_object(b: &[u8], kind: ObjectKind, w: usize) -> ControlObject
     requires { (w + value_size kind + 1 ≤ length b.now) × (w ≤ 2) }
     ensures { result ≡ object_at kind w b.now }
 {
-    let index = number(b, 0, w);
-    let status = b[w + value_size(kind)];
-    let command = take_command(b, kind, w);
     ControlObject {
-        index: index,
-        status: status,
-        command: command,
+        index: number(b, 0, w),
+        status: b[w + value_size(kind)],
+        command: take_command(b, kind, w),
     }
 }
 
@@ -266,57 +220,44 @@ fn take_object(b: &[u8], kind: ObjectKind, w: usize) -> ControlObject
 pub fn none() -> ControlObjects
     ensures { Holding result [] }
 {
-    let x = Crob {
-        code: 0,
-        count: 0,
-        on_time: 0,
-        off_time: 0,
-    };
-    let command = Command::Crob(x);
-    let c = ControlObject {
+    let unused = ControlObject {
         index: 0,
         status: 0,
-        command: command,
+        command: Command::Crob(Crob {
+            code: 0,
+            count: 0,
+            on_time: 0,
+            off_time: 0,
+        }),
     };
-    let items = [c; OBJECTS_MAX];
     ControlObjects {
-        items: items,
+        items: [unused; OBJECTS_MAX],
         count: 0,
     }
 }
 
-// The n objects at the front of the bytes.
-fn taken(b: &[u8], kind: ObjectKind, w: usize, n: usize) -> ControlObjects
-    requires { (span w (value_size kind) n ≤ length b.now) × (w ≤ 2) × (n ≤ objects_max) }
-    ensures { Holding result (objects kind w n b.now) }
+// The objects at the front of the bytes.
+fn taken(b: &[u8], x: Form) -> ControlObjects
+    requires { (span x.width (value_size x.kind) x.count ≤ length b.now) × (x.width ≤ 2) × (x.count ≤ objects_max) }
+    ensures { Holding result (objects x.kind x.width x.count b.now) }
 {
-    let z = value_size(kind);
+    let size = x.width + value_size(x.kind) + 1;
     let mut next = none();
     let mut at: usize = 0;
-    let mut i: usize = 0;
-    while i < n {
-        next.items[i] = take_object(&b[at..], kind, w);
-        at = at + w + z + 1;
-        i += 1;
+    for i in 0..x.count {
+        next.items[i] = take_object(&b[at..], x.kind, x.width);
+        at += size;
     }
-    next.count = n;
+    next.count = x.count;
     next
 }
 
-// The n objects of a control request with this header.
-pub fn objects(o: &[u8], kind: ObjectKind, w: usize, n: usize) -> ControlObjects
-    requires { HasObjects kind w n o.now }
-    ensures { Holding result (objects kind w n (drop (3 + w) o.now)) }
+// The objects of a control request with this header.
+pub fn objects(o: &[u8], x: Form) -> ControlObjects
+    requires { HasObjects x o.now }
+    ensures { Holding result (objects x.kind x.width x.count (drop (3 + x.width) o.now)) }
 {
-    let h = 3 + w;
-    taken(&o[h..], kind, w, n)
-}
-
-// How many objects there are.
-fn filled(count: usize) -> usize
-    ensures { result ≡ min count objects_max }
-{
-    octets::least(count, OBJECTS_MAX)
+    taken(&o[3 + x.width..], x)
 }
 
 // The index is that of one of the first n objects.
@@ -324,89 +265,44 @@ fn seen(cs: ControlObjects, n: usize, index: u16) -> bool
     requires { n ≤ objects_max }
     ensures { result ≡ member index (earlier_of cs.items n) }
 {
-    let mut left = n;
-    while 0 < left {
-        left -= 1;
-        let c = cs.items[left];
-        if index == c.index {
-            return true;
-        }
-    }
-    false
+    cs.items[..n].iter().any(|c| index == c.index)
 }
 
 // One of the five control codes.
 fn known_code(code: u8) -> bool
     ensures { result ≡ known_code code }
 {
-    if code == 0x01 {
-        return true;
-    }
-    if code == 0x03 {
-        return true;
-    }
-    if code == 0x04 {
-        return true;
-    }
-    if code == 0x41 {
-        return true;
-    }
-    code == 0x81
+    matches!(code, 0x01 | 0x03 | 0x04 | 0x41 | 0x81)
 }
 
 // One of the three codes that pulse: trip, close, or neither.
 fn is_pulse(code: u8) -> bool
     ensures { result ≡ is_pulse code }
 {
-    if code == 0x81 {
-        return true;
-    }
-    if code == 0x41 {
-        return true;
-    }
-    code == 0x01
+    matches!(code, 0x01 | 0x41 | 0x81)
 }
 
 // A pulse with no length, or too long a one.
 fn wrong_pulse(code: u8, on_time: u32) -> bool
     ensures { result ≡ wrong_pulse code on_time }
 {
-    if !is_pulse(code) {
-        return false;
-    }
-    if on_time == 0 {
-        return true;
-    }
-    ON_TIME_MAX < on_time
+    is_pulse(code) && (on_time == 0 || ON_TIME_MAX < on_time)
 }
 
 // Whether what is asked of this relay can be done.
 fn relay_can(relays: u16, index: u16, c: Crob) -> bool
     ensures { result ≡ relay_can relays index c }
 {
-    if relays <= index {
-        return false;
-    }
-    if !known_code(c.code) {
-        return false;
-    }
-    if c.count != 1 {
-        return false;
-    }
-    !wrong_pulse(c.code, c.on_time)
+    index < relays && known_code(c.code) && c.count == 1 && !wrong_pulse(c.code, c.on_time)
 }
 
 // Whether this analog output can have the value.
 fn analog_can(count: u16, ws: &[u32; ANALOG_OUTPUT_WORDS], index: u16, v: Value) -> bool
     ensures { result ≡ analog_can (take count (outputs_in ws.now)) index v }
 {
-    let n = octets::least(count as usize, ANALOG_OUTPUTS_MAX);
     let i = index as usize;
-    if i < n {
-        analog_outputs::takes(analog_outputs::load_output(ws, i), v)
-    } else {
-        false
-    }
+    i < (count as usize).min(ANALOG_OUTPUTS_MAX)
+        && analog_outputs::takes(analog_outputs::load_output(ws, i), v)
 }
 
 // The same by what is asked.
@@ -424,11 +320,14 @@ fn status(n: OutputCounts, ws: &[u32; ANALOG_OUTPUT_WORDS], again: bool, c: Cont
     ensures { result ≡ status_of (outputs_of n ws.now) again c }
 {
     if c.status != 0 {
-        return 3;
+        3
+    } else if !can_do(n, ws, c.index, c.command) {
+        4
+    } else if again {
+        8
+    } else {
+        0
     }
-    let command = c.command;
-    let wrong = !can_do(n, ws, c.index, command);
-    if wrong { 4 } else { if again { 8 } else { 0 } }
 }
 
 // The status of each object, for SELECT and direct operation.
@@ -439,13 +338,11 @@ pub fn statuses(
 ) -> [u8; OBJECTS_MAX]
     ensures { (take cs.count result ≡ statuses (outputs_of counts ws.now) [] (list_of cs)) × (length result ≡ objects_max) }
 {
-    let n = filled(cs.count);
+    let n = cs.count.min(OBJECTS_MAX);
     let mut ss = [0u8; OBJECTS_MAX];
-    let mut i: usize = 0;
-    while i < n {
+    for i in 0..n {
         let c = cs.items[i];
         ss[i] = status(counts, ws, seen(cs, i, c.index), c);
-        i += 1;
     }
     ss
 }
@@ -454,31 +351,19 @@ pub fn statuses(
 pub fn all_zero(ss: [u8; OBJECTS_MAX], count: usize) -> bool
     ensures { result ≡ all_zero (take count ss) }
 {
-    let n = filled(count);
-    let mut i: usize = 0;
-    while i < n {
-        if ss[i] != 0 {
-            return false;
-        }
-        i += 1;
-    }
-    true
+    ss.iter().take(count).all(|&s| s == 0)
 }
 
 // The objects whose status is 0.
 pub fn with_zero(cs: ControlObjects, ss: [u8; OBJECTS_MAX]) -> ControlObjects
     ensures { Holding result (chosen (list_of cs) (take cs.count ss)) }
 {
-    let n = filled(cs.count);
+    let n = cs.count.min(OBJECTS_MAX);
     let mut next = none();
-    let mut i: usize = 0;
     let mut j: usize = 0;
-    while i < n {
-        let c = cs.items[i];
-        let s = ss[i];
-        i += 1;
-        if s == 0 {
-            next.items[j] = c;
+    for i in 0..n {
+        if ss[i] == 0 {
+            next.items[j] = cs.items[i];
             j += 1;
         }
     }
@@ -492,31 +377,30 @@ fn put_objects(out: &mut [u8], at: usize, b: &[u8], w: usize, z: usize, ss: &[u8
     ensures { out.new ≡ splice out.old at (echoed w z (take n ss.now) b.now) }
 {
     let mut from: usize = 0;
-    let mut i: usize = 0;
-    while i < n {
+    for i in 0..n {
         let e = from + w + z;
         octets::copy(out, at + from, &b[from..e]);
         out[at + e] = ss[i];
         from = e + 1;
-        i += 1;
     }
 }
 
-// Puts the header and its n objects with these statuses at 4, and says how many bytes.
-pub fn put_echo(
-    out: &mut [u8],
-    o: &[u8],
-    kind: ObjectKind,
-    w: usize,
-    n: usize,
-    ss: [u8; OBJECTS_MAX],
-) -> usize
-    requires { (answer_max ≤ length out.old) × HasObjects kind w n o.now }
-    ensures { (out.new ≡ splice out.old 4 (echo_of w (value_size kind) (take n ss) o.now))
-        × (result ≡ length (echo_of w (value_size kind) (take n ss) o.now)) }
+// Puts the header and its objects with these statuses at 4, and says how many bytes.
+pub fn put_echo(out: &mut [u8], o: &[u8], x: Form, ss: [u8; OBJECTS_MAX]) -> usize
+    requires { (answer_max ≤ length out.old) × HasObjects x o.now }
+    ensures { (out.new ≡ splice out.old 4 (echo_of x.width (value_size x.kind) (take x.count ss) o.now))
+        × (result ≡ length (echo_of x.width (value_size x.kind) (take x.count ss) o.now)) }
 {
-    let h = 3 + w;
+    let h = 3 + x.width;
     octets::copy(out, 4, &o[..h]);
-    put_objects(out, 4 + h, &o[h..], w, value_size(kind), &ss, n);
+    put_objects(
+        out,
+        4 + h,
+        &o[h..],
+        x.width,
+        value_size(x.kind),
+        &ss,
+        x.count,
+    );
     o.len()
 }

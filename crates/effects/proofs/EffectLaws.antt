@@ -2,50 +2,48 @@
 -- Assumes nothing.
 use mathlib.Core.Path.{◌≡◌, refl, sym, ap, subst, ◌∙◌}
 use mathlib.Core.Bool.{Bool, true, false, cond}
+use Rattle.std.specs.Prelude.{Some}
 use mathlib.Core.List.{List, []}
-use Rattle.std.proofs.Common.{Option}
+use Rattle.std.proofs.Common.{Option, Some, None}
 use Prim.Native.Nat.{ℕ, ◌≤◌}
 use native.Mathlib.Omega.{arith}
 use lib.Dec.{eqb}
 use lib.ListN.{length}
 use Rattle.application.specs.declared.Fault.TheVariants.{FunctionUnknown}
-use Rattle.application.specs.declared.ApplicationSequence.{ApplicationSequence}
 use Rattle.control.specs.Objects.{answer_max}
 use Rattle.select_latch.specs.declared.ControlFunction.{ControlFunction}
 use Rattle.select_latch.specs.declared.ControlFunction.TheVariants.{Select, Operate, DirectOperate, DirectOperateNoResponse}
 use Rattle.last_request.proofs.ReplyLaws.{echo-most, unanswered-echo}
 use Rattle.events.specs.BufferView.{BufferView, cleared}
-use Rattle.outstation.specs.declared.Wait.{Wait}
-use Rattle.outstation.specs.declared.Wait.TheVariants.{Idle, Awaiting}
+use Rattle.outstation.specs.declared.Awaited.{Awaited}
 use Rattle.outstation.specs.Requests.{is_confirmed}
 use Rattle.outstation.specs.OutstationView.{OutstationView}
 use Rattle.outstation.specs.Step.{Result, refusal, control_request_effect, write_effect, plain_effect, effect_by, confirmed_step, confirm_step}
-use Rattle.effects.specs.declared.Confirmed.{Confirmed}
 use Rattle.effects.specs.declared.RequestEffect.{RequestEffect}
 use Rattle.effects.specs.declared.RequestContext.{RequestContext}
 use Rattle.effects.specs.Effects.{EffectMeetsWith, context_view, confirm_by, Confirms}
 
 -- ---- a CONFIRM
 
-module _ (w : OutstationView) (v : Wait) (q : ℕ) (uns : Bool) (time : ℕ) where
-  pub confirm-idle : v ≡ Idle → confirm_step w v q uns time ≡ refusal 32 w
+module _ (w : OutstationView) (v : Option Awaited) (q : ℕ) (uns : Bool) (time : ℕ) where
+  pub confirm-idle : v ≡ None → confirm_step w v q uns time ≡ refusal 32 w
   unfolding confirm_step
   confirm-idle e = rw e
 
-  module _ (awaited : ApplicationSequence) (sent : ℕ) (showed_overflow dropped_since : Bool) (e : v ≡ Awaiting awaited sent showed_overflow dropped_since) (limit : ℕ)
+  module _ (a : Awaited) (e : v ≡ Some a) (limit : ℕ)
       (same : w.shared.confirm_time ≡ limit) where
-    pub confirm-late : is_confirmed limit q uns time awaited.0 sent ≡ false → confirm_step w v q uns time ≡ refusal 32 w
+    pub confirm-late : is_confirmed limit q uns time a.sequence.0 a.time ≡ false → confirm_step w v q uns time ≡ refusal 32 w
     unfolding confirm_step
     confirm-late t = rw (e, same, t)
 
-    pub confirm-good : is_confirmed limit q uns time awaited.0 sent ≡ true → confirm_step w v q uns time ≡ confirmed_step w time showed_overflow dropped_since
+    pub confirm-good : is_confirmed limit q uns time a.sequence.0 a.time ≡ true → confirm_step w v q uns time ≡ confirmed_step w time a.showed_overflow a.dropped_since
     unfolding confirm_step
     confirm-good t = rw (e, same, t)
 
 -- the step of a CONFIRM, by what it comes to
-pub confirm-given : (w : OutstationView) (P : Result → Type 0) (v : Wait) (q : ℕ) (uns : Bool) (time : ℕ) (x y : Option Confirmed)
+pub confirm-given : (w : OutstationView) (P : Result → Type 0) (v : Option Awaited) (q : ℕ) (uns : Bool) (time : ℕ) (x y : Option Awaited)
     → Confirms x w.shared.confirm_time v q uns time → x ≡ y → P (confirm_by y w time) → P (confirm_step w v q uns time)
-confirm-given w P v q uns time x y is e h = subst P (sym (is w refl ∙ ap (λ (z : Option Confirmed). confirm_by z w time) e)) h
+confirm-given w P v q uns time x y is e h = subst P (sym (is w refl ∙ ap (λ (z : Option Awaited). confirm_by z w time) e)) h
 
 -- ---- an effect's objects
 
@@ -63,7 +61,7 @@ objects-most w q function time o = go (eqb function 2) (eqb function 3) (eqb fun
         (cond c (control_request_effect w Operate q time o)
         (cond d (control_request_effect w DirectOperate q time o)
         (cond e (control_request_effect w DirectOperateNoResponse q time o)
-        (plain_effect w FunctionUnknown w.master.session.restarted)))))).objects ≤ 109
+        (plain_effect w (Some FunctionUnknown) w.master.session.restarted)))))).objects ≤ 109
     go true b c d e = omega arith
     go false true c d e = most Select
     go false false true d e = most Operate
@@ -88,7 +86,7 @@ effect-buffer w q function time o = go (eqb function 2) (eqb function 3) (eqb fu
         (cond c (control_request_effect w Operate q time o)
         (cond d (control_request_effect w DirectOperate q time o)
         (cond e (control_request_effect w DirectOperateNoResponse q time o)
-        (plain_effect w FunctionUnknown w.master.session.restarted)))))).buffer
+        (plain_effect w (Some FunctionUnknown) w.master.session.restarted)))))).buffer
     go true b c d e = refl
     go false true c d e = refl
     go false false true d e = refl
@@ -97,7 +95,7 @@ effect-buffer w q function time o = go (eqb function 2) (eqb function 3) (eqb fu
     go false false false false false = refl
 
 -- it awaits nothing
-pub effect-idle : (w : OutstationView) (q function time : ℕ) (o : List ℕ) → (effect_by w q function time o).wait ≡ Idle
+pub effect-idle : (w : OutstationView) (q function time : ℕ) (o : List ℕ) → (effect_by w q function time o).wait ≡ None
 effect-idle w q function time o = go (eqb function 2) (eqb function 3) (eqb function 4) (eqb function 5) (eqb function 6)
   where
     go : (a b c d e : Bool)
@@ -106,8 +104,8 @@ effect-idle w q function time o = go (eqb function 2) (eqb function 3) (eqb func
         (cond c (control_request_effect w Operate q time o)
         (cond d (control_request_effect w DirectOperate q time o)
         (cond e (control_request_effect w DirectOperateNoResponse q time o)
-        (plain_effect w FunctionUnknown w.master.session.restarted)))))).wait
-        ≡ Idle
+        (plain_effect w (Some FunctionUnknown) w.master.session.restarted)))))).wait
+        ≡ None
     go true b c d e = refl
     go false true c d e = refl
     go false false true d e = refl

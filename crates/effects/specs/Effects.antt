@@ -8,12 +8,10 @@ use Rattle.select_latch.specs.Select.{latch_of}
 use Rattle.events.specs.BufferView.{BufferView}
 use Rattle.application.specs.Response.{is_faultless, write_fault}
 use Rattle.last_request.specs.Repeat.{nothing}
-use Rattle.outstation.specs.declared.Wait.{Wait}
-use Rattle.outstation.specs.declared.Wait.TheVariants.{Idle}
+use Rattle.outstation.specs.declared.Awaited.{Awaited}
 use Rattle.outstation.specs.OutstationView.{OutstationView}
 use Rattle.outstation.specs.Step.{Result, plain_effect, refusal, confirmed_step, confirm_step}
 use Rattle.outstation.specs.Step as S
-use Rattle.effects.specs.declared.Confirmed.{Confirmed}
 use Rattle.effects.specs.declared.RequestEffect.{RequestEffect}
 use Rattle.effects.specs.declared.RequestContext.{RequestContext}
 
@@ -52,7 +50,7 @@ context_view s ws k =
       master =
           record {
             buffer = k;
-            session = record { restarted = s.restarted; wait = Idle; last = nothing; latch = latch_of s.latch };
+            session = record { restarted = s.restarted; wait = None; last = nothing; latch = latch_of s.latch };
           };
     }
 
@@ -61,10 +59,10 @@ abbrev pub write_effect_by : OutstationView → (restarted : Bool) → List ℕ 
 write_effect_by w restarted o = plain_effect w (write_fault o) (cond (is_faultless (write_fault o)) false restarted)
 
 -- what a CONFIRM comes to, as a step
-abbrev pub confirm_by : Option Confirmed → OutstationView → ℕ → Result
+abbrev pub confirm_by : Option Awaited → OutstationView → ℕ → Result
 confirm_by None w time = refusal 32 w
 confirm_by (Some c) w time = confirmed_step w time c.showed_overflow c.dropped_since
 
 -- the same, told from the confirm time and the awaited confirmation of any state
-abbrev pub Confirms : Option Confirmed → ℕ → Wait → ℕ → Bool → ℕ → Type 0
+abbrev pub Confirms : Option Awaited → ℕ → Option Awaited → ℕ → Bool → ℕ → Type 0
 Confirms x confirm_time v q uns time = (w : OutstationView) → w.shared.confirm_time ≡ confirm_time → confirm_step w v q uns time ≡ confirm_by x w time

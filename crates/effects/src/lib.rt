@@ -11,15 +11,8 @@ ghost use Rattle.effects.specs.Effects.{EffectMeetsWith, EffectMeetsStill, Confi
 use analog_outputs::ANALOG_OUTPUT_WORDS;
 use application::{ApplicationSequence, Fault};
 use control::{ControlObjects, OutputCounts};
-use outstation::Wait;
+use outstation::Awaited;
 use select_latch::{ControlFunction, Latch};
-
-// Of the response that an accepted CONFIRM confirms: whether it showed IIN2.3, and whether an event was dropped since.
-#[derive(Clone, Copy)]
-pub struct Confirmed {
-    pub showed_overflow: bool,
-    pub dropped_since: bool,
-}
 
 // What a request other than READ sees of the state, beside the analog outputs' words.
 #[derive(Clone, Copy)]
@@ -33,11 +26,11 @@ pub struct RequestContext {
 // What a request does beside the events, before its answer is put together.
 #[derive(Clone, Copy)]
 pub struct RequestEffect {
-    pub fault: Fault,
+    pub fault: Option<Fault>,
     pub con: bool,
     pub size: usize,
     pub operated: ControlObjects,
-    pub wait: Wait,
+    pub wait: Option<Awaited>,
     pub latch: Latch,
     pub restarted: bool,
 }
@@ -51,12 +44,11 @@ fn is_confirmed(
     q: ApplicationSequence,
     uns: bool,
     time: u64,
-    awaited: ApplicationSequence,
-    sent: u64,
+    awaited: Awaited,
 ) -> bool
-    ensures { result ≡ is_confirmed confirm_time q.0 uns time awaited.0 sent }
+    ensures { result ≡ is_confirmed confirm_time q.0 uns time awaited.sequence.0 awaited.time }
 {
-    !uns && q.0 == awaited.0 && application::elapsed(sent, time) <= confirm_time
+    !uns && q.0 == awaited.sequence.0 && application::elapsed(awaited.time, time) <= confirm_time
 }
 
 // IIN2.3 after an accepted CONFIRM.
@@ -66,26 +58,18 @@ pub fn still_dropped(showed_overflow: bool, dropped_since: bool, overflow: bool)
     overflow && (!showed_overflow || dropped_since)
 }
 
-// What a CONFIRM confirms, if it is accepted, by the response that awaits it.
+// The response that a CONFIRM confirms: the one that is awaited, if the CONFIRM is accepted.
 pub fn confirm(
     confirm_time: u64,
-    w: Wait,
+    awaited: Option<Awaited>,
     q: ApplicationSequence,
     uns: bool,
     time: u64,
-) -> Option<Confirmed>
-    ensures { Confirms result confirm_time w q.0 uns time }
+) -> Option<Awaited>
+    ensures { Confirms result confirm_time awaited q.0 uns time }
 {
-    match w {
-        Wait::Awaiting {
-            sequence,
-            time: sent,
-            showed_overflow,
-            dropped_since,
-        } if is_confirmed(confirm_time, q, uns, time, sequence, sent) => Some(Confirmed {
-            showed_overflow,
-            dropped_since,
-        }),
+    match awaited {
+        Some(a) if is_confirmed(confirm_time, q, uns, time, a) => Some(a),
         _ => None,
     }
 }
@@ -93,7 +77,7 @@ pub fn confirm(
 // ---- what a request does
 
 // A request without objects in its answer: it ends the wait and empties the latch.
-fn plain_effect(fault: Fault, restarted: bool) -> RequestEffect
+fn plain_effect(fault: Option<Fault>, restarted: bool) -> RequestEffect
     ensures { EffectMeetsStill result (λ w. plain_effect w fault restarted) }
 {
     RequestEffect {
@@ -101,7 +85,7 @@ fn plain_effect(fault: Fault, restarted: bool) -> RequestEffect
         con: false,
         size: 4,
         operated: control::none(),
-        wait: Wait::Idle,
+        wait: None,
         latch: select_latch::empty(),
         restarted,
     }
@@ -110,11 +94,9 @@ fn plain_effect(fault: Fault, restarted: bool) -> RequestEffect
 fn write_effect(restarted: bool, s: &[u8]) -> RequestEffect
     ensures { EffectMeetsStill result (λ w. write_effect_by w restarted s.now) }
 {
-    let fault = application::write_fault(s);
-    if application::is_faultless(fault) {
-        plain_effect(fault, false)
-    } else {
-        plain_effect(fault, restarted)
+    match application::write_fault(s) {
+        None => plain_effect(None, false),
+        Some(fault) => plain_effect(Some(fault), restarted),
     }
 }
 
@@ -146,7 +128,7 @@ fn control_request_effect(
         con: false,
         size: 4 + c.len,
         operated: c.carried,
-        wait: Wait::Idle,
+        wait: None,
         latch: c.latch,
         restarted: seen.restarted,
     }
@@ -171,7 +153,7 @@ pub fn effect_by(
         4 => ControlFunction::Operate,
         5 => ControlFunction::DirectOperate,
         6 => ControlFunction::DirectOperateNoResponse,
-        _ => return plain_effect(Fault::FunctionUnknown, seen.restarted),
+        _ => return plain_effect(Some(Fault::FunctionUnknown), seen.restarted),
     };
     control_request_effect(seen, ws, f, q, time, s, out)
 }

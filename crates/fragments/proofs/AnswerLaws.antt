@@ -13,6 +13,7 @@ use lib.ListN.{length, take, length-append}
 use Rattle.laws.specs.Limits.{fragment_max}
 use Rattle.octets.specs.Bytes.{splice}
 use Rattle.octets.proofs.Splice.{splice-nil}
+use Rattle.std.specs.Prelude.{Option}
 use Rattle.application.specs.declared.Fault.{Fault}
 use Rattle.application.specs.declared.Indications.{Indications}
 use Rattle.application.specs.Fragment.{objects_of}
@@ -38,7 +39,7 @@ use Rattle.fragments.specs.declared.FragmentAnswer.{FragmentAnswer}
 use Rattle.fragments.specs.declared.FragmentAnswer.TheVariants as Fs
 use Rattle.fragments.specs.FragmentMeets.{AnsweredAs, left_with, read_effect_by, request_by}
 
-pub length-response : (q : ℕ) (con : Bool) (i : Indications) (f : Fault) → length (response_of q con i f) ≡ 4
+pub length-response : (q : ℕ) (con : Bool) (i : Indications) (f : Option Fault) → length (response_of q con i f) ≡ 4
 unfolding response_of
 length-response q con i f = refl
 

@@ -6,7 +6,7 @@ use mathlib.Core.Bool.{Bool, true, false, cond, not, ◌&&◌, ◌||◌}
 use mathlib.Core.List.{List, []}
 use Prim.Native.Nat.{ℕ, ◌+◌, ◌≤◌}
 use native.Mathlib.Omega.{arith}
-use Rattle.std.proofs.Common.{Option, Some, Ok, Err}
+use Rattle.std.proofs.Common.{Option, Some, None, Ok, Err}
 use lib.Dec.{eqb}
 use lib.ListN.{length, take}
 use Rattle.laws.specs.Limits.{events_max, fragment_max}
@@ -14,16 +14,14 @@ use Rattle.laws.specs.Lists.{some}
 use Rattle.laws.proofs.Choices.{by}
 use Rattle.octets.specs.Bytes.{splice}
 use Rattle.application.specs.declared.Fault.{Fault}
-use Rattle.application.specs.declared.Fault.TheVariants.{Faultless}
+use Rattle.std.specs.Prelude.{Option, Some, None}
 use Rattle.application.specs.declared.ApplicationSequence.{ApplicationSequence}
 use Rattle.application.specs.Fragment.{objects_of}
-use Rattle.application.specs.Response.{response_of, is_faultless}
+use Rattle.application.specs.Response.{response_of}
 use Rattle.events.specs.BufferView.{BufferView, buffer_view, released, cleared, is_carried}
 use Rattle.read_headers.specs.declared.Header.{Header}
 use Rattle.read_headers.specs.Parse.{Parsed, headers, fault, fault_in}
-use Rattle.read_headers.proofs.ParseLaws.{Told}
 use Rattle.static_objects.specs.Static.{asked_of}
-use Rattle.read.proofs.AskLaws.{told-asked}
 use Rattle.read.specs.Response.{buffer_after, response_objects, RepliedAs}
 use Rattle.control.specs.declared.ControlObjects.{ControlObjects}
 use Rattle.control.specs.Objects.{answer_max, list_of, Holding}
@@ -31,12 +29,10 @@ use Rattle.select_latch.specs.declared.Latch.{Latch}
 use Rattle.select_latch.specs.declared.ControlGroup.TheVariants as G
 use Rattle.select_latch.specs.Select.{no_select, selected, latch_of}
 use Rattle.last_request.specs.Repeat.{kept, last_in, kept_answer}
-use Rattle.outstation.specs.declared.Wait.{Wait}
-use Rattle.outstation.specs.declared.Wait.TheVariants.{Idle, Awaiting}
+use Rattle.outstation.specs.declared.Awaited.{Awaited}
 use Rattle.outstation.specs.OutstationView.{OutstationView}
-use Rattle.outstation.specs.Step.{Result, refusal, indications_of, confirmed_step, confirm_step, effect_by}
+use Rattle.outstation.specs.Step.{Result, refusal, indications_of, confirmed_step, confirm_step, effect_by, newly_sent}
 use Rattle.effects.specs.declared.RequestEffect.{RequestEffect}
-use Rattle.effects.specs.declared.Confirmed.{Confirmed}
 use Rattle.fragments.specs.declared.FragmentRefusal.{FragmentRefusal}
 use Rattle.fragments.specs.declared.FragmentAnswer.{FragmentAnswer}
 use Rattle.fragments.specs.declared.FragmentAnswer.TheVariants as Fs
@@ -149,7 +145,7 @@ confirmed-in h e e₁ time showed_overflow dropped_since t t₁ byte none same g
 -- ---- READ
 
 -- the effect of a READ: it hands nothing over, and empties the latch
-abbrev effect_for : Fault → (con : Bool) → (size : ℕ) → Wait → (restarted : Bool) → RequestEffect
+abbrev effect_for : Option Fault → (con : Bool) → (size : ℕ) → Option Awaited → (restarted : Bool) → RequestEffect
 effect_for f con size wait restarted =
     record {
       fault = f;
@@ -161,9 +157,9 @@ effect_for f con size wait restarted =
       restarted = restarted;
     }
 
-module _ (w : OutstationView) (q time : ℕ) (b a : List ℕ) (k : BufferView) (f : Fault) (con carried : Bool) (size : ℕ) (is : carried ≡ some is_carried k.held) where
-  abbrev wait_by : Bool → Wait
-  wait_by x = cond x (Awaiting (record { 0 = q }) time k.overflow false) Idle
+module _ (w : OutstationView) (q time : ℕ) (b a : List ℕ) (k : BufferView) (f : Option Fault) (con carried : Bool) (size : ℕ) (is : carried ≡ some is_carried k.held) where
+  abbrev wait_by : Bool → Option Awaited
+  wait_by x = cond x (Some (newly_sent (record { 0 = q }) time k.overflow)) None
 
   -- what is put for a READ that is parsed as p, and what it says by the fault that the code has
   abbrev WorkedBy : Parsed → Type 0
@@ -172,10 +168,10 @@ module _ (w : OutstationView) (q time : ℕ) (b a : List ℕ) (k : BufferView) (
       → size ≡ 4 + length (response_objects w.shared.inputs p w.master.buffer) → a ≡ splice b 4 (response_objects w.shared.inputs p w.master.buffer)
       → EffectMeets (effect_for f con size (wait_by con) w.master.session.restarted) b a (read_effect_by w q time p)
 
-  faultless : f ≡ Faultless → (hs : List Header) → WorkedBy (headers hs)
+  faultless : f ≡ None → (hs : List Header) → WorkedBy (headers hs)
   unfolding list_of latch_of
   faultless e hs ec marked sized put =
-      let c : con ≡ (some is_carried k.held || k.overflow) = ec ∙ ap (λ (x : Fault). con_by x carried k.overflow) e ∙ ap (λ (x : Bool). x || k.overflow) is in
+      let c : con ≡ (some is_carried k.held || k.overflow) = ec ∙ ap (λ (x : Option Fault). con_by x carried k.overflow) e ∙ ap (λ (x : Bool). x || k.overflow) is in
       record {
         fault = e;
         con = c ∙ ap (λ (x : BufferView). some is_carried x.held || x.overflow) marked;
@@ -184,18 +180,18 @@ module _ (w : OutstationView) (q time : ℕ) (b a : List ℕ) (k : BufferView) (
         operated = record { objects = refl; count = refl };
         wait =
             ap wait_by c
-            ∙ ap (λ (x : BufferView). cond (some is_carried x.held || x.overflow) (Awaiting (record { 0 = q }) time x.overflow false) Idle) marked;
+            ∙ ap (λ (x : BufferView). cond (some is_carried x.held || x.overflow) (Some (newly_sent (record { 0 = q }) time x.overflow)) None) marked;
         latch = refl;
         counted = omega arith;
         restarted = refl;
       }
 
-  faulty : is_faultless f ≡ false → WorkedBy (fault f)
+  faulty : (g : Fault) → f ≡ Some g → WorkedBy (fault g)
   unfolding list_of latch_of
-  faulty e ec marked sized put =
-      let c : con ≡ false = ec ∙ ap (λ (x : Bool). x && (carried || k.overflow)) e in
+  faulty g e ec marked sized put =
+      let c : con ≡ false = ec ∙ ap (λ (x : Option Fault). con_by x carried k.overflow) e in
       record {
-        fault = refl;
+        fault = e;
         con = c;
         size = sized;
         lent = put;
@@ -206,9 +202,9 @@ module _ (w : OutstationView) (q time : ℕ) (b a : List ℕ) (k : BufferView) (
         restarted = refl;
       }
 
-  read-worked : (p : Parsed) → Told p → f ≡ fault_in p → WorkedBy p
-  read-worked (headers hs) t e = faultless e hs
-  read-worked (fault g) t e = subst (λ (x : Fault). WorkedBy (fault x)) e (faulty (ap is_faultless e ∙ t))
+  read-worked : (p : Parsed) → f ≡ fault_in p → WorkedBy p
+  read-worked (headers hs) e = faultless e hs
+  read-worked (fault g) e = faulty g e
 
 -- the memory of a READ, by the latch's bytes and the analog outputs' words
 abbrev pub memory_of : (binaries analogs held request answer : List ℕ) → (objects outputs : List ℕ) → Lent
@@ -216,7 +212,7 @@ memory_of b a e p s o u = record { binaries = b; analogs = a; held = e; request 
 
 -- a READ, of its reply r, the header put in front and the head that it leaves
 module _ (h : Head) (bw aw e p s : List ℕ) (q time : ℕ) (f e₁ p₁ s₁ : List ℕ) (r : Reply) (b a₁ a₂ : List ℕ) (con carried : Bool) (k : LastLengths)
-    (h₁ : Head) (none : ControlObjects) (hands : Holding none []) (left : ReadLeft h time (cond con (Awaiting (record { 0 = q }) time (holds h.overflow) false) Idle) k h₁)
+    (h₁ : Head) (none : ControlObjects) (hands : Holding none []) (left : ReadLeft h time (cond con (Some (newly_sent (record { 0 = q }) time (holds h.overflow))) None) k h₁)
     (keeps : (last_in p₁ s₁ (Some k) ≡ kept f []) × (k.request_len ≡ length f) × (k.answer_len ≡ 0)) (short : length f ≤ fragment_max) (room : fragment_max ≤ length b) where
   -- the rest of what is known, by the status and the restart flag that the code has
   abbrev ReadBy : BufferStatus → Bool → Type 0
@@ -231,7 +227,7 @@ module _ (h : Head) (bw aw e p s : List ℕ) (q time : ℕ) (f e₁ p₁ s₁ : 
       let w : OutstationView = view_of h (memory_of bw aw e p s o v) in
       let y : Parsed = asked_of w.shared.inputs (objects_of f) in
       let d : RequestEffect = effect_for r.fault con r.size (wait_by w q time b a₁ u r.fault con carried r.size is con) (holds h.restarted) in
-      let worked : EffectMeets d b a₁ (read_effect_by w q time y) = read-worked w q time b a₁ u r.fault con carried r.size is y (told-asked w.shared.inputs (objects_of f)) g.fault ec g.events g.size g.bytes in
+      let worked : EffectMeets d b a₁ (read_effect_by w q time y) = read-worked w q time b a₁ u r.fault con carried r.size is y g.fault ec g.events g.size g.bytes in
       let marked : u ≡ (read_effect_by w q time y).buffer = g.events ∙ sym (read-buffer w q time y) in
       let fits : r.size ≤ length b = omega (arith, read-most w q time (objects_of f), worked.size, room) in
       record {
@@ -305,7 +301,7 @@ repeated-in h p s function time none b a n is hands put room said m =
 -- ---- any other request
 
 module _ (h : Head) (e p s o ws : List ℕ) (q function time : ℕ) (f e₁ p₁ s₁ o₁ : List ℕ) (r : RequestEffect) (b a₁ a₂ : List ℕ) (n : ℕ) (is : FragmentAnswer)
-    (k : LastLengths) (h₁ : Head) (left : LeftIn h time r.restarted Idle k (latch_of r.latch) r.latch.len h₁ o₁)
+    (k : LastLengths) (h₁ : Head) (left : LeftIn h time r.restarted None k (latch_of r.latch) r.latch.len h₁ o₁)
     (keeps : (last_in p₁ s₁ (Some k) ≡ kept f (take n a₂)) × (k.request_len ≡ length f) × (k.answer_len ≡ length (take n a₂))) (short : length f ≤ fragment_max)
     (small : length (take n a₂) ≤ answer_max) (room : fragment_max ≤ length b) (said : is ≡ cond (eqb function 6) Fs.Silent (Fs.Answer n)) where
   -- the rest of what is known, by the status and the part of the state that the code has
@@ -322,7 +318,7 @@ module _ (h : Head) (e p s o ws : List ℕ) (q function time : ℕ) (f e₁ p₁
       let w : OutstationView = view_of h (memory_of x y e p s o ws) in
       let worked : EffectMeets r b a₁ (effect_by w q function time (objects_of f)) = all (buffer_view_in e (buffer_status h)) in
       let marked : buffer_view_in e₁ (buffer_status h) ≡ (effect_by w q function time (objects_of f)).buffer = clears ∙ effect-buffer w q function time (objects_of f) in
-      let idle : Idle ≡ r.wait = sym (worked.wait ∙ effect-idle w q function time (objects_of f)) in
+      let idle : None ≡ r.wait = sym (worked.wait ∙ effect-idle w q function time (objects_of f)) in
       let size : r.size ≤ answer_max = effect-small (context_in h o) ws q function time (objects_of f) r b a₁ all in
       record {
         result =
@@ -339,10 +335,10 @@ module _ (h : Head) (e p s o ws : List ℕ) (q function time : ℕ) (f e₁ p₁
 -- ---- the head that a request leaves
 
 -- a wait in a head: its kind says whether there is one
-wait_told : (n : ℕ) (con : Bool) (v : Wait) → holds n ≡ con → cond (eqb n 0) Idle v ≡ cond con v Idle
-wait_told n con v h = go (eqb n 0) ∙ ap (λ (b : Bool). cond b v Idle) h
+wait_told : (n : ℕ) (con : Bool) (v : Option Awaited) → holds n ≡ con → cond (eqb n 0) None v ≡ cond con v None
+wait_told n con v h = go (eqb n 0) ∙ ap (λ (b : Bool). cond b v None) h
   where
-    go : (b : Bool) → cond b Idle v ≡ cond (not b) v Idle
+    go : (b : Bool) → cond b None v ≡ cond (not b) v None
     go true = refl
     go false = refl
 
@@ -383,7 +379,7 @@ latch-left l n e =
 
 module _ (h : Head) (time : ℕ) (k : LastLengths) where
   pub after_read : (q : ApplicationSequence) (con : Bool) (kind : ℕ) → holds kind ≡ con
-      → ReadLeft h time (cond con (Awaiting q time (holds h.overflow) false) Idle) k
+      → ReadLeft h time (cond con (Some (newly_sent q time (holds h.overflow))) None) k
       (left_head h time h.restarted kind q.0 time h.overflow 0 k 0 h.latch_sequence h.latch_time h.latch_len)
   unfolding wait_of latch_of
   after_read q con kind e o =
@@ -398,7 +394,7 @@ module _ (h : Head) (time : ℕ) (k : LastLengths) where
                     session =
                         record {
                           restarted = holds h.restarted;
-                          wait = wait_told kind con (Awaiting q time (holds h.overflow) false) e i;
+                          wait = wait_told kind con (Some (newly_sent q time (holds h.overflow))) e i;
                           last = last_in m.request m.answer (Some k);
                           latch = no_select;
                         };
@@ -411,7 +407,7 @@ module _ (h : Head) (time : ℕ) (k : LastLengths) where
 
   pub after-request : (restarted : Bool) (latch : Latch) (again armed : ℕ) → holds again ≡ restarted
       → (holds armed ≡ latch.armed) × (latch.armed ≡ true → group_in armed ≡ latch.group)
-      → LeftIn h time restarted Idle k (latch_of latch) latch.len
+      → LeftIn h time restarted None k (latch_of latch) latch.len
       (left_head h time again 0 h.wait_sequence h.wait_time h.showed_overflow h.dropped_since k armed latch.sequence.0 latch.time latch.len)
       latch.objects
   unfolding wait_of
@@ -427,7 +423,7 @@ module _ (h : Head) (time : ℕ) (k : LastLengths) where
                     session =
                         record {
                           restarted = er i;
-                          wait = Idle;
+                          wait = None;
                           last = last_in m.request m.answer (Some k);
                           latch = latch-left latch armed ea i;
                         };
@@ -440,9 +436,9 @@ module _ (h : Head) (time : ℕ) (k : LastLengths) where
 
 -- ---- the step of a CONFIRM, by what it comes to
 
-pub confirm-in : (h : Head) (e : List ℕ) (q : ℕ) (uns : Bool) (time : ℕ) (v : Wait) (x y : Option Confirmed) → v ≡ wait_of h
+pub confirm-in : (h : Head) (e : List ℕ) (q : ℕ) (uns : Bool) (time : ℕ) (v : Option Awaited) (x y : Option Awaited) → v ≡ wait_of h
     → Confirms x h.confirm_time v q uns time → x ≡ y → (r : FragmentResult) (e₁ : List ℕ)
     → ((m : Lent) (out : List ℕ) → PartMeets h r (with_held e₁ m) out out (confirm_by y (view_of h (with_held e m)) time)) → ConfirmHolds h e q uns time r e₁
 confirm-in h e q uns time v x y same is ey r e₁ given m out =
-    subst (λ (u : Wait). PartMeets h r (with_held e₁ m) out out (confirm_step (view_of h (with_held e m)) u q uns time)) same
+    subst (λ (u : Option Awaited). PartMeets h r (with_held e₁ m) out out (confirm_step (view_of h (with_held e m)) u q uns time)) same
     (confirm-given (view_of h (with_held e m)) (PartMeets h r (with_held e₁ m) out out) v q uns time x y is ey (given m out))

@@ -1,6 +1,6 @@
 -- What a fragment's call gives: one definition for the call, and the same for its parts, which are lent less.
 -- Assumes nothing.
-use Rattle.std.specs.Prelude.{ℕ, ◌≤◌, ◌≡◌, Bool, ◌&&◌, ◌||◌, List, [], ◌∷◌, eqb, length, take}
+use Rattle.std.specs.Prelude.{ℕ, ◌≤◌, ◌≡◌, Bool, Option, Some, ◌&&◌, ◌||◌, List, [], ◌∷◌, eqb, length, take}
 use Rattle.std.specs.Prelude as P
 use Rattle.laws.specs.First.{first, ◌⇒◌}
 use Rattle.laws.specs.Limits.{fragment_max}
@@ -20,7 +20,7 @@ use Rattle.last_request.specs.declared.LastLengths.{LastLengths}
 use Rattle.words.specs.Numbers.{holds}
 use Rattle.event_store.specs.EventWords.{buffer_view_in}
 use Rattle.outstation.specs.declared.Head.{Head}
-use Rattle.outstation.specs.declared.Wait.{Wait}
+use Rattle.outstation.specs.declared.Awaited.{Awaited}
 use Rattle.outstation.specs.OutstationView.{OutstationView, SessionView, with_clock, with_inputs, with_buffer, with_session, with_shared, with_master}
 use Rattle.outstation.specs.Lent.{Lent, Outstation, outstation_view, HeadCountsWithin, CountsWithin, buffer_status, output_counts, group_in, wait_of, view_of}
 use Rattle.outstation.specs.Step.{Answer, took, answers, silent, accepts, refuses, handed, output_after, Result, fragment, step, read_effect, plain_effect, read_step, repeat_step, request_step, effect_by, confirm_step, confirmed_step}
@@ -117,7 +117,7 @@ left_with w time i k x =
 -- a READ, faultless or not
 abbrev pub read_effect_by : OutstationView → ℕ → ℕ → Parsed → S.RequestEffect
 read_effect_by w q time (headers hs) = read_effect w q time hs
-read_effect_by w q time (fault f) = plain_effect w f w.master.session.restarted
+read_effect_by w q time (fault f) = plain_effect w (Some f) w.master.session.restarted
 
 -- a request by its function: a READ, a repeat, or another
 abbrev pub request_by : OutstationView → ℕ → ℕ → ℕ → List ℕ → Result
@@ -148,7 +148,7 @@ abbrev pub RequestHolds : Head → Lent → (q function time : ℕ) (f : List �
 RequestHolds h m q function time f r m₁ before after = PartMeets h r m₁ before after (request_by (view_of h m) q function time f)
 
 -- "CON is set exactly on a faultless READ's answer with an event or IIN2.3."
-abbrev pub con_by : Fault → (carried overflow : Bool) → Bool
+abbrev pub con_by : Option Fault → (carried overflow : Bool) → Bool
 con_by f carried overflow = is_faultless f && (carried || overflow)
 
 -- of a READ, whatever the latch's bytes and the analog outputs' words
@@ -201,13 +201,13 @@ abbrev pub with_objects : List ℕ → Lent → Lent
 with_objects o m =
     record { binaries = m.binaries; analogs = m.analogs; held = m.held; request = m.request; answer = m.answer; objects = o; outputs = m.outputs }
 
-pub record LeftIn (h : Head) (time : ℕ) (restarted : Bool) (wait : Wait) (k : LastLengths) (l : LatchView) (n : ℕ) (r : Head) (o : List ℕ) : Type 0 where
+pub record LeftIn (h : Head) (time : ℕ) (restarted : Bool) (wait : Option Awaited) (k : LastLengths) (l : LatchView) (n : ℕ) (r : Head) (o : List ℕ) : Type 0 where
   pub view : (m : Lent)
       → view_of r (with_objects o m)
       ≡ left_with (view_of h m) time (view_of h m).shared.inputs (buffer_view_in m.held (buffer_status h))
-      (record { restarted = restarted; wait = wait; last = last_in m.request m.answer (P.Some k); latch = l })
+      (record { restarted = restarted; wait = wait; last = last_in m.request m.answer (Some k); latch = l })
   pub counted : k.request_len ≤ fragment_max → k.answer_len ≤ answer_max → n ≤ echo_max → HeadCountsWithin h → HeadCountsWithin r
 
 -- a READ leaves no select, whatever the latch's bytes
-abbrev pub ReadLeft : Head → (time : ℕ) → Wait → LastLengths → Head → Type 0
+abbrev pub ReadLeft : Head → (time : ℕ) → Option Awaited → LastLengths → Head → Type 0
 ReadLeft h time wait k r = (o : List ℕ) → LeftIn h time (holds h.restarted) wait k no_select h.latch_len r o

@@ -1,7 +1,7 @@
 // A fragment on a head by value and lent memory: refused, a CONFIRM, a READ, a repeat, or another request.
 #![tactic(auto)]
 
-ghost use Rattle.std.specs.Prelude.{◌≡◌, cond, true, false, [], ◌≤◌, eqb, length};
+ghost use Rattle.std.specs.Prelude.{◌≡◌, cond, true, [], ◌≤◌, eqb, length};
 ghost use Rattle.laws.specs.Limits.{fragment_max};
 ghost use Rattle.octets.specs.Bytes.{splice};
 ghost use Rattle.application.specs.Response.{response_of};
@@ -9,7 +9,7 @@ ghost use Rattle.control.specs.Objects.{Holding, answer_max};
 ghost use Rattle.select_latch.specs.Select.{latch_of};
 ghost use Rattle.last_request.specs.Repeat.{kept_answer, last_in};
 ghost use Rattle.outstation.specs.Lent.{group_in, last_lengths};
-ghost use Rattle.outstation.specs.Step.{indications_of};
+ghost use Rattle.outstation.specs.Step.{indications_of, newly_sent};
 ghost use Rattle.event_store.specs.EventWords.{buffer_view_in};
 ghost use Rattle.words.specs.Numbers.{holds};
 ghost use Rattle.fragments.specs.FragmentMeets.{
@@ -29,10 +29,10 @@ ghost use Rattle.fragments.specs.FragmentMeets.{
 use analog_outputs::ANALOG_OUTPUT_WORDS;
 use application::{ApplicationSequence, FRAGMENT_MAX, Fault, Fragment, Indications};
 use control::{ANSWER_MAX, ControlObjects, ECHO_MAX, OutputCounts};
-use effects::{Confirmed, RequestContext, RequestEffect};
+use effects::{RequestContext, RequestEffect};
 use event_store::{BufferStatus, EVENT_WORDS};
 use last_request::LastLengths;
-use outstation::{Head, Wait};
+use outstation::{Awaited, Head};
 use point_store::{ANALOG_WORDS, BINARY_WORDS, Installed};
 use select_latch::{ControlGroup, Latch};
 
@@ -87,7 +87,7 @@ pub struct FragmentResult {
 // What an answer says beside its objects and the indications of the state.
 #[derive(Clone, Copy)]
 pub struct ResponseFlags {
-    pub fault: Fault,
+    pub fault: Option<Fault>,
     pub con: bool,
 }
 
@@ -105,11 +105,11 @@ fn refuse(h: Head, why: FragmentRefusal) -> FragmentResult
 // ---- CONFIRM
 
 // An accepted CONFIRM: the carried events go, nothing is awaited any more.
-fn accept_confirm(h: Head, held: &mut [u64; EVENT_WORDS], time: u64, c: Confirmed) -> FragmentResult
-    ensures { ConfirmedHolds h held.old time c.showed_overflow c.dropped_since result held.new }
+fn accept_confirm(h: Head, held: &mut [u64; EVENT_WORDS], time: u64, a: Awaited) -> FragmentResult
+    ensures { ConfirmedHolds h held.old time a.showed_overflow a.dropped_since result held.new }
 {
     let t = event_store::release(held, outstation::buffer_status(h));
-    let overflow = effects::still_dropped(c.showed_overflow, c.dropped_since, t.overflow);
+    let overflow = effects::still_dropped(a.showed_overflow, a.dropped_since, t.overflow);
     FragmentResult {
         head: Head {
             clock: time,
@@ -133,7 +133,7 @@ fn take_confirm(
     ensures { ConfirmHolds h held.old q.0 uns time result held.new }
 {
     match effects::confirm(h.confirm_time, outstation::wait_of(h), q, uns, time) {
-        Some(c) => accept_confirm(h, held, time, c),
+        Some(a) => accept_confirm(h, held, time, a),
         None => refuse(h, FragmentRefusal::NotConfirmed),
     }
 }
@@ -141,10 +141,10 @@ fn take_confirm(
 // ---- READ
 
 // CON is set exactly on a faultless READ's answer with an event or IIN2.3.
-fn con_by(f: Fault, carried: bool, overflow: bool) -> bool
+fn con_by(f: Option<Fault>, carried: bool, overflow: bool) -> bool
     ensures { result ≡ con_by f carried overflow }
 {
-    application::is_faultless(f) && (carried || overflow)
+    f.is_none() && (carried || overflow)
 }
 
 // Puts the response header in front of the objects; the carried events are marked.
@@ -173,7 +173,7 @@ fn put_response_header(
 
 // The head after a READ: where its answer has CON it awaits confirmation. The latch is empty, whatever the lent bytes are.
 fn after_read(h: Head, q: ApplicationSequence, time: u64, con: bool, k: LastLengths) -> Head
-    ensures { ReadLeft h time (cond con (Wait.Awaiting q time (holds h.overflow) false) Wait.Idle) k result }
+    ensures { ReadLeft h time (cond con (Some (newly_sent q time (holds h.overflow))) None) k result }
 {
     Head {
         clock: time,
@@ -381,7 +381,7 @@ fn after_request(
     latch: Latch,
     k: LastLengths,
 ) -> Head
-    ensures { LeftIn h time restarted Wait.Idle k (latch_of latch) latch.len result objects.new }
+    ensures { LeftIn h time restarted None k (latch_of latch) latch.len result objects.new }
 {
     let bytes = latch.objects;
     *objects = bytes;
@@ -493,8 +493,10 @@ pub fn fragment(
     if out.len() < FRAGMENT_MAX {
         return refuse(h, FragmentRefusal::OutputTooSmall);
     }
-    match application::classify(f) {
-        Fragment::Malformed => refuse(h, FragmentRefusal::Malformed),
+    let Some(kind) = application::classify(f) else {
+        return refuse(h, FragmentRefusal::Malformed);
+    };
+    match kind {
         Fragment::Confirm {
             sequence,
             unsolicited,

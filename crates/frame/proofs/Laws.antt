@@ -1,22 +1,22 @@
 -- Laws of blocks with their checks: their lengths, and a turn of a loop over them.
 -- Assumes nothing.
 use mathlib.Core.Path.{◌≡◌, refl, sym, ap, ◌∙◌}
-use Prim.Native.Nat.{ℕ, zero, suc, ◌+◌, ◌-◌, ◌*◌, ◌≤◌, ◌<◌, min}
+use Prim.Native.Nat.{ℕ, zero, suc, ◌+◌, ◌-◌, ◌*◌, ◌/◌, ◌≤◌, ◌<◌, min}
 use native.Mathlib.Omega.{arith}
-use mathlib.Core.List.{List, [], ◌++◌}
-use lib.ListN.{length, take, drop, length-append, length-take, length-drop}
+use mathlib.Core.List.{List, [], ◌∷◌, ◌++◌, append-nil}
+use lib.ListN.{length, take, drop, length-append, length-take, length-drop, drop_of_length-le}
 use borrow.Author.Tests.{lt-ltb, le-ltb}
-use lib.Seq.{length-take-le, drop-drop, take-take}
+use lib.Seq.{length-take-le, drop-drop, take_all, take_at, drop_at}
 use mathlib.Core.Bool.{Bool, true, false, cond}
-use Rattle.laws.proofs.Parts.{part-is, part_length}
+use Rattle.laws.proofs.Parts.{part-is}
 use Rattle.octets.specs.Bytes.{splice, le}
 use Rattle.octets.proofs.Splice.{splice-append}
 use Rattle.octets.proofs.Le.{length-le}
 use Rattle.crc.specs.Check.{check_of}
-use Rattle.frame.specs.declared.Read.{Read}
-use Rattle.frame.specs.declared.Read.TheVariants.{Frame, Refused}
+use Rattle.std.specs.Prelude.{Result, Ok, Err}
+use Rattle.frame.specs.declared.Frame.{Frame}
 use Rattle.frame.specs.declared.FrameRefusal.{FrameRefusal}
-use Rattle.frame.specs.declared.Wrote.{Wrote}
+use Rattle.frame.specs.declared.WriteRefusal.{WriteRefusal}
 use Rattle.laws.specs.Limits.{user_max, frame_max}
 use Rattle.laws.specs.Outcome.{Outcome, accepted, refused}
 use Rattle.frame.specs.FrameOutcome.{FrameOutcome, refused_by}
@@ -39,15 +39,24 @@ unfolding blocks
 blocks-none zero u h = refl
 blocks-none (suc k) u h = absurd (omega arith)
 
+-- the next of the pieces of w bytes of s, and the bytes after it
+pub next-chunk : (w : ℕ) (s x r : List ℕ) → s ≡ x ++ r → length x ≡ min w (length s) → (take w s ≡ x) × (drop w s ≡ r)
+next-chunk w s x [] e h =
+    let n : length s ≤ w = omega (arith, ap length e ∙ length-append x []) in
+    (take_all w s n ∙ e ∙ append-nil x, drop_of_length-le s n)
+next-chunk w s x (y ∷ r) e h =
+    let n : length x ≡ w = omega (arith, ap length e ∙ length-append x (y ∷ r)) in
+    (ap (take w) e ∙ take_at x (y ∷ r) w n, ap (drop w) e ∙ drop_at x (y ∷ r) w n)
+
 -- one block more is put
-pub blocks-turn : (d : List ℕ) (to from e left : ℕ) (s : List ℕ) → 0 < left → from ≤ length s → e ≡ min (from + 16) (length s)
-    → splice (splice d to (with_crc (take (e - from) (drop from s)))) (to + (e - from) + 2) (blocks (left - 1) (drop (from + 16) s))
-    ≡ splice d to (blocks left (drop from s))
-blocks-turn d to from e left s pos h k =
-    let g : List ℕ = take (e - from) (drop from s) in
-    let l : length g ≡ e - from = part_length from e s (omega arith) in
-    let n : to + (e - from) + 2 ≡ to + length (with_crc g) = simp length-with-crc (omega arith) in
-    rw (n, sym (drop-drop 16 from s), sym (splice-append d to (with_crc g) (blocks (left - 1) (drop 16 (drop from s)))), part-is 16 from e s h k, sym (blocks_more left (drop from s) pos))
+pub blocks-turn : (d : List ℕ) (to : ℕ) (s x r : List ℕ) → s ≡ x ++ r → length x ≡ min 16 (length s) → 0 < length s
+    → splice (splice d to (with_crc x)) (to + (length x + 2)) (blocks (block_count (length r)) r) ≡ splice d to (blocks (block_count (length s)) s)
+blocks-turn d to s x r e h pos =
+    let c = next-chunk 16 s x r e h in
+    let l : length s ≡ length x + length r = ap length e ∙ length-append x r in
+    let k : block_count (length s) - 1 ≡ block_count (length r) = omega arith in
+    let n : length x + 2 ≡ length (with_crc x) = sym (length-with-crc x) in
+    rw (blocks_more (block_count (length s)) s (omega arith), c.0, c.1, k, splice-append d to (with_crc x) (blocks (block_count (length r)) r), n)
 
 -- ---- the whole frame
 
@@ -91,7 +100,7 @@ module _ (room : ℕ) (f : Parts) where
   into h l = rw (le-ltb room frame_max h, le-ltb user_max (length f.user) l)
 
 -- the contract from the outcome
-pub written-by : (w : Wrote) (f : Parts) (d d' : List ℕ) (o : Outcome (List ℕ)) → encode_into (length d) f ≡ o → wrote_of w ≡ written_size o
+pub written-by : (w : Result ℕ WriteRefusal) (f : Parts) (d d' : List ℕ) (o : Outcome (List ℕ)) → encode_into (length d) f ≡ o → wrote_of w ≡ written_size o
     → d' ≡ lent_after_write d o → FrameWritten w f d d'
 written-by w f d d' o e a l = record { answer = a ∙ ap written_size (sym e); lent = l ∙ ap (lent_after_write d) (sym e) }
 
@@ -129,22 +138,21 @@ module _ (at e left : ℕ) (b : List ℕ) (pos : 0 < left) (h : at ≤ length b)
   pub wrong-stop : crc_ok (take (e - at) (drop at b)) ≡ false → first_wrong left (drop at b) ≡ 0
   wrong-stop t = rw (wrong-more left (drop at b) pos, sym (part-is 18 at e b h k), t)
 
-  -- a block without its check, `&b[at..e - 2]`
-  pub without-crc-part : without_crc (take 18 (drop at b)) ≡ take (e - 2 - at) (drop at b)
-  unfolding without_crc
-  without-crc-part =
-      let l : length (take (e - at) (drop at b)) ≡ e - at = part_length at e b (omega arith) in
-      let n : e - at - 2 ≡ e - 2 - at = omega arith in
-      rw (sym (part-is 18 at e b h k), l, take-take (e - at - 2) (e - at) (drop at b) (omega arith), n)
+-- how many blocks n bytes of a frame's body are
+abbrev pub chunk_count : ℕ → ℕ
+chunk_count n = (n + 15) / 18
 
-  -- one block more is copied
-  pub users-turn : (d : List ℕ) (to : ℕ)
-      → splice (splice d to (take (e - 2 - at) (drop at b))) (to + (e - 2 - at)) (users (left - 1) (drop (at + 18) b)) ≡ splice d to (users left (drop at b))
-  users-turn d to =
-      let g : List ℕ = take (e - 2 - at) (drop at b) in
-      let l : length g ≡ e - 2 - at = length-take-le (e - 2 - at) (drop at b) (simp length-drop (omega arith)) in
-      let n : to + (e - 2 - at) ≡ to + length g = omega arith in
-      rw (n, sym (drop-drop 18 at b), sym (splice-append d to g (users (left - 1) (drop 18 (drop at b)))), sym without-crc-part, sym (users-more left (drop at b) pos))
+-- the user bytes of one block more are copied
+pub users-turn : (d : List ℕ) (to : ℕ) (s x r : List ℕ) → s ≡ x ++ r → length x ≡ min 18 (length s) → 0 < length s → length s ≤ 18 * chunk_count (length s)
+    → 18 * chunk_count (length s) < length s + 16
+    → splice (splice d to (take (length x - 2) x)) (to + (length x - 2)) (users (chunk_count (length r)) r) ≡ splice d to (users (chunk_count (length s)) s)
+unfolding without_crc
+users-turn d to s x r e h pos most least =
+    let c = next-chunk 18 s x r e h in
+    let l : length s ≡ length x + length r = ap length e ∙ length-append x r in
+    let k : chunk_count (length s) - 1 ≡ chunk_count (length r) = omega arith in
+    let n : length x - 2 ≡ length (take (length x - 2) x) = sym (length-take-le (length x - 2) x (omega arith)) in
+    rw (users-more (chunk_count (length s)) s (omega arith), c.0, c.1, k, splice-append d to (take (length x - 2) x) (users (chunk_count (length r)) r), ← n)
 
 pub length-users : (k : ℕ) (b : List ℕ) → length b ≤ 18 * k → 18 * k < length b + 16 → length (users k b) ≡ length b - 2 * k
 unfolding users without_crc
@@ -179,16 +187,12 @@ passed-by true x o y h e = absurd (h e)
 passed-by false x o y h e = (refl, e)
 
 -- the contract from the outcome
-pub read_by : (r : Read) (s d d' : List ℕ) (o : FrameOutcome Parts) → decode (length d) s ≡ o → read_of r ≡ fields_of o → d' ≡ lent_after_read d o
+pub read_by : (r : Result Frame FrameRefusal) (s d d' : List ℕ) (o : FrameOutcome Parts) → decode (length d) s ≡ o → read_of r ≡ fields_of o → d' ≡ lent_after_read d o
     → FrameRead r s d d'
 read_by r s d d' o e a l = record { answer = a ∙ ap fields_of (sym e); lent = l ∙ ap (lent_after_read d) (sym e) }
 
 -- a frame that was checked has its fields and so many user bytes
-pub fields-checked : (r : Read) (s : List ℕ) → Whole r s → read_of r ≡ fields_of (checked_of r s)
-fields-checked (Frame control destination source n) s w =
-    ap (λ (k : ℕ). R.accepted (fields control destination source k)) (sym (length-user n s w.1))
-fields-checked (Refused why) s w = refl
-
--- a frame that was refused leaves the lent bytes
-pub refused-lent : (r : Read) (why : FrameRefusal) (s d : List ℕ) → r ≡ Refused why → d ≡ lent_after_read d (checked_of r s)
-refused-lent r why s d e = ap (λ (x : Read). lent_after_read d (checked_of x s)) (sym e)
+pub fields-checked : (r : Result Frame FrameRefusal) (s : List ℕ) → Whole r s → read_of r ≡ fields_of (checked_of r s)
+fields-checked (Ok f) s w =
+    ap (λ (k : ℕ). R.accepted (fields f.control f.destination f.source k)) (sym (length-user f.len s w.1))
+fields-checked (Err why) s w = refl

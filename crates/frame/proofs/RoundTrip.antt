@@ -17,10 +17,11 @@ use Rattle.laws.specs.Limits.{user_max, frame_max}
 use Rattle.laws.specs.Outcome.{accepted, refused}
 use Rattle.frame.specs.FrameOutcome.{Refusal, wrong_block, FrameOutcome, refused_by}
 use Rattle.frame.specs.FrameOutcome as R
-use Rattle.frame.specs.declared.Read.{Read}
-use Rattle.frame.specs.declared.Read.TheVariants.{Frame, Refused}
-use Rattle.frame.specs.declared.Wrote.{Wrote}
-use Rattle.frame.specs.declared.Wrote.TheVariants.{Size, UserTooLong, OutputTooSmall}
+use Rattle.std.specs.Prelude.{Result, Ok, Err}
+use Rattle.frame.specs.declared.Frame.{Frame}
+use Rattle.frame.specs.declared.FrameRefusal.{FrameRefusal}
+use Rattle.frame.specs.declared.WriteRefusal.{WriteRefusal}
+use Rattle.frame.specs.declared.WriteRefusal.TheVariants as W
 use Rattle.frame.specs.Frame.{Parts, parts, with_crc, blocks, block_count, frame_size, link_header, encode, without_crc, crc_ok, first_wrong, first_wrong_of, users, body_of, decode_body, decode, encode_into, wrote_of, written_size, lent_after_write, Fields, fields, fields_of, read_of, lent_after_read}
 use Rattle.frame.specs.RoundTrip.{WrittenIsRead, ReadIsWritten}
 use Rattle.frame.proofs.Laws.{length-with-crc, length-blocks, length-header, length-encode, length-body, length-user, into, passed-by}
@@ -293,15 +294,18 @@ read-most room s f bytes e =
 -- ---- the same about the calls
 
 -- the answer of a write that was accepted
-size_is : (w : Wrote) (n : ℕ) → wrote_of w ≡ accepted n → w ≡ Size n
-size_is (Size m) n e = cc
-size_is UserTooLong n e = cc
-size_is OutputTooSmall n e = cc
+size_is : (w : Result ℕ WriteRefusal) (n : ℕ) → wrote_of w ≡ accepted n → w ≡ Ok n
+size_is (Ok m) n e = cc
+size_is (Err W.UserTooLong) n e = cc
+size_is (Err W.OutputTooSmall) n e = cc
 
 -- the answer of a read that was accepted
-frame_is : (r : Read) (x : Fields) → read_of r ≡ R.accepted x → r ≡ Frame x.control x.destination x.source x.len
-frame_is (Frame c d a n) x e = cc
-frame_is (Refused why) x e = cc
+frame_is : (r : Result Frame FrameRefusal) (x : Fields) → read_of r ≡ R.accepted x
+    → r ≡ Ok (record { control = x.control; destination = x.destination; source = x.source; len = x.len })
+frame_is (Ok f) x e =
+    let y : fields f.control f.destination f.source f.len ≡ x = cc in
+    λ k. Ok (record { control = (y k).control; destination = (y k).destination; source = (y k).source; len = (y k).len })
+frame_is (Err why) x e = cc
 
 fits_by : (a b : Bool) (x : List ℕ) (n : ℕ) → accepted n ≡ written_size (cond a (refused 33) (cond b (refused 16) (accepted x))) → (a ≡ false) × (b ≡ false)
 fits_by true b x n e = (cc, cc)
@@ -341,7 +345,7 @@ read-is-written r w s out user lent written c d a n bytes got is room wrote =
     go (decode (length out) s) refl (ap read_of (sym is) ∙ got.answer) got.lent
   where
     go : (o : FrameOutcome Parts) → decode (length out) s ≡ o → R.accepted (fields c d a n) ≡ fields_of o → user ≡ lent_after_read out o
-        → (n ≤ user_max) × (w ≡ Size (frame_size n)) × (take (frame_size n) written ≡ take (frame_size n) s)
+        → (n ≤ user_max) × (w ≡ Ok (frame_size n)) × (take (frame_size n) written ≡ take (frame_size n) s)
     go (R.refused why) e x l = let z : n ≡ suc n = cc in absurd (omega arith)
     go (R.accepted f) e x l =
         let most : length f.user ≤ user_max = read-most (length out) s f bytes e in

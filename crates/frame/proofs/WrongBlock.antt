@@ -12,8 +12,9 @@ use lib.Seq.{drop-drop}
 use Rattle.laws.specs.Limits.{user_max}
 use Rattle.octets.specs.Bytes.{AreBytes}
 use Rattle.frame.specs.FrameOutcome.{Refusal, wrong_block, FrameOutcome, accepted, refused, refused_by}
-use Rattle.frame.specs.declared.Read.{Read}
-use Rattle.frame.specs.declared.Read.TheVariants.{Frame, Refused}
+use Rattle.std.specs.Prelude.{Result, Ok, Err}
+use Rattle.frame.specs.declared.Frame.{Frame}
+use Rattle.frame.specs.declared.FrameRefusal.{FrameRefusal}
 use Rattle.frame.specs.declared.FrameRefusal.TheVariants.{BlockCheck}
 use Rattle.frame.specs.declared.FrameRefusal.TheVariants as F
 use Rattle.frame.specs.Frame.{Parts, crc_ok, first_wrong, first_wrong_of, block_count, frame_size, body_of, decode_body, decode, fields_of, read_of}
@@ -133,14 +134,14 @@ no_fields : (o : FrameOutcome Parts) (why : Refusal) → refused why ≡ fields_
 no_fields (accepted f) why e = cc
 no_fields (refused w) why e = cc
 
-the-answer : (r : Read) (k : ℕ) → read_of r ≡ refused (wrong_block k) → r ≡ Refused (BlockCheck k)
-the-answer (Frame c d a n) k e = cc
-the-answer (Refused F.TooShort) k e = cc
-the-answer (Refused F.Start) k e = cc
-the-answer (Refused F.HeaderCheck) k e = cc
-the-answer (Refused F.Length) k e = cc
-the-answer (Refused (F.BlockCheck b)) k e = cc
-the-answer (Refused F.OutputTooSmall) k e = cc
+the-answer : (r : Result Frame FrameRefusal) (k : ℕ) → read_of r ≡ refused (wrong_block k) → r ≡ Err (BlockCheck k)
+the-answer (Ok f) k e = cc
+the-answer (Err F.TooShort) k e = cc
+the-answer (Err F.Start) k e = cc
+the-answer (Err F.HeaderCheck) k e = cc
+the-answer (Err F.Length) k e = cc
+the-answer (Err (F.BlockCheck b)) k e = cc
+the-answer (Err F.OutputTooSmall) k e = cc
 
 pub carried-is-first : CarriedIsFirst
 unfolding CarriedIsFirst

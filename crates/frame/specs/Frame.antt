@@ -1,6 +1,6 @@
 -- A link frame's bytes, written and read back (document 01, "Bytes on the line", rows 11 to 16 and 33; document 02, request 110).
 -- Assumes nothing.
-use Rattle.std.specs.Prelude.{ℕ, zero, suc, ◌+◌, ◌-◌, ◌*◌, ◌/◌, ◌≤◌, ◌≡◌, Bool, cond, not, List, [], ◌∷◌, ◌++◌, length, get_or, take, drop, ltb, eqb}
+use Rattle.std.specs.Prelude.{ℕ, zero, suc, ◌+◌, ◌-◌, ◌*◌, ◌/◌, ◌≤◌, ◌≡◌, Bool, cond, not, List, [], ◌∷◌, ◌++◌, length, get_or, take, drop, ltb, eqb, Result, Ok, Err}
 use Rattle.laws.specs.First.{first, ◌⇒◌}
 use Rattle.laws.specs.Limits.{user_max, frame_max}
 use Rattle.laws.specs.Outcome.{Outcome, accepted, refused}
@@ -8,12 +8,11 @@ use Rattle.octets.specs.Bytes.{splice, le, value_at}
 use Rattle.crc.specs.Check.{check_of}
 use Rattle.frame.specs.FrameOutcome.{Refusal, by, wrong_block, FrameOutcome, refused_by}
 use Rattle.frame.specs.FrameOutcome as R
-use Rattle.frame.specs.declared.Read.{Read}
-use Rattle.frame.specs.declared.Read.TheVariants.{Frame, Refused}
+use Rattle.frame.specs.declared.Frame.{Frame}
 use Rattle.frame.specs.declared.FrameRefusal.{FrameRefusal}
 use Rattle.frame.specs.declared.FrameRefusal.TheVariants as F
-use Rattle.frame.specs.declared.Wrote.{Wrote}
-use Rattle.frame.specs.declared.Wrote.TheVariants.{Size, UserTooLong, OutputTooSmall}
+use Rattle.frame.specs.declared.WriteRefusal.{WriteRefusal}
+use Rattle.frame.specs.declared.WriteRefusal.TheVariants as W
 
 -- what a frame says
 pub record Parts : Type 0 where
@@ -114,10 +113,14 @@ decode room s =
 
 -- ---- writing: what the answer means, and what is left in the lent bytes. A refusal leaves them, and so do the bytes past the output
 
-abbrev pub wrote_of : Wrote → Outcome ℕ
-wrote_of (Size n) = accepted n
-wrote_of UserTooLong = refused 16
-wrote_of OutputTooSmall = refused 33
+-- the number of each refusal to write
+abbrev pub write_refusal_of : WriteRefusal → ℕ
+write_refusal_of W.UserTooLong = 16
+write_refusal_of W.OutputTooSmall = 33
+
+abbrev pub wrote_of : Result ℕ WriteRefusal → Outcome ℕ
+wrote_of (Ok n) = accepted n
+wrote_of (Err why) = refused (write_refusal_of why)
 
 abbrev pub written_size : Outcome (List ℕ) → Outcome ℕ
 written_size (accepted bs) = accepted (length bs)
@@ -128,7 +131,7 @@ lent_after_write d (accepted bs) = splice d 0 bs
 lent_after_write d (refused k) = d
 
 -- a call that wrote these parts, with these lent bytes before and after it, answers w
-pub record FrameWritten (w : Wrote) (f : Parts) (before after : List ℕ) : Type 0 where
+pub record FrameWritten (w : Result ℕ WriteRefusal) (f : Parts) (before after : List ℕ) : Type 0 where
   pub answer : wrote_of w ≡ written_size (encode_into (length before) f)
   pub lent : after ≡ lent_after_write before (encode_into (length before) f)
 
@@ -157,9 +160,9 @@ refusal_of F.Length = by 14
 refusal_of (F.BlockCheck b) = wrong_block b
 refusal_of F.OutputTooSmall = by 33
 
-abbrev pub read_of : Read → FrameOutcome Fields
-read_of (Frame control destination source n) = R.accepted (fields control destination source n)
-read_of (Refused why) = R.refused (refusal_of why)
+abbrev pub read_of : Result Frame FrameRefusal → FrameOutcome Fields
+read_of (Ok f) = R.accepted (fields f.control f.destination f.source f.len)
+read_of (Err why) = R.refused (refusal_of why)
 
 -- the user data goes to the front of the lent bytes
 abbrev pub lent_after_read : List ℕ → FrameOutcome Parts → List ℕ
@@ -167,17 +170,17 @@ lent_after_read d (R.accepted f) = splice d 0 f.user
 lent_after_read d (R.refused why) = d
 
 -- a call that read the bytes s, with these lent bytes before and after it, answers r
-pub record FrameRead (r : Read) (s before after : List ℕ) : Type 0 where
+pub record FrameRead (r : Result Frame FrameRefusal) (s before after : List ℕ) : Type 0 where
   pub answer : read_of r ≡ fields_of (decode (length before) s)
   pub lent : after ≡ lent_after_read before (decode (length before) s)
 
 -- ---- a frame that was checked and not yet copied: its user data is still in its blocks
 
-abbrev pub checked_of : Read → List ℕ → FrameOutcome Parts
-checked_of (Frame control destination source n) s = R.accepted (parts control destination source (user_of n s))
-checked_of (Refused why) s = R.refused (refusal_of why)
+abbrev pub checked_of : Result Frame FrameRefusal → List ℕ → FrameOutcome Parts
+checked_of (Ok f) s = R.accepted (parts f.control f.destination f.source (user_of f.len s))
+checked_of (Err why) s = R.refused (refusal_of why)
 
 -- a frame that was found is there to its end
-abbrev pub Whole : Read → List ℕ → Type 0
-Whole (Frame control destination source n) s = (n ≤ user_max) × (frame_size n ≤ length s)
-Whole (Refused why) s = Unit {0}
+abbrev pub Whole : Result Frame FrameRefusal → List ℕ → Type 0
+Whole (Ok f) s = (f.len ≤ user_max) × (frame_size f.len ≤ length s)
+Whole (Err why) s = Unit {0}

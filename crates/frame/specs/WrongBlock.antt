@@ -1,10 +1,10 @@
 -- What refusal 15 carries, about the call, both ways (document 02, request 110).
 -- Assumes nothing.
-use Rattle.std.specs.Prelude.{ℕ, ◌-◌, ◌*◌, ◌≤◌, ◌<◌, ◌≡◌, true, false, List, length, get_or, take, drop}
+use Rattle.std.specs.Prelude.{ℕ, ◌-◌, ◌*◌, ◌≤◌, ◌<◌, ◌≡◌, true, false, List, length, get_or, take, drop, Result, Err}
 use Rattle.laws.specs.Limits.{user_max}
 use Rattle.octets.specs.Bytes.{AreBytes}
-use Rattle.frame.specs.declared.Read.{Read}
-use Rattle.frame.specs.declared.Read.TheVariants.{Refused}
+use Rattle.frame.specs.declared.Frame.{Frame}
+use Rattle.frame.specs.declared.FrameRefusal.{FrameRefusal}
 use Rattle.frame.specs.declared.FrameRefusal.TheVariants.{BlockCheck}
 use Rattle.frame.specs.Frame.{crc_ok, block_count, frame_size, body_of, FrameRead}
 
@@ -25,7 +25,7 @@ pub record FirstWrong (k : ℕ) (s : List ℕ) : Type 0 where
 -- What `read_frame` refuses by 15 it refuses with the first wrong block, "0 to 15"
 unfoldable pub CarriedIsFirst : Type 0
 CarriedIsFirst =
-    (r : Read) (s out user : List ℕ) (k : ℕ) → AreBytes s → FrameRead r s out user → r ≡ Refused (BlockCheck k) → FirstWrong k s × (k ≤ 15)
+    (r : Result Frame FrameRefusal) (s out user : List ℕ) (k : ℕ) → AreBytes s → FrameRead r s out user → r ≡ Err (BlockCheck k) → FirstWrong k s × (k ≤ 15)
 
 -- nothing that comes before 15 is wrong: the lent bytes, 05 64, the header's check, the length byte, the frame's size
 pub record RightBefore15 (room : ℕ) (s : List ℕ) : Type 0 where
@@ -38,4 +38,4 @@ pub record RightBefore15 (room : ℕ) (s : List ℕ) : Type 0 where
 -- And where the first wrong block is k, `read_frame` refuses by 15 with k
 unfoldable pub FirstIsCarried : Type 0
 FirstIsCarried =
-    (r : Read) (s out user : List ℕ) (k : ℕ) → RightBefore15 (length out) s → FirstWrong k s → FrameRead r s out user → r ≡ Refused (BlockCheck k)
+    (r : Result Frame FrameRefusal) (s out user : List ℕ) (k : ℕ) → RightBefore15 (length out) s → FirstWrong k s → FrameRead r s out user → r ≡ Err (BlockCheck k)

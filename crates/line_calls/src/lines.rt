@@ -1,7 +1,8 @@
 // The calls that need no outstation, or only its addresses and segments.
+use crate::answers::NotMade;
 use crate::session::LineSession;
-use crate::{answers, frames, pieces, segments, session, stations};
-use frame::FRAME_MAX;
+use crate::{answers, frames};
+use text::{Answers, Words};
 
 // The calls with LEN HEX.
 #[derive(Clone, Copy)]
@@ -13,133 +14,74 @@ pub enum LentCall {
     Piece,
 }
 
-// The calls that need no outstation, or only its addresses and segments; Nothing where none is made.
 #[derive(Clone, Copy)]
 pub enum LineCall {
     Lent(LentCall),
     Record,
     FrameWrite,
     Crc,
-    Unknown,
-    Nothing,
 }
 
 // The call of this name.
-pub fn line_call_of(w: &[u8]) -> LineCall {
-    if octets::equal(w, b"station") {
-        return LineCall::Lent(LentCall::Station);
-    }
-    if octets::equal(w, b"record") {
-        return LineCall::Record;
-    }
-    if octets::equal(w, b"seg") {
-        return LineCall::Lent(LentCall::Seg);
-    }
-    if octets::equal(w, b"send") {
-        return LineCall::Lent(LentCall::Send);
-    }
-    if octets::equal(w, b"frame-write") {
-        return LineCall::FrameWrite;
-    }
-    if octets::equal(w, b"frame-read") {
-        return LineCall::Lent(LentCall::FrameRead);
-    }
-    if octets::equal(w, b"piece") {
-        return LineCall::Lent(LentCall::Piece);
-    }
-    if octets::equal(w, b"crc") {
-        return LineCall::Crc;
-    }
-    LineCall::Unknown
-}
-
-// The outstation is needed for the call.
-fn needs_station(k: LentCall) -> bool {
-    match k {
-        LentCall::FrameRead => false,
-        LentCall::Piece => false,
-        _ => true,
+pub fn line_call_of(name: &[u8]) -> Option<LineCall> {
+    match name {
+        b"station" => Some(LineCall::Lent(LentCall::Station)),
+        b"record" => Some(LineCall::Record),
+        b"seg" => Some(LineCall::Lent(LentCall::Seg)),
+        b"send" => Some(LineCall::Lent(LentCall::Send)),
+        b"frame-write" => Some(LineCall::FrameWrite),
+        b"frame-read" => Some(LineCall::Lent(LentCall::FrameRead)),
+        b"piece" => Some(LineCall::Lent(LentCall::Piece)),
+        b"crc" => Some(LineCall::Crc),
+        _ => None,
     }
 }
 
-// The calls with LEN HEX, with the bytes given and the bytes lent.
-fn given_call(
-    k: LentCall,
-    s: LineSession,
-    given: &[u8],
-    lent: &mut [u8],
-    gathered: &mut [u8],
-    memory: &mut [u8; FRAME_MAX],
-    out: &mut [u8],
-    at: usize,
-) -> LineSession {
-    match k {
-        LentCall::Station => stations::station(s, given, lent, out, at),
-        LentCall::Seg => segments::seg(s, given, lent, gathered, out, at),
-        LentCall::Send => segments::send(s, given, lent, out, at),
-        LentCall::FrameRead => session::moved(s, frames::frame_read(given, lent, out, at)),
-        LentCall::Piece => pieces::piece(s, given, memory, lent, out, at),
+impl LineSession {
+    // A call with LEN HEX.
+    fn lent_call(
+        &mut self,
+        call: LentCall,
+        mut words: Words,
+        bytes: &mut [u8],
+        lent: &mut [u8],
+        out: &mut Answers,
+    ) -> Result<(), NotMade> {
+        let (size, n) = answers::lending(&mut words, bytes)?;
+        words.finish()?;
+        let given = &bytes[..n];
+        let room = size.min(lent.len());
+        let lent = &mut lent[..room];
+        match call {
+            LentCall::FrameRead => frames::frame_read(given, lent, out),
+            LentCall::Piece => self.piece(given, lent, out),
+            LentCall::Station => self.station(self.need_station()?, given, lent, out),
+            LentCall::Seg => {
+                self.need_station()?;
+                self.seg(given, lent, out)
+            }
+            LentCall::Send => {
+                self.need_station()?;
+                self.send(given, lent, out)
+            }
+        }
+        Ok(())
     }
-}
 
-// The same, with so many of the bytes lent.
-fn call_within(
-    k: LentCall,
-    s: LineSession,
-    given: &[u8],
-    size: usize,
-    lent: &mut [u8],
-    gathered: &mut [u8],
-    memory: &mut [u8; FRAME_MAX],
-    out: &mut [u8],
-    at: usize,
-) -> LineSession {
-    let room = octets::least(size, lent.len());
-    given_call(k, s, given, &mut lent[0..room], gathered, memory, out, at)
-}
-
-fn lent_call(
-    k: LentCall,
-    s: LineSession,
-    w: &[u8],
-    c: text::Cursor,
-    bytes: &mut [u8],
-    lent: &mut [u8],
-    gathered: &mut [u8],
-    memory: &mut [u8; FRAME_MAX],
-    out: &mut [u8],
-    at: usize,
-) -> LineSession {
-    let a = answers::asked_of(w, c, bytes);
-    if !text::finished(a.next) {
-        return session::told(s, out, at, b"fault");
-    }
-    if needs_station(k) && !s.have {
-        return session::told(s, out, at, b"none");
-    }
-    let n = a.len;
-    call_within(k, s, &bytes[0..n], a.size, lent, gathered, memory, out, at)
-}
-
-// One of these calls.
-pub fn line_call(
-    k: LineCall,
-    s: LineSession,
-    w: &[u8],
-    c: text::Cursor,
-    bytes: &mut [u8],
-    lent: &mut [u8],
-    gathered: &mut [u8],
-    memory: &mut [u8; FRAME_MAX],
-    out: &mut [u8],
-    at: usize,
-) -> LineSession {
-    match k {
-        LineCall::Lent(l) => lent_call(l, s, w, c, bytes, lent, gathered, memory, out, at),
-        LineCall::Record => stations::record(s, w, c, out, at),
-        LineCall::FrameWrite => session::moved(s, frames::frame_write(w, c, bytes, lent, out, at)),
-        LineCall::Crc => session::moved(s, frames::crc(w, c, bytes, out, at)),
-        LineCall::Unknown => session::told(s, out, at, b"fault"),
-        LineCall::Nothing => session::moved(s, at),
+    // One of these calls; `bytes` and `lent` are for this call alone.
+    pub fn call(
+        &mut self,
+        call: LineCall,
+        words: Words,
+        bytes: &mut [u8],
+        lent: &mut [u8],
+        out: &mut Answers,
+    ) -> Result<(), NotMade> {
+        match call {
+            LineCall::Lent(call) => self.lent_call(call, words, bytes, lent, out),
+            LineCall::Record => self.set_record(words, out),
+            LineCall::FrameWrite => frames::frame_write(words, bytes, lent, out),
+            LineCall::Crc => frames::crc(words, bytes, out),
+        }
     }
 }

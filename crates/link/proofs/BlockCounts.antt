@@ -13,7 +13,9 @@ use Rattle.frame.specs.declared.FrameRefusal.TheVariants.{BlockCheck}
 use Rattle.link.specs.declared.Station.{Station}
 use Rattle.link.specs.declared.LineRecord.{LineRecord}
 use Rattle.link.specs.declared.Taken.{Taken}
-use Rattle.link.specs.declared.Taken.TheVariants.{Refused}
+use Rattle.link.specs.declared.TakeRefusal.{TakeRefusal}
+use Rattle.link.specs.declared.TakeRefusal.TheVariants.{Frame}
+use Rattle.std.specs.Prelude.{Result, Err}
 use Rattle.link.specs.Station.{LinkDecision, hands, replies, not_taken, addressed, Action, user_data, reply, action_of, takes, station, link_answer, taken_of, FrameTaken, block_counted, counted_of}
 use Rattle.link.specs.BlockCounts.{CountedAlone, TakenIsFirst, FirstIsTaken, OthersCountNone}
 use Rattle.link.proofs.Laws.{taken-counted, taken-one, blocks-other}
@@ -34,7 +36,7 @@ no_answer (accepted (reply c)) k e = cc
 no_answer (refused why) k e = cc
 
 -- what the answer carries is what the station's rule gives
-taken-wrong : (t : Taken) (st : Station) (s d d' : List ℕ) (k : ℕ) → FrameTaken t st s d d' → t ≡ Refused (BlockCheck k) → station (length d) st s ≡ refused (wrong_block k)
+taken-wrong : (t : Result Taken TakeRefusal) (st : Station) (s d d' : List ℕ) (k : ℕ) → FrameTaken t st s d d' → t ≡ Err (Frame (BlockCheck k)) → station (length d) st s ≡ refused (wrong_block k)
 taken-wrong t st s d d' k got is = no_answer _ k (ap taken_of (sym is) ∙ got.answer)
 
 counted-alone : (counts : List ℕ) (k : ℕ) → k < length counts → CountedAlone k counts (block_counted counts k)
@@ -57,7 +59,7 @@ taken-is-first t l l₁ st s out user k bytes sixteen got is =
 pub first-is-taken : FirstIsTaken
 unfolding FirstIsTaken station
 first-is-taken t l l₁ st s out user k right h got =
-    taken-one t (Refused (BlockCheck k)) (got.taken.answer ∙ ap (λ (o : FrameOutcome Parts). link_answer (takes st o)) (first-decoded (length out) s k right h))
+    taken-one t (Err (Frame (BlockCheck k))) (got.taken.answer ∙ ap (λ (o : FrameOutcome Parts). link_answer (takes st o)) (first-decoded (length out) s k right h))
 
 pub others-count-none : OthersCountNone
 unfolding OthersCountNone

@@ -1,18 +1,19 @@
 -- The station on its link: which frames it takes, what it answers, and the line's record (document 02, request 110, for blocks).
 -- Assumes nothing.
-use Rattle.std.specs.Prelude.{ℕ, ◌+◌, ◌/◌, ◌%◌, ◌≡◌, Bool, true, false, cond, not, List, [], ◌∷◌, length, get_or, set, ltb, eqb}
+use Rattle.std.specs.Prelude.{ℕ, ◌+◌, ◌/◌, ◌%◌, ◌≡◌, Bool, true, false, cond, not, List, [], ◌∷◌, length, get_or, set, ltb, eqb, Result, Ok, Err}
 use Rattle.octets.specs.Bytes.{splice}
 use Rattle.laws.specs.First.{first, ◌⇒◌}
 use Rattle.laws.specs.Limits.{count_max}
-use Rattle.frame.specs.FrameOutcome.{by, wrong_block, FrameOutcome, accepted, refused, refused_by, number_of}
+use Rattle.frame.specs.FrameOutcome.{Refusal, by, wrong_block, FrameOutcome, accepted, refused, refused_by, number_of}
 use Rattle.frame.specs.Frame.{Parts, parts, decode, refusal_of}
-use Rattle.frame.specs.declared.Read.{Read}
-use Rattle.frame.specs.declared.Read.TheVariants.{Frame, Refused}
+use Rattle.frame.specs.declared.Frame.{Frame}
+use Rattle.frame.specs.declared.FrameRefusal.{FrameRefusal}
 use Rattle.link.specs.declared.Station.{Station}
 use Rattle.link.specs.declared.LineRecord.{LineRecord}
 use Rattle.link.specs.declared.Taken.{Taken}
-use Rattle.link.specs.declared.Taken.TheVariants.{UserData, Reply, NotTaken}
-use Rattle.link.specs.declared.Taken.TheVariants as T
+use Rattle.link.specs.declared.Taken.TheVariants.{UserData, Reply}
+use Rattle.link.specs.declared.TakeRefusal.{TakeRefusal}
+use Rattle.link.specs.declared.TakeRefusal.TheVariants as T
 
 -- ---- which frames the station takes
 
@@ -87,26 +88,30 @@ link_answer (accepted (user_data u)) = accepted (user_bytes (length u))
 link_answer (accepted (reply c)) = accepted (reply_with c)
 link_answer (refused why) = refused why
 
-abbrev pub taken_of : Taken → FrameOutcome LinkAnswer
-taken_of (UserData n) = accepted (user_bytes n)
-taken_of (Reply c) = accepted (reply_with c)
-taken_of (T.Refused why) = refused (refusal_of why)
-taken_of NotTaken = refused_by 17
+-- why a frame is not taken: by the refusals of reading a frame, and by 17
+abbrev pub take_refusal_of : TakeRefusal → Refusal
+take_refusal_of (T.Frame why) = refusal_of why
+take_refusal_of T.NotTaken = by 17
+
+abbrev pub taken_of : Result Taken TakeRefusal → FrameOutcome LinkAnswer
+taken_of (Ok (UserData n)) = accepted (user_bytes n)
+taken_of (Ok (Reply c)) = accepted (reply_with c)
+taken_of (Err why) = refused (take_refusal_of why)
 
 -- a call that took the frame at the front of the bytes s, with these lent bytes before and after it, answers t
-pub record FrameTaken (t : Taken) (st : Station) (s before after : List ℕ) : Type 0 where
+pub record FrameTaken (t : Result Taken TakeRefusal) (st : Station) (s before after : List ℕ) : Type 0 where
   pub answer : taken_of t ≡ link_answer (station (length before) st s)
   pub lent : after ≡ lent_after_take before (station (length before) st s)
 
 -- the answer for a frame of n user bytes by what is decided of it, and for one that was checked
-abbrev pub taken_by : LinkDecision → ℕ → Taken
-taken_by hands n = UserData n
-taken_by (replies c) n = Reply c
-taken_by not_taken n = NotTaken
+abbrev pub taken_by : LinkDecision → ℕ → Result Taken TakeRefusal
+taken_by hands n = Ok (UserData n)
+taken_by (replies c) n = Ok (Reply c)
+taken_by not_taken n = Err T.NotTaken
 
-abbrev pub after_check : Station → Read → Taken
-after_check st (Frame control destination source n) = taken_by (addressed st control destination source n) n
-after_check st (Refused why) = T.Refused why
+abbrev pub after_check : Station → Result Frame FrameRefusal → Result Taken TakeRefusal
+after_check st (Ok f) = taken_by (addressed st f.control f.destination f.source f.len) f.len
+after_check st (Err why) = Err (T.Frame why)
 
 -- ---- the line's record
 
@@ -140,7 +145,7 @@ counted_of l o =
     }
 
 -- a call that took a frame and counted it in the line record: l before it, and l₁ after
-pub record FrameCounted (t : Taken) (l l₁ : LineRecord) (st : Station) (s before after : List ℕ) : Type 0 where
+pub record FrameCounted (t : Result Taken TakeRefusal) (l l₁ : LineRecord) (st : Station) (s before after : List ℕ) : Type 0 where
   pub taken : FrameTaken t st s before after
   pub line : l₁ ≡ counted_of l (station (length before) st s)
 

@@ -3,7 +3,6 @@
 
 ghost use Rattle.std.specs.Prelude.{◌≡◌, []};
 ghost use Rattle.frame.specs.Frame.{FrameWritten};
-ghost use Rattle.frame.specs.FrameOutcome.{number_of, block_of};
 ghost use Rattle.link.specs.Station.{
   count_if,
   block_counted,
@@ -14,13 +13,14 @@ ghost use Rattle.link.specs.Station.{
   by_function,
   addressed,
   taken_by,
-  after_check,
   taken_of,
   FrameTaken,
   FrameCounted,
   reply_control,
   to_master,
 };
+
+use frame::{Frame, FrameRefusal, WriteRefusal};
 
 // The addresses of the station and of its master.
 #[repr(C)]
@@ -59,52 +59,64 @@ pub struct LineRecord {
     pub blocks: [u16; BLOCK_COUNTS],
 }
 
-// What a frame that came comes to.
-#[derive(Clone, Copy)]
+// What a frame that is taken comes to.
+#[derive(Clone, Copy, Debug, PartialEq, Eq)]
 pub enum Taken {
     // So many bytes of user data, in the lent bytes.
     UserData(usize),
     // A reply with this control byte is to be sent; nothing is in the lent bytes.
     Reply(u8),
+}
+
+// Why a frame is not taken.
+#[derive(Clone, Copy, Debug, PartialEq, Eq)]
+pub enum TakeRefusal {
     // 11 to 15 and 33, as in reading a frame.
-    Refused(frame::FrameRefusal),
+    Frame(FrameRefusal),
     // 17: frame not one the station takes.
     NotTaken,
+}
+
+impl From<FrameRefusal> for TakeRefusal {
+    ghost use Rattle.link.specs.declared.TakeRefusal.TheVariants as R;
+
+    ghost from_gives = { λ why refusal. refusal ≡ R.Frame why };
+
+    fn from(why: FrameRefusal) -> TakeRefusal {
+        TakeRefusal::Frame(why)
+    }
+}
+
+impl TakeRefusal {
+    ghost use Rattle.frame.specs.FrameOutcome.{refusal_number, refusal_block};
+    ghost use Rattle.link.specs.Station.{take_refusal_of};
+
+    // Document 01's number.
+    pub fn number(self) -> u8
+        ensures { result ≡ refusal_number (take_refusal_of self) }
+    {
+        match self {
+            TakeRefusal::Frame(why) => why.number(),
+            TakeRefusal::NotTaken => 17,
+        }
+    }
+
+    // The block that 15 carries, 0 to 15; 0 for the others.
+    pub fn block(self) -> u8
+        ensures { result ≡ refusal_block (take_refusal_of self) }
+    {
+        match self {
+            TakeRefusal::Frame(why) => why.block(),
+            TakeRefusal::NotTaken => 0,
+        }
+    }
 }
 
 // One more where the test is true; 65,535 stays.
 fn count_if(test: bool, n: u16) -> u16
     ensures { result ≡ count_if test n }
 {
-    if test {
-        if n < COUNT_MAX {
-            return n + 1;
-        }
-        return n;
-    }
-    n
-}
-
-// Document 01's number of a refusal; 0 for a frame that was accepted.
-pub fn taken_number(t: Taken) -> u8
-    ensures { result ≡ number_of (taken_of t) }
-{
-    match t {
-        Taken::UserData(_) => 0,
-        Taken::Reply(_) => 0,
-        Taken::Refused(why) => frame::refusal_number(why),
-        Taken::NotTaken => 17,
-    }
-}
-
-// The block that refusal 15 carries, 0 to 15; 0 for all else.
-pub fn taken_block(t: Taken) -> u8
-    ensures { result ≡ block_of (taken_of t) }
-{
-    match t {
-        Taken::Refused(why) => frame::refusal_block(why),
-        _ => 0,
-    }
+    if test { n.saturating_add(1) } else { n }
 }
 
 // The counts by block with one more for this block; one that no frame has is not counted.
@@ -120,22 +132,26 @@ fn block_counted(counts: [u16; BLOCK_COUNTS], block: u8) -> [u16; BLOCK_COUNTS]
 }
 
 // The counts by block with this frame counted.
-fn blocks_counted(counts: [u16; BLOCK_COUNTS], t: Taken) -> [u16; BLOCK_COUNTS]
-    ensures { result ≡ blocks_counted counts (taken_of t) }
+fn blocks_counted(
+    counts: [u16; BLOCK_COUNTS],
+    taken: Result<Taken, TakeRefusal>,
+) -> [u16; BLOCK_COUNTS]
+    ensures { result ≡ blocks_counted counts (taken_of taken) }
 {
-    if taken_number(t) == 15 {
-        return block_counted(counts, taken_block(t));
+    match taken {
+        Err(why) if why.number() == 15 => block_counted(counts, why.block()),
+        _ => counts,
     }
-    counts
 }
 
 // The record with this frame counted.
-pub fn counted(l: LineRecord, t: Taken) -> LineRecord
-    ensures { result ≡ counted_of l (taken_of t) }
+pub fn counted(l: LineRecord, taken: Result<Taken, TakeRefusal>) -> LineRecord
+    ensures { result ≡ counted_of l (taken_of taken) }
 {
-    let k = taken_number(t);
-    let counts = l.blocks;
-    let blocks = blocks_counted(counts, t);
+    let k = match taken {
+        Ok(_) => 0,
+        Err(why) => why.number(),
+    };
     LineRecord {
         accepted: count_if(k == 0, l.accepted),
         short: count_if(k == 11, l.short),
@@ -144,150 +160,108 @@ pub fn counted(l: LineRecord, t: Taken) -> LineRecord
         length: count_if(k == 14, l.length),
         block_check: count_if(k == 15, l.block_check),
         not_taken: count_if(k == 17, l.not_taken),
-        blocks,
+        blocks: blocks_counted(l.blocks, taken),
     }
 }
 
 // A function with user data: n at least 1.
-fn with_data(fcv: u8, n: usize) -> Taken
+fn with_data(fcv: u8, n: usize) -> Result<Taken, TakeRefusal>
     ensures { result ≡ taken_by (with_data fcv n) n }
 {
-    if fcv != 0 {
-        return Taken::NotTaken;
+    if fcv != 0 || n == 0 {
+        return Err(TakeRefusal::NotTaken);
     }
-    if n == 0 {
-        return Taken::NotTaken;
-    }
-    Taken::UserData(n)
+    Ok(Taken::UserData(n))
 }
 
 // A function without user data, answered with this control byte.
-fn without_data(fcv: u8, n: usize, control: u8) -> Taken
+fn without_data(fcv: u8, n: usize, control: u8) -> Result<Taken, TakeRefusal>
     ensures { result ≡ taken_by (without_data fcv n control) n }
 {
-    if fcv != 0 {
-        return Taken::NotTaken;
+    if fcv != 0 || n != 0 {
+        return Err(TakeRefusal::NotTaken);
     }
-    if n != 0 {
-        return Taken::NotTaken;
-    }
-    Taken::Reply(control)
+    Ok(Taken::Reply(control))
 }
 
 // What a frame from the master to the station asks by its function.
-fn by_function(control: u8, n: usize) -> Taken
+#[tactic(auto, unfolding(crate::specs::Station::by_function))]
+fn by_function(control: u8, n: usize) -> Result<Taken, TakeRefusal>
     ensures { result ≡ taken_by (by_function control n) n }
 {
-    let function = control % 16;
     let fcv = control / 16 % 2;
-    if function == 4 {
-        return with_data(fcv, n);
+    match control % 16 {
+        4 => with_data(fcv, n),
+        0 => without_data(fcv, n, ACK),
+        9 => without_data(fcv, n, LINK_STATUS),
+        _ => Ok(Taken::Reply(NOT_SUPPORTED)),
     }
-    if function == 0 {
-        return without_data(fcv, n, ACK);
-    }
-    if function == 9 {
-        return without_data(fcv, n, LINK_STATUS);
-    }
-    Taken::Reply(NOT_SUPPORTED)
 }
 
 // What a whole frame comes to, by its addresses and its direction first.
-fn addressed(st: Station, control: u8, destination: u16, source: u16, n: usize) -> Taken
-    ensures { result ≡ taken_by (addressed st control destination source n) n }
+#[tactic(auto, unfolding(crate::specs::Station::addressed))]
+fn addressed(st: Station, f: Frame) -> Result<Taken, TakeRefusal>
+    ensures { result ≡ taken_by (addressed st f.control f.destination f.source f.len) f.len }
 {
-    if source != st.master {
-        return Taken::NotTaken;
+    if f.source != st.master || f.destination != st.own {
+        return Err(TakeRefusal::NotTaken);
     }
-    if destination != st.own {
-        return Taken::NotTaken;
+    if f.control / 64 != 3 {
+        return Err(TakeRefusal::NotTaken);
     }
-    if control / 64 != 3 {
-        return Taken::NotTaken;
-    }
-    by_function(control, n)
-}
-
-// What a frame that was checked comes to.
-fn after_check(st: Station, r: frame::Read) -> Taken
-    ensures { result ≡ after_check st r }
-{
-    match r {
-        frame::Read::Frame {
-            control,
-            destination,
-            source,
-            len,
-        } => addressed(st, control, destination, source, len),
-        frame::Read::Refused(why) => Taken::Refused(why),
-    }
+    by_function(f.control, f.len)
 }
 
 // Takes the frame at the front of the bytes. Only user data that is handed on goes to the lent bytes.
-pub fn take_frame(st: Station, s: &[u8], out: &mut [u8]) -> Taken
+pub fn take_frame(st: Station, s: &[u8], out: &mut [u8]) -> Result<Taken, TakeRefusal>
     ensures { FrameTaken result st s.now out.old out.new }
 {
     if out.len() < frame::USER_MAX {
-        return Taken::Refused(frame::FrameRefusal::OutputTooSmall);
+        return Err(TakeRefusal::Frame(FrameRefusal::OutputTooSmall));
     }
-    let r = frame::check_frame(s);
-    let t = after_check(st, r);
-    let Taken::UserData(n) = t else {
-        return t;
-    };
-    frame::copy_user(out, s, n);
-    t
+    let f = frame::check_frame(s)?;
+    let taken = addressed(st, f)?;
+    if let Taken::UserData(n) = taken {
+        frame::copy_user(out, s, n);
+    }
+    Ok(taken)
 }
 
 // Takes a frame, and counts it in the line record, in place.
-pub fn receive(line: &mut LineRecord, st: Station, s: &[u8], out: &mut [u8]) -> Taken
+pub fn receive(
+    line: &mut LineRecord,
+    st: Station,
+    s: &[u8],
+    out: &mut [u8],
+) -> Result<Taken, TakeRefusal>
     ensures { FrameCounted result line.old line.new st s.now out.old out.new }
 {
-    let t = take_frame(st, s, out);
-    *line = counted(*line, t);
-    t
-}
-
-// A frame taken, and the line record after it.
-#[derive(Clone, Copy)]
-pub struct FrameReceived {
-    pub taken: Taken,
-    pub line: LineRecord,
-}
-
-// `receive` for callers that keep the record in a local: it lends its own. Its parameters are plain, so a caller needs no walk.
-pub fn receive_by_value(line: LineRecord, st: Station, s: &[u8], out: &mut [u8]) -> FrameReceived
-    ensures { FrameCounted result.taken line result.line st s.now out.old out.new }
-{
-    let mut m = line;
-    let t = receive(&mut m, st, s, out);
-    FrameReceived { taken: t, line: m }
+    let taken = take_frame(st, s, out);
+    *line = counted(*line, taken);
+    taken
 }
 
 // The control byte of a reply: 00 and 0B are themselves, and any other is NOT_SUPPORTED.
+#[tactic(auto, unfolding(crate::specs::Station::reply_control))]
 fn reply_control(control: u8) -> u8
     ensures { result ≡ reply_control control }
 {
-    if control == ACK {
-        return ACK;
+    match control {
+        ACK | LINK_STATUS => control,
+        _ => NOT_SUPPORTED,
     }
-    if control == LINK_STATUS {
-        return LINK_STATUS;
-    }
-    NOT_SUPPORTED
 }
 
 // Writes a reply to the master: a frame with one of the three reply control bytes and no user data.
-pub fn write_reply(out: &mut [u8], st: Station, control: u8) -> frame::Wrote
+pub fn write_reply(out: &mut [u8], st: Station, control: u8) -> Result<usize, WriteRefusal>
     ensures { FrameWritten result (to_master st (reply_control control) []) out.old out.new }
 {
-    let none = [0u8; 1];
     let c = reply_control(control);
-    frame::write_frame(out, c, st.master, st.own, &none[..0])
+    frame::write_frame(out, c, st.master, st.own, &[])
 }
 
 // Writes user data to the master, under control byte 44.
-pub fn write_data(out: &mut [u8], st: Station, user: &[u8]) -> frame::Wrote
+pub fn write_data(out: &mut [u8], st: Station, user: &[u8]) -> Result<usize, WriteRefusal>
     ensures { FrameWritten result (to_master st 0x44 user.now) out.old out.new }
 {
     frame::write_frame(out, USER_DATA, st.master, st.own, user)

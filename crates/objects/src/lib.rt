@@ -2,19 +2,10 @@
 #![tactic(auto)]
 
 ghost use Rattle.std.specs.Prelude.{◌≡◌, ◌+◌, ◌≤◌, length};
-ghost use Rattle.std.specs.Float.{binary32};
-ghost use Rattle.std.specs.Float.Ieee.{to_bits};
 ghost use Rattle.octets.specs.Bytes.{splice};
 ghost use Rattle.objects.specs.Values.{value_bytes, value_size, state_byte};
 
 use points::Value;
-
-// The bits of a float. No point holds a NaN; its pattern here is the one that the definition writes.
-fn float_bits(x: f32) -> u32
-    ensures { result ≡ to_bits binary32 x }
-{
-    if x.is_nan() { 0x7fc0_0000 } else { x.to_bits() }
-}
 
 // Puts a value at the offset, and answers the offset after it.
 pub fn put_value(out: &mut [u8], at: usize, v: Value) -> usize
@@ -31,7 +22,7 @@ pub fn put_value(out: &mut [u8], at: usize, v: Value) -> usize
             at + 2
         }
         Value::Float32(x) => {
-            octets::put4(out, at, float_bits(x));
+            octets::put4(out, at, words::float_bits(x));
             at + 4
         }
     }

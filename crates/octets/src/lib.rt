@@ -10,29 +10,27 @@ pub fn put(b: &mut [u8], at: usize, n: usize, v: u64)
     requires { at + n ≤ length b.old }
     ensures { b.new ≡ splice b.old at (le n v) }
 {
-    let mut to = at;
-    let mut left = n;
     let mut rest = v;
-    while 0 < left {
-        b[to] = (rest % 256) as u8;
-        rest = rest / 256;
-        to += 1;
-        left -= 1;
+    for i in at..at + n {
+        b[i] = (rest % 256) as u8;
+        rest /= 256;
     }
 }
 
+// `put` is of any width. These four say it by a number's type, so that no caller converts: one function over the types would need a trait of its own
+// with an impl for each, longer than they are.
 pub fn put2(b: &mut [u8], at: usize, v: u16)
     requires { at + 2 ≤ length b.old }
     ensures { b.new ≡ splice b.old at (le 2 v) }
 {
-    put(b, at, 2, v as u64)
+    put(b, at, 2, u64::from(v))
 }
 
 pub fn put4(b: &mut [u8], at: usize, v: u32)
     requires { at + 4 ≤ length b.old }
     ensures { b.new ≡ splice b.old at (le 4 v) }
 {
-    put(b, at, 4, v as u64)
+    put(b, at, 4, u64::from(v))
 }
 
 pub fn put6(b: &mut [u8], at: usize, v: u64)
@@ -47,19 +45,11 @@ pub fn take(s: &[u8], at: usize, n: usize) -> u64
     requires { (at + n ≤ length s.now) × (n ≤ 8) }
     ensures { (result ≡ value_at n at s.now) × (result < 256 ^ n) }
 {
-    let mut r: u64 = 0;
-    let mut left = n;
-    while 0 < left {
-        left -= 1;
-        r = wide(s[at + left]) + 256 * r;
+    let mut r = 0;
+    for i in (at..at + n).rev() {
+        r = u64::from(s[i]) + 256 * r;
     }
     r
-}
-
-fn wide(x: u8) -> u64
-    ensures { result ≡ x }
-{
-    x as u64
 }
 
 pub fn take2(s: &[u8], at: usize) -> u16
@@ -80,24 +70,15 @@ pub fn take4(s: &[u8], at: usize) -> u32
 pub fn least(a: usize, b: usize) -> usize
     ensures { result ≡ min a b }
 {
-    if a < b { a } else { b }
+    a.min(b)
 }
 
 // The two byte strings are equal.
+#[tactic(auto, using(laws::proofs::SameLaws::same_as_eq))]
 pub fn equal(a: &[u8], b: &[u8]) -> bool
     ensures { result ≡ same a.now b.now }
 {
-    if a.len() != b.len() {
-        return false;
-    }
-    let mut i = 0;
-    while i < a.len() {
-        if a[i] != b[i] {
-            return false;
-        }
-        i += 1;
-    }
-    true
+    a == b
 }
 
 // Copies s to the offset.
@@ -105,9 +86,5 @@ pub fn copy(d: &mut [u8], at: usize, s: &[u8])
     requires { at + length s.now ≤ length d.old }
     ensures { d.new ≡ splice d.old at s.now }
 {
-    let mut i = 0;
-    while i < s.len() {
-        d[at + i] = s[i];
-        i += 1;
-    }
+    d[at..at + s.len()].copy_from_slice(s);
 }

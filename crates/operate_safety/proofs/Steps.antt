@@ -2,6 +2,7 @@
 -- Assumes nothing.
 use Prim.Native.Nat.{ℕ, suc, ◌≤◌}
 use mathlib.Core.Path.{◌≡◌, refl, sym, ap, ◌∙◌}
+use Rattle.std.specs.Prelude.{Some}
 use mathlib.Core.Bool.{Bool, true, false, cond}
 use mathlib.Core.List.{List, [], ◌∷◌, ◌++◌}
 use borrow.Author.Tests.{eqb-true, ne_eqb}
@@ -24,8 +25,8 @@ use Rattle.last_request.specs.Requests as Q
 use Rattle.last_request.specs.Requests.{Request, Acted, sequence_in, function_in, objects_in, InOrder, acted_by, acted, remembered_after, repeated}
 use Rattle.last_request.proofs.Controls.{controls-safe}
 use Rattle.outstation.specs.declared.Reading.{Reading}
-use Rattle.outstation.specs.declared.Wait.{Wait}
-use Rattle.outstation.specs.declared.Wait.TheVariants.{Idle, Awaiting}
+use Rattle.outstation.specs.declared.Awaited.{Awaited}
+use Rattle.std.proofs.Common.{Option, Some, None}
 use Rattle.outstation.specs.Setup.{Setup, outputs_set_up}
 use Rattle.outstation.specs.OutstationView.{OutstationView, MasterView, with_master, restarted}
 use Rattle.outstation.specs.Readings.{bad_time, ReadingEffect, apply_reading}
@@ -101,7 +102,7 @@ pub record Extra : Type 0 where
   pub inputs : PointsView
   pub buffer : BufferView
   pub restarted : Bool
-  pub wait : Wait
+  pub wait : Option Awaited
 
 -- what holds of both cases of a reading
 over_effect {ℓ} : {A : Type 0} (P : A → Type ℓ) (v : Outcome ReadingEffect) {x : ReadingEffect → A} {y : ℕ → A}
@@ -112,7 +113,7 @@ over_effect P (refused n) p q = q n
 -- what holds of every case of a fragment
 ask-split : (P : Ask → Type 0) (i : PointsView) (f : List ℕ) → P malformed → ((q : ℕ) (uns : Bool) → P (confirms q uns))
     → (eqb (function_of f) 1 ≡ true → (q : ℕ) (p : Parsed) → P (read_ask q p)) → P (asks (sequence_of (control_of f)) (function_of f)) → P (ask i f)
-unfolding ask classified
+unfolding ask
 ask-split P i f m d r o =
     by (F.malformed f) (λ t. rw t m)
     (λ t. rw t (by (is_confirm f) (λ c. rw c (d (sequence_of (control_of f)) (eqb (F.uns_of (control_of f)) 1)))
@@ -157,7 +158,7 @@ module _ (outputs : Outputs) (arm : ℕ) where
   effect_at x time i =
       record { confirm_time = x.confirm_time; clock = time; inputs = i; buffer = x.buffer; restarted = x.restarted; wait = x.wait }
 
-  abbrev raised_to : Extra → BufferView → Wait → Extra
+  abbrev raised_to : Extra → BufferView → Option Awaited → Extra
   raised_to x k v =
       record { confirm_time = x.confirm_time; clock = x.clock; inputs = x.inputs; buffer = k; restarted = x.restarted; wait = v }
 
@@ -195,20 +196,20 @@ module _ (outputs : Outputs) (arm : ℕ) where
 
   -- ---- CONFIRM: neither the last request nor the latch changes
 
-  confirm-ok : (h : List Request) (x : Extra) → Since x.clock h → (v : Wait) (q : ℕ) (uns : Bool) (time : ℕ) → x.clock ≤ time
+  confirm-ok : (h : List Request) (x : Extra) → Since x.clock h → (v : Option Awaited) (q : ℕ) (uns : Bool) (time : ℕ) → x.clock ≤ time
       → Does h [] (S.confirm_step (view h x) v q uns time)
   unfolding S.confirm_step S.confirmed_step
-  confirm-ok h x k Idle q uns time l = none-ok h x k (S.refuses 32) refl refl
-  confirm-ok h x k (Awaiting awaited sent shown since) q uns time l =
-      split (Does h []) (is_confirmed x.confirm_time q uns time awaited.0 sent)
+  confirm-ok h x k None q uns time l = none-ok h x k (S.refuses 32) refl refl
+  confirm-ok h x k (Some a) q uns time l =
+      split (Does h []) (is_confirmed x.confirm_time q uns time a.sequence.0 a.time)
       (λ _. none-ok h
       (record {
         confirm_time = x.confirm_time;
         clock = time;
         inputs = x.inputs;
-        buffer = S.clearing shown since (released x.buffer);
+        buffer = S.clearing a.showed_overflow a.dropped_since (released x.buffer);
         restarted = x.restarted;
-        wait = Idle;
+        wait = None;
       })
       (since-later h x.clock time l k) S.accepts refl refl)
       (λ _. none-ok h x k (S.refuses 32) refl refl)
@@ -280,7 +281,7 @@ module _ (outputs : Outputs) (arm : ℕ) where
     reads_ok e q (headers hs) =
         read_ok h x k time in-time f (S.read_effect (view h x) q time hs) (read-new (remembered_after outputs arm h).last f e) q (eqb-true (function_of f) 1 e) refl
     reads_ok e q (fault n) =
-        read_ok h x k time in-time f (S.plain_effect (view h x) n x.restarted) (read-new (remembered_after outputs arm h).last f e) q
+        read_ok h x k time in-time f (S.plain_effect (view h x) (Some n) x.restarted) (read-new (remembered_after outputs arm h).last f e) q
         (eqb-true (function_of f) 1 e) refl
 
     abbrev effect : RequestEffect
@@ -332,7 +333,7 @@ start-ok u =
             inputs = (restarted u).shared.inputs;
             buffer = record { held = []; overflow = false };
             restarted = true;
-            wait = Idle;
+            wait = None;
           };
       is = refl;
       since = since-start 0;

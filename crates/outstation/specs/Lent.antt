@@ -17,8 +17,7 @@ use Rattle.point_store.specs.declared.Installed.{Installed}
 use Rattle.point_store.specs.PointWords.{points_view_in}
 use Rattle.event_store.specs.declared.BufferStatus.{BufferStatus}
 use Rattle.event_store.specs.EventWords.{buffer_view_in}
-use Rattle.outstation.specs.declared.Wait.{Wait}
-use Rattle.outstation.specs.declared.Wait.TheVariants.{Idle, Awaiting}
+use Rattle.outstation.specs.declared.Awaited.{Awaited}
 use Rattle.outstation.specs.declared.Head.{Head}
 use Rattle.outstation.specs.OutstationView.{SessionView, OutstationView}
 
@@ -50,10 +49,16 @@ abbrev pub group_in : ℕ → ControlGroup
 group_in n = cond (eqb n 1) G.Crob G.AnalogOutput
 
 -- kind 0: nothing is awaited
-unfoldable pub wait_of : Head → Wait
+unfoldable pub wait_of : Head → Option Awaited
 wait_of h =
-    cond (eqb h.waiting 0) Idle
-    (Awaiting (record { 0 = h.wait_sequence }) h.wait_time (holds h.showed_overflow) (holds h.dropped_since))
+    cond (eqb h.waiting 0) None
+    (Some
+    (record {
+      sequence = record { 0 = h.wait_sequence };
+      time = h.wait_time;
+      showed_overflow = holds h.showed_overflow;
+      dropped_since = holds h.dropped_since;
+    }))
 
 -- the lengths of the last request and of its answer, if there is one
 abbrev pub last_lengths : Head → Option LastLengths

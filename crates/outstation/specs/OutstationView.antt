@@ -1,6 +1,6 @@
 -- The outstation as its contracts see it: numbers, and lists of what is in use.
 -- Assumes nothing.
-use Rattle.std.specs.Prelude.{ℕ, Bool, true, false, [], map, replicate}
+use Rattle.std.specs.Prelude.{ℕ, Bool, true, false, [], map, replicate, Option, None}
 use Rattle.laws.specs.Limits.{points_max}
 use Rattle.points.specs.PointsView.{PointsView}
 use Rattle.points.specs.Setup.{fresh_binary, fresh_analog}
@@ -9,8 +9,7 @@ use Rattle.points.specs.declared.AnalogKind.TheVariants as Ks
 use Rattle.events.specs.BufferView.{BufferView}
 use Rattle.select_latch.specs.Select.{LatchView, no_select}
 use Rattle.last_request.specs.Repeat.{LastRequestView, nothing}
-use Rattle.outstation.specs.declared.Wait.{Wait}
-use Rattle.outstation.specs.declared.Wait.TheVariants.{Idle}
+use Rattle.outstation.specs.declared.Awaited.{Awaited}
 use Rattle.analog_outputs.specs.Output.{analog_outputs_max}
 use Rattle.analog_outputs.specs.OutputWords.{no_output}
 use Rattle.control.specs.Status.{Outputs}
@@ -27,7 +26,7 @@ pub record SharedView : Type 0 where
 -- the session with the master: IIN1.7, the awaited confirmation, the last accepted request with its answer, the select latch
 pub record SessionView : Type 0 where
   pub restarted : Bool
-  pub wait : Wait
+  pub wait : Option Awaited
   pub last : LastRequestView
   pub latch : LatchView
 
@@ -64,7 +63,7 @@ with_master m w = record { shared = w.shared; master = m }
 
 -- IIN1.7 stands, nothing is awaited, kept or selected
 abbrev pub fresh_session : SessionView
-fresh_session = record { restarted = true; wait = Idle; last = nothing; latch = no_select }
+fresh_session = record { restarted = true; wait = None; last = nothing; latch = no_select }
 
 -- "A restart keeps only the setup."
 unfoldable pub restarted : Setup → OutstationView

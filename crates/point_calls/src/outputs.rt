@@ -1,152 +1,64 @@
 // The analog outputs of the call `setup`, behind its analogs: nothing, or s NS SETPOINT..
 use analog_outputs::{ANALOG_OUTPUTS_MAX, AnalogOutputWords};
+use text::{Words, WrongWord};
 
-// The first `count`, those past the array not given. `fits`: each whole end is one that 32 bits hold.
+// The first `count`, those past the array not given.
 #[derive(Clone, Copy)]
-pub struct OutputsAt {
+pub struct Outputs {
     pub items: [AnalogOutputWords; ANALOG_OUTPUTS_MAX],
     pub count: u16,
-    pub fits: bool,
-    pub next: text::Cursor,
 }
 
-#[derive(Clone, Copy)]
-struct OutputAt {
-    output: AnalogOutputWords,
-    fits: bool,
-    next: text::Cursor,
-}
-
-// An end's bits.
-#[derive(Clone, Copy)]
-struct EndAt {
-    bits: u32,
-    fits: bool,
-    next: text::Cursor,
-}
-
-fn whole_end(f: &[u8], c: text::Cursor) -> EndAt {
-    let p = text::word(f, c, 44);
-    let from = p.from;
-    let to = p.to;
-    let n = text::signed_of(&f[from..to], 9223372036854775808, 9223372036854775807);
-    let next = text::cursor_if(p.next, n.ok);
-    let most: u64 = if n.negative { 2147483648 } else { 2147483647 };
-    EndAt {
-        bits: words::signed_bits(text::signed32(n.negative, n.size)),
-        fits: n.size <= most,
-        next,
+// An end's bits, where 32 bits hold it.
+fn end_of(fields: &mut Words, kind: u8) -> Result<Option<u32>, WrongWord> {
+    if kind == 2 {
+        return Ok(Some(words::float_bits(fields.real(b',')?)));
     }
+    Ok(fields.signed(b',')?.to_i32().map(words::signed_bits))
 }
 
-fn float_end(f: &[u8], c: text::Cursor) -> EndAt {
-    let x = text::take_real(f, c, 44);
-    let next = x.next;
-    EndAt {
-        bits: words::float_bits(x.value),
-        fits: true,
-        next,
-    }
-}
-
-fn end_at(f: &[u8], c: text::Cursor, kind: u64) -> EndAt {
-    if kind == 3 {
-        float_end(f, c)
-    } else {
-        whole_end(f, c)
-    }
-}
-
-// The kind as a setup has it: 0, 1 or 2 for KIND 1, 2 or 3.
-fn kind_of(kind: u64) -> u8 {
-    if kind == 1 {
-        return 0;
-    }
-    if kind == 2 { 1 } else { 2 }
-}
-
-// KIND,LOW,HIGH
-fn output_of(f: &[u8]) -> OutputAt {
-    let k = text::take_number(f, text::start(), 44, 3);
-    let kind = k.value;
-    let low = end_at(f, text::cursor_if(k.next, 0 < kind), kind);
-    let high = end_at(f, low.next, kind);
-    let next = high.next;
-    let output = AnalogOutputWords {
-        low: low.bits,
-        high: high.bits,
-        kind: kind_of(kind),
+// KIND,LOW,HIGH with KIND 1, 2 or 3; none where an end is one that 32 bits do not hold.
+fn output_of(mut fields: Words) -> Result<Option<AnalogOutputWords>, WrongWord> {
+    let kind = match fields.number(b',', 3)? {
+        1 => 0,
+        2 => 1,
+        3 => 2,
+        _ => return Err(WrongWord),
     };
-    OutputAt {
-        output,
-        fits: low.fits & high.fits,
-        next,
-    }
+    let low = end_of(&mut fields, kind)?;
+    let high = end_of(&mut fields, kind)?;
+    fields.finish()?;
+    Ok(match (low, high) {
+        (Some(low), Some(high)) => Some(AnalogOutputWords { low, high, kind }),
+        _ => None,
+    })
 }
 
-// The next output's word.
-fn output_at(w: &[u8], c: text::Cursor) -> OutputAt {
-    let p = text::word(w, c, 32);
-    let from = p.from;
-    let to = p.to;
-    let o = output_of(&w[from..to]);
-    let mut at = o;
-    at.next = text::cursor_if(p.next, text::finished(o.next));
-    at
-}
-
-// No outputs.
-fn no_outputs(next: text::Cursor) -> OutputsAt {
+// Nothing, or s NS SETPOINT..; none where an end is one that 32 bits do not hold.
+pub fn outputs_of(words: &mut Words) -> Result<Option<Outputs>, WrongWord> {
     let none = AnalogOutputWords {
         low: 0,
         high: 0,
         kind: 0,
     };
-    let items = [none; ANALOG_OUTPUTS_MAX];
-    OutputsAt {
-        items,
+    let mut outputs = Outputs {
+        items: [none; ANALOG_OUTPUTS_MAX],
         count: 0,
-        fits: true,
-        next,
+    };
+    if words.is_finished() {
+        return Ok(Some(outputs));
     }
-}
-
-// The words of so many outputs.
-fn taken(w: &[u8], c: text::Cursor, count: u8) -> OutputsAt {
-    let n = octets::least(count as usize, ANALOG_OUTPUTS_MAX);
-    let mut all = no_outputs(c);
+    if !matches!(words.word(b' ')?, [b's']) {
+        return Err(WrongWord);
+    }
+    outputs.count = words.number(b' ', 255)? as u16;
+    let n = (outputs.count as usize).min(ANALOG_OUTPUTS_MAX);
     let mut fits = true;
-    let mut next = c;
-    let mut i: usize = 0;
-    while i < n {
-        let o = output_at(w, next);
-        let x = o.output;
-        all.items[i] = x;
-        fits = fits & o.fits;
-        next = o.next;
-        i += 1;
+    for i in 0..n {
+        match output_of(Words::new(words.word(b' ')?))? {
+            Some(output) => outputs.items[i] = output,
+            None => fits = false,
+        }
     }
-    let items = all.items;
-    OutputsAt {
-        items,
-        count: count as u16,
-        fits,
-        next,
-    }
-}
-
-fn is_s(w: &[u8]) -> bool {
-    if w.len() == 1 { w[0] == b's' } else { false }
-}
-
-// Nothing, or s NS SETPOINT..
-pub fn outputs_at(w: &[u8], c: text::Cursor) -> OutputsAt {
-    if !c.more {
-        return no_outputs(c);
-    }
-    let p = text::word(w, c, 32);
-    let from = p.from;
-    let to = p.to;
-    let n = text::take_number(w, text::cursor_if(p.next, is_s(&w[from..to])), 32, 255);
-    taken(w, n.next, n.value as u8)
+    Ok(fits.then_some(outputs))
 }

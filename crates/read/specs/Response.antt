@@ -1,11 +1,12 @@
 -- What a READ is answered with behind control, function and indications: "Events come first", "then static parts in the order asked".
 -- Assumes nothing.
-use Rattle.std.specs.Prelude.{◌≡◌, ℕ, ◌+◌, ◌-◌, List, [], ◌++◌, length}
+use Rattle.std.specs.Prelude.{◌≡◌, ℕ, ◌+◌, ◌-◌, Result, Ok, Err, List, [], ◌++◌, length}
 use Rattle.laws.specs.Limits.{fragment_max}
 use Rattle.octets.specs.Bytes.{splice}
 use Rattle.points.specs.PointsView.{PointsView}
 use Rattle.events.specs.declared.Classes.{Classes}
 use Rattle.events.specs.BufferView.{BufferView, cleared, mark_carried}
+use Rattle.application.specs.declared.Fault.{Fault}
 use Rattle.read_headers.specs.declared.Header.{Header}
 use Rattle.read_headers.specs.Parse.{Parsed, headers, fault, fault_in, headers_in, asks_for}
 use Rattle.event_objects.specs.Events.{carried_bytes}
@@ -18,9 +19,9 @@ abbrev pub classes_of : List Header → Classes
 classes_of hs = record { one = asks_for 1 hs; two = asks_for 2 hs; three = asks_for 3 hs }
 
 -- what is known of a READ before it is answered: its fault, or the bytes of its static part and its event classes
-abbrev pub request_of : PointsView → Parsed → ReadRequest
-request_of i p =
-    record { fault = fault_in p; size = length (static_bytes i (headers_in p)); classes = classes_of (headers_in p) }
+abbrev pub request_of : PointsView → Parsed → Result ReadRequest Fault
+request_of i (headers hs) = Ok (record { size = length (static_bytes i hs); classes = classes_of hs })
+request_of i (fault f) = Err f
 
 -- the static part of the response to the bytes s of a READ
 abbrev pub static_part : PointsView → List ℕ → List ℕ

@@ -16,13 +16,12 @@ use Rattle.octets.proofs.Splice.{stored-splice}
 use Rattle.octets.proofs.Le.{take-bytes, drop-bytes}
 use Rattle.frame.specs.FrameOutcome.{FrameOutcome, accepted, refused, refused_by, number_of}
 use Rattle.frame.specs.Frame.{Parts, parts, Fields, fields, fields_of, read_of}
-use Rattle.frame.specs.declared.Read.{Read}
-use Rattle.frame.specs.declared.Read.TheVariants.{Frame, Refused}
+use Rattle.std.specs.Prelude.{Result, Ok, Err, Option, Some, None}
+use Rattle.frame.specs.declared.Frame.{Frame}
+use Rattle.frame.specs.declared.FrameRefusal.{FrameRefusal}
 use Rattle.frame.specs.declared.FrameRefusal.TheVariants.{OutputTooSmall}
 use Rattle.frame.specs.declared.FrameRefusal.TheVariants as F
 use Rattle.frame.proofs.RoundTrip.{read-most}
-use Rattle.receiver.specs.declared.PieceAnswer.{PieceAnswer}
-use Rattle.receiver.specs.declared.PieceAnswer.TheVariants.{Waiting, Decided}
 use Rattle.receiver.specs.declared.Reception.{Reception}
 use Rattle.receiver.specs.Receiver.{rule, waits, moves_on, decided_by, waiting, decided, Call, goes_over, receiving, kept_in, piece_fields, answer_of, lent_after, PieceReceived}
 use Rattle.receiver.specs.Line.{LineEvent, LineEvents, first_then, events_from, events_of, outcome_in, Receives, done, uses_up, answers, refuses33, joined, ReceivesTheLine, CutAlike, Progresses, ReceivedWhole, ReceivesEnd}
@@ -34,28 +33,28 @@ use Rattle.receiver.proofs.LineLaws.{line-waits, line-decides, Went, waited, end
 -- ---- what a call answers
 
 -- what a call decided is what the rule says, with its user data out of the lent bytes
-said-is : (x : Read) (o : FrameOutcome Parts) (out out₁ : List ℕ) → read_of x ≡ fields_of o → out₁ ≡ lent_after out (decided o)
+said-is : (x : Result Frame FrameRefusal) (o : FrameOutcome Parts) (out out₁ : List ℕ) → read_of x ≡ fields_of o → out₁ ≡ lent_after out (decided o)
     → ((f : Parts) → o ≡ accepted f → length f.user ≤ length out) → outcome_in x out₁ ≡ o
-said-is (Frame c d a n) (accepted f) out out₁ e l room =
-    let y : fields c d a n ≡ fields f.control f.destination f.source (length f.user) = cc in
-    let u : take n out₁ ≡ f.user = ap₂ take (ap (λ (z : Fields). z.len) y) l ∙ stored-splice out 0 f.user (let h = room f refl in omega arith) in
+said-is (Ok g) (accepted f) out out₁ e l room =
+    let y : fields g.control g.destination g.source g.len ≡ fields f.control f.destination f.source (length f.user) = cc in
+    let u : take g.len out₁ ≡ f.user = ap₂ take (ap (λ (z : Fields). z.len) y) l ∙ stored-splice out 0 f.user (let h = room f refl in omega arith) in
     λ k. accepted (parts (y k).control (y k).destination (y k).source (u k))
-said-is (Frame c d a n) (refused why) out out₁ e l room = cc
-said-is (Refused why) (accepted f) out out₁ e l room = cc
-said-is (Refused why) (refused y) out out₁ e l room = cc
+said-is (Ok g) (refused why) out out₁ e l room = cc
+said-is (Err why) (accepted f) out out₁ e l room = cc
+said-is (Err why) (refused y) out out₁ e l room = cc
 
 waits-not : (o : FrameOutcome Fields) → waiting ≡ decided o → ⊥
 waits-not o e = let z : ◌≡◌ {A = ℕ} 0 1 = cc in omega arith
 
 -- a refusal by 33 is the one that has this number
-only-33 : (x : Read) → read_of x ≡ refused_by 33 → x ≡ Refused OutputTooSmall
-only-33 (Frame c d a n) e = cc
-only-33 (Refused F.TooShort) e = let z : ◌≡◌ {A = ℕ} 11 33 = ap number_of e in absurd (omega arith)
-only-33 (Refused F.Start) e = let z : ◌≡◌ {A = ℕ} 12 33 = ap number_of e in absurd (omega arith)
-only-33 (Refused F.HeaderCheck) e = let z : ◌≡◌ {A = ℕ} 13 33 = ap number_of e in absurd (omega arith)
-only-33 (Refused F.Length) e = let z : ◌≡◌ {A = ℕ} 14 33 = ap number_of e in absurd (omega arith)
-only-33 (Refused (F.BlockCheck b)) e = let z : ◌≡◌ {A = ℕ} 15 33 = ap number_of e in absurd (omega arith)
-only-33 (Refused F.OutputTooSmall) e = refl
+only-33 : (x : Result Frame FrameRefusal) → read_of x ≡ refused_by 33 → x ≡ Err OutputTooSmall
+only-33 (Ok f) e = cc
+only-33 (Err F.TooShort) e = let z : ◌≡◌ {A = ℕ} 11 33 = ap number_of e in absurd (omega arith)
+only-33 (Err F.Start) e = let z : ◌≡◌ {A = ℕ} 12 33 = ap number_of e in absurd (omega arith)
+only-33 (Err F.HeaderCheck) e = let z : ◌≡◌ {A = ℕ} 13 33 = ap number_of e in absurd (omega arith)
+only-33 (Err F.Length) e = let z : ◌≡◌ {A = ℕ} 14 33 = ap number_of e in absurd (omega arith)
+only-33 (Err (F.BlockCheck b)) e = let z : ◌≡◌ {A = ℕ} 15 33 = ap number_of e in absurd (omega arith)
+only-33 (Err F.OutputTooSmall) e = refl
 
 -- one call, by its outcome
 module _ (r : Reception) (n : ℕ) (m m₁ p out out₁ : List ℕ) (c : PieceReceived r n m m₁ p out out₁) where
@@ -71,7 +70,7 @@ module _ (r : Reception) (n : ℕ) (m m₁ p out out₁ : List ℕ) (c : PieceRe
     taken : r.taken ≡ length p
 
   -- it decided on the bytes s of the line, the last of them being the last that was taken
-  record Ended (x : Read) : Type 0 where
+  record Ended (x : Result Frame FrameRefusal) : Type 0 where
     j : ℕ
     inside : j < length p
     room : user_max ≤ length out
@@ -90,7 +89,7 @@ module _ (r : Reception) (n : ℕ) (m m₁ p out out₁ : List ℕ) (c : PieceRe
   says_is : (o q : FrameOutcome Fields) → decided o ≡ decided q → o ≡ q
   says_is o q e = cc
 
-  wait-case : r.answer ≡ Waiting → Waited
+  wait-case : r.answer ≡ None → Waited
   wait-case h = by (ltb (length out) user_max) (λ l. absurd (lent (ltb-true _ _ l))) (λ l. by_went (ltb-false _ _ l) (goes (kept_in n m) p (kept-waits n m)))
     where
       told : waiting ≡ piece_fields call.outcome
@@ -103,7 +102,7 @@ module _ (r : Reception) (n : ℕ) (m m₁ p out out₁ : List ℕ) (c : PieceRe
       by_went l (waited e) = record { kept = c.kept ∙ ap (λ (x : Call). x.kept) (over l ∙ e); taken = c.taken ∙ ap (λ (x : Call). x.taken) (over l ∙ e) }
       by_went l (ended j i d a e) = absurd (waits-not _ (told ∙ ap (λ (x : Call). piece_fields x.outcome) (over l ∙ e)))
 
-  end-case : (x : Read) → user_max ≤ length out → r.answer ≡ Decided x → Ended x
+  end-case : (x : Result Frame FrameRefusal) → user_max ≤ length out → r.answer ≡ Some x → Ended x
   end-case x l h = by_went (goes (kept_in n m) p (kept-waits n m))
     where
       told : decided (read_of x) ≡ piece_fields call.outcome
@@ -124,7 +123,7 @@ module _ (r : Reception) (n : ℕ) (m m₁ p out out₁ : List ℕ) (c : PieceRe
       }
 
   -- a call that decides on a frame had room
-  had-room : (x : Read) → r.answer ≡ Decided x → (x ≡ Refused OutputTooSmall → ⊥) → user_max ≤ length out
+  had-room : (x : Result Frame FrameRefusal) → r.answer ≡ Some x → (x ≡ Err OutputTooSmall → ⊥) → user_max ≤ length out
   had-room x h not-33 = by (ltb (length out) user_max) (λ l. absurd (not-33 (only-33 x (says_is _ _ (told (ltb-true _ _ l)))))) (λ l. ltb-false _ _ l)
     where
       told : length out < user_max → decided (read_of x) ≡ decided (refused_by 33)
@@ -135,10 +134,10 @@ module _ (r : Reception) (n : ℕ) (m m₁ p out out₁ : List ℕ) (c : PieceRe
   refusal (refused why) e = cc
 
   -- with room it is never 33
-  not-small : user_max ≤ length out → r.answer ≡ Decided (Refused OutputTooSmall) → ⊥
-  not-small l h = let x = end-case (Refused OutputTooSmall) l h in never-33 _ x.decides (refusal _ x.answer)
+  not-small : user_max ≤ length out → r.answer ≡ Some (Err OutputTooSmall) → ⊥
+  not-small l h = let x = end-case (Err OutputTooSmall) l h in never-33 _ x.decides (refusal _ x.answer)
 
-  small-case : r.answer ≡ Decided (Refused OutputTooSmall) → Same
+  small-case : r.answer ≡ Some (Err OutputTooSmall) → Same
   small-case h = by (ltb (length out) user_max) (λ l. lent (ltb-true _ _ l)) (λ l. absurd (not-small (ltb-false _ _ l) h))
     where
       lent : length out < user_max → Same
@@ -171,7 +170,7 @@ module _ (q mv : ℕ) (s t : List ℕ) (d : waits s ≡ false) (e : mv ≡ moves
 module _ (r : Reception) (n t q : ℕ) (m m₁ p out out₁ : List ℕ) (ps : List (List ℕ)) (es : List LineEvent) (last : List ℕ)
     (c : PieceReceived r n m m₁ p out out₁) (place : t ≡ q + length (kept_in n m)) (bytes : AreBytes (kept_in n m ++ joined (p ∷ ps))) where
   -- the piece is used up: the line goes on with the next one
-  step_waits : r.answer ≡ Waiting
+  step_waits : r.answer ≡ None
       → (t + r.taken ≡ q + length (kept_in r.kept m₁) → AreBytes (kept_in r.kept m₁ ++ joined ps) → Agrees es last (events_from q 0 (kept_in r.kept m₁ ++ joined ps)))
       → Agrees es last (events_from q 0 (kept_in n m ++ joined (p ∷ ps)))
   step_waits h ih =
@@ -182,7 +181,7 @@ module _ (r : Reception) (n t q : ℕ) (m m₁ p out out₁ : List ℕ) (ps : Li
       (x.0 ∙ ap (λ (l : List ℕ). (events_from q 0 l).events) e, x.1 ∙ ap (λ (l : List ℕ). (events_from q 0 l).rest) e)
 
   -- 33: the same again
-  step_small : r.answer ≡ Decided (Refused OutputTooSmall)
+  step_small : r.answer ≡ Some (Err OutputTooSmall)
       → (t + r.taken ≡ q + length (kept_in r.kept m₁) → AreBytes (kept_in r.kept m₁ ++ joined (drop r.taken p ∷ ps)) → Agrees es last (events_from q 0 (kept_in r.kept m₁ ++ joined (drop r.taken p ∷ ps))))
       → Agrees es last (events_from q 0 (kept_in n m ++ joined (p ∷ ps)))
   step_small h ih =
@@ -193,7 +192,7 @@ module _ (r : Reception) (n t q : ℕ) (m m₁ p out out₁ : List ℕ) (ps : Li
       (x.0 ∙ ap (λ (l : List ℕ). (events_from q 0 l).events) e, x.1 ∙ ap (λ (l : List ℕ). (events_from q 0 l).rest) e)
 
   -- a frame or a refusal: the line goes on behind it
-  module _ (x : Read) (w : Ended r n m m₁ p out out₁ c x) where
+  module _ (x : Result Frame FrameRefusal) (w : Ended r n m m₁ p out out₁ c x) where
     abbrev s : List ℕ
     s = kept_in n m ++ take (suc w.j) p
 
@@ -266,13 +265,13 @@ cut-alike n n₁ k k₁ m m₁ l l₁ ps qs es fs same joins bytes first second 
 -- ---- the calls come to an end
 
 -- what a call answers
-data Tells (h : PieceAnswer) : Type 0 where
-  it-waits : h ≡ Waiting → Tells h
-  it-decides : (x : Read) → h ≡ Decided x → Tells h
+data Tells (h : Option (Result Frame FrameRefusal)) : Type 0 where
+  it-waits : h ≡ None → Tells h
+  it-decides : (x : Result Frame FrameRefusal) → h ≡ Some x → Tells h
 
-telling : (h : PieceAnswer) → Tells h
-telling Waiting = it-waits refl
-telling (Decided x) = it-decides x refl
+telling : (h : Option (Result Frame FrameRefusal)) → Tells h
+telling None = it-waits refl
+telling (Some x) = it-decides x refl
 
 pub progresses : Progresses
 unfolding Progresses
@@ -304,7 +303,7 @@ module _ (call : ℕ → List ℕ → List ℕ → Reception) (after lent writte
             events = record { outcome = outcome_in x (written n m p); at = t + (call n m p).taken } ∷ y.events;
             kept = y.kept;
             memory = y.memory;
-            calls = answers (meets n m p) e (λ z. not-small (call n m p) n m (after n m p) p (lent n m p) (written n m p) (meets n m p) (room n m p) (e ∙ ap Decided z)) y.calls;
+            calls = answers (meets n m p) e (λ z. not-small (call n m p) n m (after n m p) p (lent n m p) (written n m p) (meets n m p) (room n m p) (e ∙ ap Some z)) y.calls;
           }
 
   -- a piece of so many bytes at most, and then the others

@@ -9,13 +9,14 @@ use lib.Dec.{ltb, eqb}
 use borrow.Author.Tests.{lt-ltb, le-ltb, not-false}
 use Rattle.laws.proofs.Choices.{split}
 use lib.ListN.{length, take, drop, length-append, length-drop, drop_of_length-le}
-use lib.Seq.{length-take-le, take_at, take_all}
+use lib.Seq.{length-take-le, take_at}
 use Rattle.octets.specs.Bytes.{splice}
-use Rattle.octets.proofs.Splice.{splice-parts, stored-splice, length-splice}
+use Rattle.octets.proofs.Splice.{splice-parts}
 use Rattle.frame.specs.FrameOutcome.{Refusal, by, wrong_block, FrameOutcome, accepted, refused, number_of}
 use Rattle.frame.specs.Frame.{Parts, read_of, checked_of}
-use Rattle.frame.specs.declared.Read.{Read}
-use Rattle.frame.specs.declared.Read.TheVariants.{Frame, Refused}
+use Rattle.std.specs.Prelude.{Result, Ok, Err}
+use Rattle.frame.specs.declared.Frame.{Frame}
+use Rattle.frame.specs.declared.FrameRefusal.{FrameRefusal}
 use Rattle.receiver.specs.Receiver.{rule, waits, moves_on, decided_by, kept_max, kept_in, kept_after, Begun}
 use Rattle.receiver.proofs.RuleLaws.{waits-short}
 
@@ -58,11 +59,11 @@ kept-zero m = kept-is 0 m (omega arith) (waits-short [] (omega arith))
 
 -- ---- what was checked
 
-checked-number : (r : Read) (s : List ℕ) → number_of (checked_of r s) ≡ number_of (read_of r)
-checked-number (Frame c d a n) s = refl
-checked-number (Refused why) s = refl
+checked-number : (r : Result Frame FrameRefusal) (s : List ℕ) → number_of (checked_of r s) ≡ number_of (read_of r)
+checked-number (Ok f) s = refl
+checked-number (Err why) s = refl
 
-pub waits-checked : (r : Read) (s : List ℕ) → checked_of r s ≡ rule s → waits s ≡ eqb (number_of (read_of r)) 11
+pub waits-checked : (r : Result Frame FrameRefusal) (s : List ℕ) → checked_of r s ≡ rule s → waits s ≡ eqb (number_of (read_of r)) 11
 unfolding waits
 waits-checked r s e = ap (λ (o : FrameOutcome Parts). eqb (number_of o) 11) (sym e) ∙ ap (λ (n : ℕ). eqb n 11) (checked-number r s)
 
@@ -86,16 +87,6 @@ module _ (m p : List ℕ) (from k : ℕ) (room : from + k ≤ length m) (there :
 pub nine-left : (m : List ℕ) → drop 1 (take 10 m) ≡ take 9 (drop 1 m)
 nine-left [] = refl
 nine-left (x ∷ m) = refl
-
--- nine bytes, by way of nine others
-pub shifted : (m zeros : List ℕ) → length zeros ≡ 9 → 10 ≤ length m → take 9 (splice m 0 (splice zeros 0 (take 9 (drop 1 m)))) ≡ drop 1 (take 10 m)
-shifted m zeros z l =
-    let nine : length (take 9 (drop 1 m)) ≡ 9 = length-take-le 9 (drop 1 m) (simp length-drop (omega arith)) in
-    let all : splice zeros 0 (take 9 (drop 1 m)) ≡ take 9 (drop 1 m) = sym (take_all 9 _ (omega (arith, length-splice zeros 0 (take 9 (drop 1 m))))) ∙ ap (λ (k : ℕ). take k (splice zeros 0 (take 9 (drop 1 m)))) (sym nine) ∙ stored-splice zeros 0 (take 9 (drop 1 m)) (omega arith) in
-    ap (λ (x : List ℕ). take 9 (splice m 0 x)) all
-    ∙ ap (λ (k : ℕ). take k (splice m 0 (take 9 (drop 1 m)))) (sym nine)
-    ∙ stored-splice m 0 (take 9 (drop 1 m)) (omega arith)
-    ∙ sym (nine-left m)
 
 -- ---- how a call ends
 

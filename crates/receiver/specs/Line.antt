@@ -1,14 +1,13 @@
 -- A whole line at once, and the theorems that its pieces come to the same (document 02, request 101).
 -- Assumes nothing.
-use Rattle.std.specs.Prelude.{ℕ, zero, suc, ◌+◌, ◌-◌, ◌≤◌, ◌≡◌, cond, List, [], ◌∷◌, ◌++◌, length, take, drop}
+use Rattle.std.specs.Prelude.{ℕ, zero, suc, ◌+◌, ◌-◌, ◌≤◌, ◌≡◌, cond, List, [], ◌∷◌, ◌++◌, length, take, drop, Result, Ok, Err, Some, None}
 use Rattle.laws.specs.Limits.{user_max}
 use Rattle.octets.specs.Bytes.{AreBytes}
 use Rattle.frame.specs.FrameOutcome.{FrameOutcome, accepted, refused}
 use Rattle.frame.specs.Frame.{Parts, parts, refusal_of}
-use Rattle.frame.specs.declared.Read.{Read}
-use Rattle.frame.specs.declared.Read.TheVariants.{Frame, Refused}
+use Rattle.frame.specs.declared.Frame.{Frame}
+use Rattle.frame.specs.declared.FrameRefusal.{FrameRefusal}
 use Rattle.frame.specs.declared.FrameRefusal.TheVariants.{OutputTooSmall}
-use Rattle.receiver.specs.declared.PieceAnswer.TheVariants.{Waiting, Decided}
 use Rattle.receiver.specs.declared.Reception.{Reception}
 use Rattle.receiver.specs.Receiver.{rule, waits, moves_on, decided_by, kept_in, PieceReceived}
 
@@ -43,21 +42,21 @@ events_of line = events_from 0 0 line
 -- ---- calls
 
 -- what a call decided, with a frame's user data out of the lent bytes
-abbrev pub outcome_in : Read → List ℕ → FrameOutcome Parts
-outcome_in (Frame control destination source n) out = accepted (parts control destination source (take n out))
-outcome_in (Refused why) out = refused (refusal_of why)
+abbrev pub outcome_in : Result Frame FrameRefusal → List ℕ → FrameOutcome Parts
+outcome_in (Ok f) out = accepted (parts f.control f.destination f.source (take f.len out))
+outcome_in (Err why) out = refused (refusal_of why)
 
 -- Calls of `receive` with these pieces, each on what the one before left, "the rest is given again" until it is used up; so many bytes had been
 -- taken before. Their frames and refusals, 33 aside, which is of the lent output and not of the line. Each call may lend another output
 pub data Receives : (n : ℕ) (memory : List ℕ) (before : ℕ) (pieces : List (List ℕ)) (events : List LineEvent) (n₁ : ℕ) (memory₁ : List ℕ) → Type 0 where
   done : {n : ℕ} {m : List ℕ} {t : ℕ} → Receives n m t [] [] n m
-  uses_up : {n n₁ t : ℕ} {m m₁ m₂ out out₁ p : List ℕ} {ps : List (List ℕ)} {es : List LineEvent} {r : Reception} → PieceReceived r n m m₁ p out out₁ → r.answer ≡ Waiting
+  uses_up : {n n₁ t : ℕ} {m m₁ m₂ out out₁ p : List ℕ} {ps : List (List ℕ)} {es : List LineEvent} {r : Reception} → PieceReceived r n m m₁ p out out₁ → r.answer ≡ None
       → Receives r.kept m₁ (t + r.taken) ps es n₁ m₂ → Receives n m t (p ∷ ps) es n₁ m₂
-  answers : {n n₁ t : ℕ} {m m₁ m₂ out out₁ p : List ℕ} {ps : List (List ℕ)} {es : List LineEvent} {r : Reception} {x : Read} → PieceReceived r n m m₁ p out out₁ → r.answer ≡ Decided x
-      → (x ≡ Refused OutputTooSmall → ⊥) → Receives r.kept m₁ (t + r.taken) (drop r.taken p ∷ ps) es n₁ m₂
+  answers : {n n₁ t : ℕ} {m m₁ m₂ out out₁ p : List ℕ} {ps : List (List ℕ)} {es : List LineEvent} {r : Reception} {x : Result Frame FrameRefusal} → PieceReceived r n m m₁ p out out₁ → r.answer ≡ Some x
+      → (x ≡ Err OutputTooSmall → ⊥) → Receives r.kept m₁ (t + r.taken) (drop r.taken p ∷ ps) es n₁ m₂
       → Receives n m t (p ∷ ps) (record { outcome = outcome_in x out₁; at = t + r.taken } ∷ es) n₁ m₂
   refuses33 : {n n₁ t : ℕ} {m m₁ m₂ out out₁ p : List ℕ} {ps : List (List ℕ)} {es : List LineEvent} {r : Reception} → PieceReceived r n m m₁ p out out₁
-      → r.answer ≡ Decided (Refused OutputTooSmall) → Receives r.kept m₁ (t + r.taken) (drop r.taken p ∷ ps) es n₁ m₂ → Receives n m t (p ∷ ps) es n₁ m₂
+      → r.answer ≡ Some (Err OutputTooSmall) → Receives r.kept m₁ (t + r.taken) (drop r.taken p ∷ ps) es n₁ m₂ → Receives n m t (p ∷ ps) es n₁ m₂
 
 -- the bytes of the pieces, one behind the other
 abbrev pub joined : List (List ℕ) → List ℕ
@@ -85,7 +84,7 @@ CutAlike =
 unfoldable pub Progresses : Type 0
 Progresses =
     (r : Reception) (n : ℕ) (m m₁ p out out₁ : List ℕ) → PieceReceived r n m m₁ p out out₁ → user_max ≤ length out
-    → (r.taken ≤ length p) × (r.answer ≡ Waiting → r.taken ≡ length p) × ((x : Read) → r.answer ≡ Decided x → 1 ≤ r.taken)
+    → (r.taken ≤ length p) × (r.answer ≡ None → r.taken ≡ length p) × ((x : Result Frame FrameRefusal) → r.answer ≡ Some x → 1 ≤ r.taken)
 
 -- pieces that are received to the end
 pub record ReceivedWhole (n : ℕ) (m : List ℕ) (t : ℕ) (ps : List (List ℕ)) : Type 0 where

@@ -1,15 +1,14 @@
 -- The receiver: pieces of any size off the wire, made into frames (document 02, request 101).
 -- Assumes nothing.
-use Rattle.std.specs.Prelude.{ℕ, ◌+◌, ◌≤◌, ◌<◌, ◌≡◌, Bool, true, cond, not, List, [], ◌∷◌, ◌++◌, length, take, drop, ltb, eqb}
+use Rattle.std.specs.Prelude.{ℕ, ◌+◌, ◌≤◌, ◌<◌, ◌≡◌, Bool, true, cond, not, List, [], ◌∷◌, ◌++◌, length, take, drop, ltb, eqb, Result, Option, Some, None}
 use Rattle.octets.specs.Bytes.{splice}
 use Rattle.laws.specs.First.{first, ◌⇒◌}
 use Rattle.laws.specs.Limits.{user_max}
 use Rattle.frame.specs.FrameOutcome.{Refusal, by, wrong_block, FrameOutcome, accepted, refused, refused_by, number_of}
 use Rattle.frame.specs.Frame.{Parts, frame_size, decode, Fields, fields_of, read_of, checked_of, Whole}
 use Rattle.frame.specs.WrongBlock.{user_count}
-use Rattle.frame.specs.declared.Read.{Read}
-use Rattle.receiver.specs.declared.PieceAnswer.{PieceAnswer}
-use Rattle.receiver.specs.declared.PieceAnswer.TheVariants.{Waiting, Decided}
+use Rattle.frame.specs.declared.Frame.{Frame}
+use Rattle.frame.specs.declared.FrameRefusal.{FrameRefusal}
 use Rattle.receiver.specs.declared.Reception.{Reception}
 
 -- ---- the single-frame rule on what was taken and is not yet used up
@@ -93,9 +92,9 @@ abbrev pub piece_fields : PieceOutcome Parts → PieceOutcome Fields
 piece_fields waiting = waiting
 piece_fields (decided o) = decided (fields_of o)
 
-abbrev pub answer_of : PieceAnswer → PieceOutcome Fields
-answer_of Waiting = waiting
-answer_of (Decided r) = decided (read_of r)
+abbrev pub answer_of : Option (Result Frame FrameRefusal) → PieceOutcome Fields
+answer_of None = waiting
+answer_of (Some r) = decided (read_of r)
 
 -- a frame's user bytes go to the front of the lent bytes; nothing else is written
 abbrev pub lent_after : List ℕ → PieceOutcome Parts → List ℕ
@@ -121,7 +120,7 @@ kept_after (by k) = 9
 kept_after (wrong_block b) = 0
 
 -- the memory's first n bytes are there, and were checked
-pub record Checked (r : Read) (n : ℕ) (memory : List ℕ) : Type 0 where
+pub record Checked (r : Result Frame FrameRefusal) (n : ℕ) (memory : List ℕ) : Type 0 where
   pub there : length (take n memory) ≡ n
   pub said : checked_of r (take n memory) ≡ rule (take n memory)
   pub whole : Whole r (take n memory)

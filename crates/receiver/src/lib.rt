@@ -21,7 +21,7 @@ ghost use Rattle.receiver.specs.Receiver.{
   PieceReceived,
 };
 
-use frame::{FRAME_MAX, Read};
+use frame::{BLOCK, FRAME_MAX, Frame, FrameRefusal};
 
 // The bytes of a frame's header, with its check.
 const HEADER: usize = 10;
@@ -29,60 +29,34 @@ const HEADER: usize = 10;
 // The most bytes that are kept.
 pub const KEPT_MAX: usize = 291;
 
-// What a piece comes to.
-#[derive(Clone, Copy)]
-pub enum PieceAnswer {
-    // The piece is used up, and nothing is decided.
-    Waiting,
-    // A frame, its user data in the lent output; or why there is none: 12 to 15 and 33.
-    Decided(Read),
-}
-
-// How many bytes of the piece were taken, up to the one that decided, and how many are kept, the first of the lent memory.
-#[derive(Clone, Copy)]
+// What a piece comes to. No answer: the piece is used up, and nothing is decided. Else a frame, its user data in the lent output, or why there is
+// none: 12 to 15 and 33. `taken` bytes of the piece were taken, up to the one that decided, and `kept` are kept, the first of the lent memory.
+#[derive(Clone, Copy, Debug, PartialEq, Eq)]
 pub struct Reception {
-    pub answer: PieceAnswer,
+    pub answer: Option<Result<Frame, FrameRefusal>>,
     pub taken: usize,
     pub kept: usize,
 }
 
 // Refusal 11: more bytes are needed.
-fn is_short(r: Read) -> bool
+fn is_short(r: Result<Frame, FrameRefusal>) -> bool
     ensures { result ≡ eqb (number_of (read_of r)) 11 }
 {
-    match r {
-        Read::Refused(why) => frame::refusal_number(why) == 11,
-        _ => false,
-    }
+    r == Err(FrameRefusal::TooShort)
 }
 
 // What the rule says of the memory's first n bytes.
-fn check_front(memory: &[u8; FRAME_MAX], n: usize) -> Read
+fn check_front(memory: &[u8; FRAME_MAX], n: usize) -> Result<Frame, FrameRefusal>
     requires { n ≤ frame_max }
     ensures { Checked result n memory.now }
 {
-    let whole = &memory[..];
-    frame::check_frame(&whole[..n])
-}
-
-// For proofs alone: a lent array tells a proof no length, and a call of `memory_length` does. They compile to nothing.
-fn count_of(memory: &[u8]) -> usize
-    ensures { result ≡ length memory.now }
-{
-    memory.len()
-}
-
-fn memory_length(memory: &[u8; FRAME_MAX]) -> usize
-    ensures { length memory.now ≡ frame_max }
-{
-    count_of(memory)
+    frame::check_frame(&memory[..n])
 }
 
 // How many bytes the memory keeps: none where they do not wait for more. Less than a header waits whatever it is.
 fn kept_length(memory: &[u8; FRAME_MAX], kept: usize) -> usize
     ensures { (take result memory.now ≡ kept_in kept memory.now) × Begun result memory.now }
 {
-    memory_length(memory);
     if KEPT_MAX < kept {
         return 0;
     }
@@ -103,7 +77,7 @@ fn gather(memory: &mut [u8; FRAME_MAX], from: usize, to: usize, piece: &[u8]) ->
         × (take (from + result) memory.new ≡ take from memory.old ++ take result piece.now)
         × (length (take (from + result) memory.new) ≡ from + result) }
 {
-    let n = octets::least(to - from, piece.len());
+    let n = (to - from).min(piece.len());
     octets::copy(memory, from, &piece[..n]);
     n
 }
@@ -113,18 +87,15 @@ fn stated_size(length: u8) -> usize
     requires { 5 ≤ length }
     ensures { (result ≡ frame_size (length - 5)) × (result ≤ frame_max) }
 {
-    let n = length as usize - 5;
-    HEADER + n + 2 * ((n + 15) / 16)
+    let n = usize::from(length) - 5;
+    HEADER + n + 2 * n.div_ceil(BLOCK)
 }
 
 // The memory's first byte is given up, and nine stay.
 fn give_up_one(memory: &mut [u8; FRAME_MAX])
     ensures { take 9 memory.new ≡ drop 1 (take 10 memory.old) }
 {
-    let mut nine = [0u8; 9];
-    let whole = &memory[..];
-    octets::copy(&mut nine, 0, &whole[1..HEADER]);
-    octets::copy(memory, 0, &nine);
+    memory.copy_within(1..HEADER, 0);
 }
 
 // The piece is used up: so many bytes were taken, and so many are kept.
@@ -132,17 +103,17 @@ fn waiting(taken: usize, kept: usize) -> Reception
     ensures { (answer_of result.answer ≡ waiting) × (result.taken ≡ taken) × (result.kept ≡ kept) }
 {
     Reception {
-        answer: PieceAnswer::Waiting,
+        answer: None,
         taken,
         kept,
     }
 }
 
 // How many bytes are kept after a refusal: nine after 12, 13 and 14, which move on one byte, and none after 15.
-fn move_on(memory: &mut [u8; FRAME_MAX], why: frame::FrameRefusal) -> usize
+fn move_on(memory: &mut [u8; FRAME_MAX], why: FrameRefusal) -> usize
     ensures { (result ≡ kept_after (refusal_of why)) × (take result memory.new ≡ take result (drop 1 memory.old)) }
 {
-    if frame::refusal_number(why) == 15 {
+    if why.number() == 15 {
         return 0;
     }
     give_up_one(memory);
@@ -153,7 +124,7 @@ fn move_on(memory: &mut [u8; FRAME_MAX], why: frame::FrameRefusal) -> usize
 fn decide(
     memory: &mut [u8; FRAME_MAX],
     n: usize,
-    r: Read,
+    r: Result<Frame, FrameRefusal>,
     before: usize,
     out: &mut [u8],
 ) -> Reception
@@ -165,22 +136,16 @@ fn decide(
 {
     let taken = before + 1;
     match r {
-        Read::Frame {
-            control: _,
-            destination: _,
-            source: _,
-            len,
-        } => {
-            let whole = &memory[..];
-            frame::copy_user(out, &whole[..n], len);
+        Ok(f) => {
+            frame::copy_user(out, &memory[..n], f.len);
             Reception {
-                answer: PieceAnswer::Decided(r),
+                answer: Some(r),
                 taken,
                 kept: 0,
             }
         }
-        Read::Refused(why) => Reception {
-            answer: PieceAnswer::Decided(r),
+        Err(why) => Reception {
+            answer: Some(r),
             taken,
             kept: move_on(memory, why),
         },
@@ -226,14 +191,14 @@ fn receive_from(memory: &mut [u8; FRAME_MAX], n: usize, piece: &[u8], out: &mut 
     decide(memory, HEADER, r, k - 1, out)
 }
 
-// Takes a piece off the wire, up to its first frame or refusal. What is kept between calls is the first `kept` bytes of the memory; a frame's user data
-// goes to the front of the lent output.
+// Takes a piece off the wire, up to its first frame or refusal. What is kept between calls is the first `kept` bytes of the memory, both kept by the
+// host, which may be in C; a frame's user data goes to the front of the lent output.
 pub fn receive(memory: &mut [u8; FRAME_MAX], kept: usize, piece: &[u8], out: &mut [u8]) -> Reception
     ensures { PieceReceived result kept memory.old memory.new piece.now out.old out.new }
 {
     if out.len() < frame::USER_MAX {
         return Reception {
-            answer: PieceAnswer::Decided(Read::Refused(frame::FrameRefusal::OutputTooSmall)),
+            answer: Some(Err(FrameRefusal::OutputTooSmall)),
             taken: 0,
             kept,
         };

@@ -1,17 +1,15 @@
 -- The select latch, and what a control request does: "SELECT, OPERATE, DIRECT OPERATE, and the last with no response (3 to 6)".
 -- Assumes nothing.
-use Rattle.std.specs.Prelude.{◌≡◌, ℕ, ◌+◌, ◌-◌, ◌≤◌, Bool, true, false, cond, List, [], ◌∷◌, length, take, drop, replicate, leb, eqb}
+use Rattle.std.specs.Prelude.{◌≡◌, ℕ, ◌+◌, ◌-◌, ◌≤◌, Bool, true, false, cond, Option, Some, None, Result, Ok, Err, List, [], ◌∷◌, length, take, drop, replicate, leb, eqb}
 use Rattle.octets.specs.Bytes.{splice}
 use Rattle.laws.specs.First.{first, ◌⇒◌}
 use Rattle.laws.specs.Lists.{all, same}
 use Rattle.application.specs.Fragment.{next_of}
 use Rattle.application.specs.declared.Fault.{Fault}
-use Rattle.application.specs.declared.Fault.TheVariants.{Faultless}
 use Rattle.control.specs.declared.ObjectKind.{ObjectKind}
 use Rattle.control.specs.declared.ObjectKind.TheVariants as K
 use Rattle.control.specs.declared.ControlObject.{ControlObject}
 use Rattle.control.specs.declared.Form.{Form}
-use Rattle.control.specs.declared.Form.TheVariants.{Wrong, Objects}
 use Rattle.control.specs.Objects.{echo_max, value_size, formed, objects, Holding}
 use Rattle.control.specs.Status.{Outputs, statuses, all_zero, echo_of, chosen}
 use Rattle.select_latch.specs.declared.ControlGroup.{ControlGroup}
@@ -97,7 +95,7 @@ latch_by f g ss sequence time o = cond (all (is_select f ∷ all_zero ss ∷ [])
 
 -- the fault, the object bytes of the answer, the objects handed to the host, the latch
 pub record ControlEffect : Type 0 where
-  pub fault : Fault
+  pub fault : Option Fault
   pub echo : List ℕ
   pub carried : List ControlObject
   pub latch : LatchView
@@ -106,18 +104,19 @@ pub record ControlEffect : Type 0 where
 abbrev pub control_effect_with : ControlFunction → ℕ → ℕ → List ℕ → ObjectKind → ℕ → List ControlObject → List ℕ → ControlEffect
 control_effect_with f sequence time o k w cs ss =
     record {
-      fault = Faultless;
+      fault = None;
       echo = echo_by f (echo_of w (value_size k) ss o);
       carried = carried_by f cs ss;
       latch = latch_by f (group_of k) ss sequence time o;
     }
 
 -- a fault: "no objects"
-abbrev pub by_form : Form → Outputs → ℕ → LatchView → ControlFunction → ℕ → ℕ → List ℕ → ControlEffect
-by_form (Wrong x) outputs arm l f sequence time o = record { fault = x; echo = []; carried = []; latch = no_select }
-by_form (Objects k w n) outputs arm l f sequence time o =
-    control_effect_with f sequence time o k w (objects k w n (drop (3 + w) o))
-    (statuses_by f outputs (operate_status arm l (group_of k) sequence time o) (objects k w n (drop (3 + w) o)))
+abbrev pub by_form : Result Form Fault → Outputs → ℕ → LatchView → ControlFunction → ℕ → ℕ → List ℕ → ControlEffect
+by_form (Err x) outputs arm l f sequence time o = record { fault = Some x; echo = []; carried = []; latch = no_select }
+by_form (Ok x) outputs arm l f sequence time o =
+    let cs = objects x.kind x.width x.count (drop (3 + x.width) o) in
+    control_effect_with f sequence time o x.kind x.width cs
+    (statuses_by f outputs (operate_status arm l (group_of x.kind) sequence time o) cs)
 
 -- of a request with these object bytes, by the outputs, the arm time and the latch
 unfoldable pub control_effect : Outputs → ℕ → LatchView → ControlFunction → ℕ → ℕ → List ℕ → ControlEffect

@@ -7,14 +7,10 @@ ghost use Rattle.control.specs.Objects.{objects_max, echo_max, answer_max, value
 ghost use Rattle.control.specs.Status.{outputs_of, echo_of};
 ghost use Rattle.select_latch.specs.Select.{
   group_of,
-  same_group,
   no_select,
   selected,
   latch_of,
   operate_status,
-  is_select,
-  is_operate,
-  is_unanswered,
   statuses_by,
   carried_by,
   latch_by,
@@ -28,7 +24,7 @@ use application::{ApplicationSequence, Fault};
 use control::{ControlObjects, ECHO_MAX, Form, OBJECTS_MAX, ObjectKind, OutputCounts};
 
 // The functions 3 to 6.
-#[derive(Clone, Copy)]
+#[derive(Clone, Copy, Debug, PartialEq, Eq)]
 pub enum ControlFunction {
     Select,
     Operate,
@@ -37,7 +33,7 @@ pub enum ControlFunction {
 }
 
 // What a latch is armed for: relays, group 12, or analog outputs, group 41.
-#[derive(Clone, Copy)]
+#[derive(Clone, Copy, Debug, PartialEq, Eq)]
 pub enum ControlGroup {
     Crob,
     AnalogOutput,
@@ -57,7 +53,7 @@ pub struct Latch {
 // What a control request does. The echo of so many bytes is in the lent bytes from 4.
 #[derive(Clone, Copy)]
 pub struct Controlled {
-    pub fault: Fault,
+    pub fault: Option<Fault>,
     pub len: usize,
     pub carried: ControlObjects,
     pub latch: Latch,
@@ -101,28 +97,7 @@ fn group_of(kind: ObjectKind) -> ControlGroup
 {
     match kind {
         ObjectKind::Crob => ControlGroup::Crob,
-        ObjectKind::Int32 => ControlGroup::AnalogOutput,
-        ObjectKind::Int16 => ControlGroup::AnalogOutput,
-        ObjectKind::Float32 => ControlGroup::AnalogOutput,
-    }
-}
-
-fn is_crob(g: ControlGroup) -> bool
-    ensures { result ≡ same_group ControlGroup.Crob g }
-{
-    match g {
-        ControlGroup::Crob => true,
-        ControlGroup::AnalogOutput => false,
-    }
-}
-
-fn same_group(a: ControlGroup, b: ControlGroup) -> bool
-    ensures { result ≡ same_group a b }
-{
-    let crob = is_crob(b);
-    match a {
-        ControlGroup::Crob => crob,
-        ControlGroup::AnalogOutput => !crob,
+        ObjectKind::Int32 | ObjectKind::Int16 | ObjectKind::Float32 => ControlGroup::AnalogOutput,
     }
 }
 
@@ -140,57 +115,20 @@ pub fn operate_status(
     if !latch.armed {
         return 2;
     }
-    let armed_for = latch.group;
-    if !same_group(armed_for, group) {
+    if latch.group != group {
         return 2;
     }
-    let objects = latch.objects;
-    let n = octets::least(latch.len, ECHO_MAX);
-    if !octets::equal(o, &objects[..n]) {
+    let len = latch.len.min(ECHO_MAX);
+    if o != &latch.objects[..len] {
         return 2;
     }
-    let expected = application::next(latch.sequence);
-    if sequence.0 != expected.0 {
+    if sequence != application::next(latch.sequence) {
         return 2;
     }
     if arm_time < application::elapsed(latch.time, time) {
         1
     } else {
         0
-    }
-}
-
-fn is_select(f: ControlFunction) -> bool
-    ensures { result ≡ is_select f }
-{
-    match f {
-        ControlFunction::Select => true,
-        ControlFunction::Operate => false,
-        ControlFunction::DirectOperate => false,
-        ControlFunction::DirectOperateNoResponse => false,
-    }
-}
-
-fn is_operate(f: ControlFunction) -> bool
-    ensures { result ≡ is_operate f }
-{
-    match f {
-        ControlFunction::Select => false,
-        ControlFunction::Operate => true,
-        ControlFunction::DirectOperate => false,
-        ControlFunction::DirectOperateNoResponse => false,
-    }
-}
-
-// Function 6 is never answered.
-pub fn is_unanswered(f: ControlFunction) -> bool
-    ensures { result ≡ is_unanswered f }
-{
-    match f {
-        ControlFunction::Select => false,
-        ControlFunction::Operate => false,
-        ControlFunction::DirectOperate => false,
-        ControlFunction::DirectOperateNoResponse => true,
     }
 }
 
@@ -205,7 +143,7 @@ fn statuses_by(
     requires { cs.count ≤ objects_max }
     ensures { (take cs.count result ≡ statuses_by f (outputs_of counts ws.now) s (list_of cs)) × (length result ≡ objects_max) }
 {
-    if is_operate(f) {
+    if f == ControlFunction::Operate {
         [s; OBJECTS_MAX]
     } else {
         control::statuses(cs, counts, ws)
@@ -216,7 +154,7 @@ fn statuses_by(
 fn carry(f: ControlFunction, cs: ControlObjects, ss: [u8; OBJECTS_MAX]) -> ControlObjects
     ensures { Holding result (carried_by f (list_of cs) (take cs.count ss)) }
 {
-    if is_select(f) {
+    if f == ControlFunction::Select {
         control::none()
     } else {
         control::with_zero(cs, ss)
@@ -236,35 +174,23 @@ fn latch_after(
     requires { length o.now ≤ echo_max }
     ensures { (latch_of result ≡ latch_by f group (take n ss) sequence.0 time o.now) × (result.len ≤ echo_max) }
 {
-    if is_select(f) {
-        if control::all_zero(ss, n) {
-            arm(group, sequence, time, o)
-        } else {
-            empty()
-        }
+    if f == ControlFunction::Select && control::all_zero(ss, n) {
+        arm(group, sequence, time, o)
     } else {
         empty()
     }
 }
 
-// Puts the echo of n objects, where the function is answered, and says its length.
-fn answer(
-    f: ControlFunction,
-    out: &mut [u8],
-    o: &[u8],
-    kind: ObjectKind,
-    w: usize,
-    n: usize,
-    ss: [u8; OBJECTS_MAX],
-) -> usize
-    requires { (answer_max ≤ length out.old) × HasObjects kind w n o.now }
-    ensures { (out.new ≡ splice out.old 4 (echo_by f (echo_of w (value_size kind) (take n ss) o.now)))
-        × (result ≡ length (echo_by f (echo_of w (value_size kind) (take n ss) o.now))) }
+// Puts the echo of the objects, where the function is answered, and says its length: function 6 is never answered.
+fn answer(f: ControlFunction, out: &mut [u8], o: &[u8], x: Form, ss: [u8; OBJECTS_MAX]) -> usize
+    requires { (answer_max ≤ length out.old) × HasObjects x o.now }
+    ensures { (out.new ≡ splice out.old 4 (echo_by f (echo_of x.width (value_size x.kind) (take x.count ss) o.now)))
+        × (result ≡ length (echo_by f (echo_of x.width (value_size x.kind) (take x.count ss) o.now))) }
 {
-    if is_unanswered(f) {
+    if f == ControlFunction::DirectOperateNoResponse {
         0
     } else {
-        control::put_echo(out, o, kind, w, n, ss)
+        control::put_echo(out, o, x, ss)
     }
 }
 
@@ -284,23 +210,23 @@ pub fn control_effect(
     ensures { ControlHolds result out.old out.new (control_effect (outputs_of counts ws.now) arm_time (latch_of latch) f sequence.0 time o.now) }
 {
     match control::header(o) {
-        Form::Wrong(fault) => Controlled {
-            fault: fault,
+        Err(fault) => Controlled {
+            fault: Some(fault),
             len: 0,
             carried: control::none(),
             latch: empty(),
         },
-        Form::Objects { kind, width, count } => {
-            let group = group_of(kind);
-            let cs = control::objects(o, kind, width, count);
+        Ok(x) => {
+            let group = group_of(x.kind);
+            let cs = control::objects(o, x);
             let s = operate_status(latch, arm_time, group, sequence, time, o);
             let ss = statuses_by(f, cs, counts, ws, s);
-            let len = answer(f, out, o, kind, width, count, ss);
+            let len = answer(f, out, o, x, ss);
             Controlled {
-                fault: Fault::Faultless,
-                len: len,
+                fault: None,
+                len,
                 carried: carry(f, cs, ss),
-                latch: latch_after(f, group, ss, count, sequence, time, o),
+                latch: latch_after(f, group, ss, x.count, sequence, time, o),
             }
         }
     }

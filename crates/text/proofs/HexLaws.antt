@@ -1,6 +1,6 @@
 -- Laws of bytes in hex.
 -- Assumes nothing.
-use mathlib.Core.Path.{◌≡◌, sym, ap, ◌∙◌}
+use mathlib.Core.Path.{◌≡◌, refl, sym, ap, ◌∙◌}
 use mathlib.Core.Bool.{true, false}
 use Prim.Native.Nat.{ℕ, suc, ◌+◌, ◌*◌, ◌/◌, ◌%◌, ◌≤◌, ◌<◌}
 use native.Mathlib.Numerals.{add-one}
@@ -25,6 +25,11 @@ hex-turn d to i s h =
 pub hex-end : (d : List ℕ) (to i : ℕ) (s : List ℕ) → length s ≤ i → splice d to (hex_of (drop i s)) ≡ d
 unfolding hex_of
 hex-end d to i s h = rw (drop_of_length-le s h) (splice-nil d to)
+
+pub length-hex_of : (bs : List ℕ) → length (hex_of bs) ≡ 2 * length bs
+unfolding hex_of
+length-hex_of [] = refl
+length-hex_of (b ∷ bs) = omega (arith, length-hex_of bs)
 
 -- ---- reading: a turn takes two digits
 

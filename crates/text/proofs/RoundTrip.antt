@@ -12,6 +12,7 @@ use borrow.Author.Tests.{lt-ltb, le-ltb, ltb-true, ltb-false, eq-eqb, ne_eqb}
 use Rattle.octets.specs.Bytes.{AreBytes}
 use Rattle.text.specs.Words.{padded, whole_within, decimal_in, whole, shown_by, decimal_of, nibble_of, digit_of, all_hex, unhex, hex_read, hex_of, bytes}
 use Rattle.text.proofs.DecimalLaws.{said-shown, all_shown}
+use Rattle.text.proofs.HexLaws.{length-hex_of}
 
 -- ---- decimal
 
@@ -76,11 +77,6 @@ nibble-digit d h = go (ltb d 10) refl
         let l : 10 ≤ d = ltb-false d 10 e in
         let m : 55 + d - 55 ≡ d = omega arith in
         rw (le-ltb (55 + d) 48 (omega arith), le-ltb (55 + d) 58 (omega arith), le-ltb (55 + d) 65 (omega arith), lt-ltb (55 + d) 71 (omega arith)) m
-
-pub length-hex_of : (bs : List ℕ) → length (hex_of bs) ≡ 2 * length bs
-unfolding hex_of
-length-hex_of [] = refl
-length-hex_of (b ∷ bs) = omega (arith, length-hex_of bs)
 
 all-hex_of : (bs : List ℕ) → AreBytes bs → all_hex (hex_of bs) ≡ true
 unfolding hex_of all_hex

@@ -8,7 +8,7 @@ use mathlib.Core.List.{List, [], ◌∷◌}
 use lib.ListN.{length, take, drop, set, length-drop, length-take, drop_of_length-le}
 use lib.Seq.{take_all, take-nil}
 use lib.Dec.{ltb, eqb}
-use borrow.Author.Tests.{lt-ltb, le-ltb, ltb-true, ltb-false, eq-eqb, ne_eqb}
+use borrow.Author.Tests.{le-ltb, ltb-true, ltb-false, eq-eqb, ne_eqb}
 use Rattle.laws.specs.Lists.{same}
 use Rattle.laws.specs.Limits.{segment_data_max, fragment_max}
 use Rattle.laws.proofs.Loops.{take_min}
@@ -19,12 +19,11 @@ use Rattle.octets.specs.Bytes.{splice}
 use Rattle.octets.proofs.Splice.{splice-cons}
 use Rattle.laws.specs.Outcome.{Outcome, accepted, refused}
 use Rattle.transport.specs.Segment.{head_of, fin, fir, sequence, data_of, next_sequence, bit_of, transport_header, segment}
-use Rattle.transport.specs.Receive.{last_segment, Place, behind, ignored, places, receiving, received_of, answer_received, assembly_after, lent_after_receive, SegmentReceived}
-use Rattle.transport.specs.Send.{from_of, last_at, end_of, next_segment, next_sender, sending, written_of, sent_of, answer_sent, sender_after, lent_after_send, SegmentSent}
+use Rattle.transport.specs.Receive.{last_segment, Place, behind, ignored, places, receiving, received_of, answer_received, forgets, assembly_after, lent_after_receive, SegmentReceived}
+use Rattle.transport.specs.Send.{from_of, last_at, end_of, next_segment, next_sender, sending, written_of}
 use Rattle.transport.specs.declared.Assembly.{Assembly}
 use Rattle.transport.specs.declared.Reception.{Reception}
 use Rattle.transport.specs.declared.Sender.{Sender}
-use Rattle.transport.specs.declared.Sending.{Sending}
 use Rattle.transport.specs.declared.TransportSequence.{TransportSequence}
 
 -- ---- the transport byte
@@ -65,18 +64,6 @@ module _ (first last : Bool) (q : ℕ) where
 -- ---- receiving
 
 module _ (d : List ℕ) (a : Assembly) (s : List ℕ) where
-  pub got-lent : length d < fragment_max → receiving d a s ≡ refused 33
-  unfolding receiving
-  got-lent h = rw (lt-ltb (length d) fragment_max h)
-
-  pub got-short : fragment_max ≤ length d → length s < 2 → receiving d a s ≡ refused 21
-  unfolding receiving
-  got-short h l = rw (le-ltb (length d) fragment_max h, lt-ltb (length s) 2 l)
-
-  pub got-long : fragment_max ≤ length d → 2 ≤ length s → segment_data_max + 1 < length s → receiving d a s ≡ refused 21
-  unfolding receiving
-  got-long h l m = rw (le-ltb (length d) fragment_max h, le-ltb (length s) 2 l, lt-ltb (segment_data_max + 1) (length s) m)
-
   pub got-first : fragment_max ≤ length d → 2 ≤ length s → length s ≤ segment_data_max + 1 → head_of s / 64 % 2 ≡ 1 → receiving d a s ≡ accepted (behind 0)
   unfolding receiving
   got-first h l m e = rw (le-ltb (length d) fragment_max h, le-ltb (length s) 2 l, le-ltb (segment_data_max + 1) (length s) m, eq-eqb (head_of s / 64 % 2) 1 e)
@@ -102,21 +89,9 @@ module _ (a : Assembly) (d s : List ℕ) where
         absurd (omega arith)
     go false h = h
 
-  pub place-idle : a.begun ≡ false → places a d s ≡ refused 22
-  unfolding places
-  place-idle b = rw b
-
   pub place-repeat : a.begun ≡ true → same s (last_segment a d) ≡ true → places a d s ≡ accepted ignored
   unfolding places
   place-repeat b r = rw (b, r)
-
-  pub place_other : a.begun ≡ true → same s (last_segment a d) ≡ false → (sequence (head_of s) ≡ (next_sequence a.last).0 → ⊥) → places a d s ≡ refused 22
-  unfolding places
-  place_other b r e = rw (b, r, ne_eqb (sequence (head_of s)) (next_sequence a.last).0 e)
-
-  pub place-long : a.begun ≡ true → sequence (head_of s) ≡ (next_sequence a.last).0 → fragment_max < a.len + length (data_of s) → places a d s ≡ refused 23
-  unfolding places
-  place-long b e h = rw (b, next-is-new e, eq-eqb (sequence (head_of s)) (next_sequence a.last).0 e, lt-ltb fragment_max (a.len + length (data_of s)) h)
 
   pub place-behind : a.begun ≡ true → sequence (head_of s) ≡ (next_sequence a.last).0 → a.len + length (data_of s) ≤ fragment_max → places a d s ≡ accepted (behind a.len)
   unfolding places
@@ -138,6 +113,24 @@ module _ (a : Assembly) (d s : List ℕ) where
       stored true o n e = cc
       stored false o n e = e
 
+-- whatever refuses a segment without FIR, the unfinished fragment is forgotten
+pub place-forgets : (a : Assembly) (d s : List ℕ) (k : ℕ) → places a d s ≡ refused k → forgets k ≡ true
+unfolding places
+place-forgets a d s k e = go (not a.begun) (same s (last_segment a d)) (not (eqb (sequence (head_of s)) (next_sequence a.last).0)) (ltb fragment_max (a.len + length (data_of s))) e
+  where
+    by_22 : ◌≡◌ {A = Outcome Place} (refused 22) (refused k) → forgets k ≡ true
+    by_22 e = let z : 22 ≡ k = cc in rw (sym z)
+
+    by-23 : ◌≡◌ {A = Outcome Place} (refused 23) (refused k) → forgets k ≡ true
+    by-23 e = let z : 23 ≡ k = cc in rw (sym z)
+
+    go : (b r q l : Bool) → cond b (refused 22) (cond r (accepted ignored) (cond q (refused 22) (cond l (refused 23) (accepted (behind a.len))))) ≡ refused k → forgets k ≡ true
+    go true r q l e = by_22 e
+    go false true q l e = cc
+    go false false true l e = by_22 e
+    go false false false true e = by-23 e
+    go false false false false e = cc
+
 -- ---- the last segment again
 
 -- a part as the code lends it
@@ -146,9 +139,6 @@ part_slice zero t l = let e : t - 0 ≡ t = omega arith in ap (λ (n : ℕ). tak
 part_slice (suc f) t [] = take-nil (t - suc f) ∙ sym (ap (drop (suc f)) (take-nil t))
 part_slice (suc f) zero (x ∷ xs) = let e : 0 - suc f ≡ 0 = omega arith in ap (λ (n : ℕ). take n (drop f xs)) e
 part_slice (suc f) (suc t) (x ∷ xs) = let e : suc t - suc f ≡ t - f = omega arith in ap (λ (n : ℕ). take n (drop f xs)) e ∙ part_slice f t xs
-
-pub less-least : (n m : ℕ) → n - min m n ≡ n - m
-less-least n m = omega arith
 
 -- its ends as the code has them, inside the lent bytes
 pub end_is : (k n f t : ℕ) (d : List ℕ) → t ≡ min n (length d) → f ≡ min k t → take (t - f) (drop f d) ≡ drop k (take n d)
@@ -190,33 +180,12 @@ rest-is s = take_all (length s - 1) (drop 1 s) (simp length-drop (omega arith))
 pub rest-length : (s : List ℕ) → length (data_of s) ≡ length s - 1
 rest-length s = length-drop 1 s
 
-pub rest-length-0 : (s : List ℕ) → 0 + length (data_of s) ≡ length s - 1
-rest-length-0 s = simp length-drop (omega arith)
-
 -- ---- sending
 
 module _ (room : ℕ) (p : Sender) (f : List ℕ) where
-  pub send-lent : room < segment_data_max + 1 → sending room p f ≡ refused 33
-  unfolding sending
-  send-lent h = rw (lt-ltb room (segment_data_max + 1) h)
-
-  pub send-none : segment_data_max + 1 ≤ room → length f < 1 → sending room p f ≡ refused 16
-  unfolding sending
-  send-none h l = rw (le-ltb room (segment_data_max + 1) h, lt-ltb (length f) 1 l)
-
-  pub send-long : segment_data_max + 1 ≤ room → 1 ≤ length f → fragment_max < length f → sending room p f ≡ refused 16
-  unfolding sending
-  send-long h l m = rw (le-ltb room (segment_data_max + 1) h, le-ltb (length f) 1 l, lt-ltb fragment_max (length f) m)
-
   pub send-next : segment_data_max + 1 ≤ room → 1 ≤ length f → length f ≤ fragment_max → sending room p f ≡ accepted (next_segment p f)
   unfolding sending
   send-next h l m = rw (le-ltb room (segment_data_max + 1) h, le-ltb (length f) 1 l, le-ltb fragment_max (length f) m)
-
--- the contract from the outcome
-pub sent-by : (r : Sending) (p : Sender) (f d d' : List ℕ) (o : Outcome (List ℕ)) → sending (length d) p f ≡ o → sent_of r.answer ≡ answer_sent o
-    → r.sender ≡ sender_after p f o → d' ≡ lent_after_send d o → SegmentSent r p f d d'
-sent-by r p f d d' o e x y z =
-    record { answer = x ∙ ap answer_sent (sym e); sender = y ∙ ap (sender_after p f) (sym e); lent = z ∙ ap (lent_after_send d) (sym e) }
 
 -- the part of the fragment from here, at most 249 bytes
 module _ (f : List ℕ) (at e : ℕ) (h : at < length f) (k : e ≡ min (at + segment_data_max) (length f)) where

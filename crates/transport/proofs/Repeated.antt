@@ -16,11 +16,10 @@ use Rattle.laws.proofs.SameLaws.{same_refl, same-eq}
 use Rattle.octets.specs.Bytes.{splice, AreBytes}
 use Rattle.octets.proofs.Splice.{length-splice, stored-splice, splice-same}
 use Rattle.transport.specs.Segment.{head_of, fin, fir, sequence, data_of, next_sequence, bit_of, transport_header, segment_count, cut, segments_of}
-use Rattle.transport.specs.Receive.{idle, last_segment, Place, behind, ignored, places, receiving, Progress, more, complete, kept_of, received_of, answer_received, assembly_after, lent_after_receive, SegmentReceived}
+use Rattle.transport.specs.Receive.{Received, idle, last_segment, Place, behind, ignored, places, receiving, Progress, more, complete, kept_of, received_of, answer_received, assembly_after, lent_after_receive, SegmentReceived}
 use Rattle.transport.specs.Repeated.{LastIsKept, HeardTwice, Repeated, ends, once, again, RepeatedIsReceived}
 use Rattle.transport.specs.declared.Assembly.{Assembly}
-use Rattle.transport.specs.declared.Received.{Received}
-use Rattle.transport.specs.declared.Received.TheVariants.{More}
+use Rattle.std.specs.Prelude.{Ok, None}
 use Rattle.transport.specs.declared.Reception.{Reception}
 use Rattle.transport.proofs.Laws.{bit_le, got-first, got-next, place-repeat, place-fits, part_slice, rest-length}
 use Rattle.transport.proofs.RoundTrip.{Calls, Run, answered, receive_all, goes, ended, round_trip, more-is, completes-is, receives-are, sends-some, sends-whole}
@@ -185,7 +184,7 @@ heard_more a d s small h = go (receiving d a s) refl h where
   go (refused k) e m = let z : ◌≡◌ {A = ℕ} 0 1 = cc in absurd (omega arith)
 
 -- the same about a call
-called-goes : (r : Reception) (a : Assembly) (s d d₁ : List ℕ) → AreBytes s → SegmentReceived r a s d d₁ → r.answer ≡ More → Goes r.assembly d₁ s
+called-goes : (r : Reception) (a : Assembly) (s d d₁ : List ℕ) → AreBytes s → SegmentReceived r a s d d₁ → r.answer ≡ Ok None → Goes r.assembly d₁ s
 called-goes r a s d d₁ bytes got is =
     subst (λ (x : Assembly). Goes x d₁ s) (sym got.assembly)
     (subst (λ (l : List ℕ). Goes (assembly_after a s (receiving d a s)) l s) (sym got.lent) (heard_more a d s (bytes 0) (sym got.answer ∙ ap received_of is)))

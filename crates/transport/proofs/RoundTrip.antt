@@ -16,18 +16,16 @@ use Rattle.octets.specs.Bytes.{splice}
 use Rattle.octets.proofs.Splice.{splice-append, length-splice, stored-splice}
 use Rattle.laws.specs.Outcome.{Outcome, accepted, refused}
 use Rattle.transport.specs.Segment.{head_of, fin, fir, sequence, data_of, bit_of, transport_header, segment, segment_count, cut, segments_of}
-use Rattle.transport.specs.Receive.{idle, behind, receiving, Progress, more, complete, answer_received, assembly_after, lent_after_receive, received_of}
+use Rattle.transport.specs.Receive.{Received, idle, behind, receiving, Progress, more, complete, answer_received, assembly_after, lent_after_receive, received_of}
 use Rattle.transport.specs.Send.{Written, from_of, last_at, end_of, next_segment, next_sender, sending, written_of, answer_sent, sender_after, lent_after_send, sent_of, SegmentSent}
 use Rattle.transport.specs.RoundTrip.{Sends, Receives, none, next, completes, SentIsReceived, SentWhole, SendsEnd}
 use Rattle.transport.specs.RoundTrip as Trip
 use Rattle.transport.specs.declared.Assembly.{Assembly}
-use Rattle.transport.specs.declared.Received.{Received}
-use Rattle.transport.specs.declared.Received.TheVariants.{More, Fragment, SegmentLength, OutOfSequence, FragmentTooLong, OutputTooSmall}
+use Rattle.std.specs.Prelude.{Result, Ok, Err, Some, None}
 use Rattle.transport.specs.declared.Sender.{Sender}
 use Rattle.transport.specs.declared.Sending.{Sending}
-use Rattle.transport.specs.declared.Sent.{Sent}
-use Rattle.transport.specs.declared.Sent.TheVariants.{Segment, FragmentLength}
-use Rattle.transport.specs.declared.Sent.TheVariants as Sents
+use Rattle.transport.specs.declared.SentSegment.{SentSegment}
+use Rattle.transport.specs.declared.SendRefusal.{SendRefusal}
 use Rattle.transport.proofs.Laws.{got-first, got-next, place-behind, send-next, fin-header, fir-header, sequence-header}
 
 -- ---- the segments
@@ -247,7 +245,7 @@ record Step (p p₁ : Sender) (f s : List ℕ) (last : Bool) : Type 0 where
   sender-after : p₁ ≡ next_sender p f
   ends : fin (head_of (next_segment p f)) ≡ last
 
-step_of : {p : Sender} {r : Sending} {f lent written : List ℕ} (n : ℕ) (last : Bool) → SegmentSent r p f lent written → r.answer ≡ Segment n last
+step_of : {p : Sender} {r : Sending} {f lent written : List ℕ} (n : ℕ) (last : Bool) → SegmentSent r p f lent written → r.answer ≡ Ok (record { size = n; last = last })
     → Step p r.sender f (take n written) last
 step_of {p} {r} {f} {lent} {written} n last sent is =
     let said : accepted (record { size = n; last = last }) ≡ answer_sent (sending (length lent) p f) = ap sent_of (sym is) ∙ sent.answer in
@@ -305,21 +303,15 @@ receives-are none = refl
 receives-are (next {r = r} got rest) =
     rw (sym got.answer, sym got.assembly, sym got.lent) (ap (answered (received_of r.answer)) (receives-are rest))
 
-pub more-is : (x : Received) → received_of x ≡ accepted more → x ≡ More
-more-is More e = refl
-more-is (Fragment n) e = cc
-more-is SegmentLength e = cc
-more-is OutOfSequence e = cc
-more-is FragmentTooLong e = cc
-more-is OutputTooSmall e = cc
+pub more-is : (x : Received) → received_of x ≡ accepted more → x ≡ Ok None
+more-is (Ok None) e = refl
+more-is (Ok (Some n)) e = cc
+more-is (Err why) e = cc
 
-complete-is : (x : Received) (n : ℕ) → received_of x ≡ accepted (complete n) → x ≡ Fragment n
-complete-is More n e = cc
-complete-is (Fragment m) n e = cc
-complete-is SegmentLength n e = cc
-complete-is OutOfSequence n e = cc
-complete-is FragmentTooLong n e = cc
-complete-is OutputTooSmall n e = cc
+complete-is : (x : Received) (n : ℕ) → received_of x ≡ accepted (complete n) → x ≡ Ok (Some n)
+complete-is (Ok None) n e = cc
+complete-is (Ok (Some m)) n e = cc
+complete-is (Err why) n e = cc
 
 pub completes-is : (k n : ℕ) (answers : List Received) → map received_of answers ≡ goes k n → answers ≡ completes k n
 unfolding goes completes
@@ -361,10 +353,11 @@ sent-is-received p p₁ a a₁ f d d₁ ss answers start sends room receives =
 
 -- ---- the calls come to a last segment
 
-segment-told : (x : Sent) (y : Written) → sent_of x ≡ accepted y → x ≡ Segment y.size y.last
-segment-told (Segment n l) y e = cc
-segment-told FragmentLength y e = cc
-segment-told Sents.OutputTooSmall y e = cc
+segment-told : (x : Result SentSegment SendRefusal) (y : Written) → sent_of x ≡ accepted y → x ≡ Ok (record { size = y.size; last = y.last })
+segment-told (Ok s) y e =
+    let w : ◌≡◌ {A = Written} (record { size = s.size; last = s.last }) y = cc in
+    λ k. Ok (record { size = (w k).size; last = (w k).last })
+segment-told (Err why) y e = cc
 
 fin-next : (p : Sender) (f : List ℕ) → fin (head_of (next_segment p f)) ≡ last_at (from_of p.at (length f)) (length f)
 unfolding next_segment
@@ -379,7 +372,7 @@ module _ (f : List ℕ) (call : Sender → Sending) (lent written : Sender → L
   size : Sender → ℕ
   size p = length (next_segment p f)
 
-  told : (p : Sender) (last : Bool) → last_at (from_of p.at (length f)) (length f) ≡ last → (call p).answer ≡ Segment (size p) last
+  told : (p : Sender) (last : Bool) → last_at (from_of p.at (length f)) (length f) ≡ last → (call p).answer ≡ Ok (record { size = size p; last = last })
   unfolding size
   told p last e =
       segment-told (call p).answer (record { size = length (next_segment p f); last = last })

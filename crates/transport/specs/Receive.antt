@@ -1,6 +1,6 @@
 -- Receiving: what a segment comes to, in document 01's order of refusals; a segment heard twice (document 02, 103).
 -- Assumes nothing.
-use Rattle.std.specs.Prelude.{ℕ, ◌+◌, ◌-◌, ◌≡◌, Bool, true, false, cond, not, List, [], ◌∷◌, length, take, drop, ltb, eqb}
+use Rattle.std.specs.Prelude.{ℕ, ◌+◌, ◌-◌, ◌≡◌, Bool, true, false, cond, not, List, [], ◌∷◌, length, take, drop, ltb, eqb, Result, Ok, Err, Option, Some, None}
 use Rattle.octets.specs.Bytes.{splice}
 use Rattle.laws.specs.First.{first, ◌⇒◌}
 use Rattle.laws.specs.Lists.{same}
@@ -8,11 +8,9 @@ use Rattle.laws.specs.Limits.{fragment_max, segment_data_max}
 use Rattle.laws.specs.Outcome.{Outcome, accepted, refused}
 use Rattle.transport.specs.Segment.{head_of, fin, fir, sequence, data_of, next_sequence, segment}
 use Rattle.transport.specs.declared.Assembly.{Assembly}
-use Rattle.transport.specs.declared.Received.{Received}
-use Rattle.transport.specs.declared.Received.TheVariants.{More, Fragment, SegmentLength, OutOfSequence, FragmentTooLong, OutputTooSmall}
+use Rattle.transport.specs.declared.SegmentRefusal.{SegmentRefusal}
+use Rattle.transport.specs.declared.SegmentRefusal.TheVariants.{SegmentLength, OutOfSequence, FragmentTooLong, OutputTooSmall}
 use Rattle.transport.specs.declared.Reception.{Reception}
-use Rattle.transport.specs.declared.DataPlace.{DataPlace}
-use Rattle.transport.specs.declared.DataPlace.TheVariants.{Behind, Ignored, NotNext, TooLong}
 
 -- nothing begun: what a restart leaves. "A restart keeps only the setup": it empties the assembly and the sender
 abbrev pub idle : Assembly
@@ -89,13 +87,21 @@ lent_after_receive d s (refused k) = d
 
 -- ---- what the answers mean
 
+-- an answer: the fragment goes on, or it is complete with so many bytes; or a refusal
+abbrev pub Received : Type 0
+Received = Result (Option ℕ) SegmentRefusal
+
+-- the number of each refusal
+abbrev pub segment_refusal_of : SegmentRefusal → ℕ
+segment_refusal_of SegmentLength = 21
+segment_refusal_of OutOfSequence = 22
+segment_refusal_of FragmentTooLong = 23
+segment_refusal_of OutputTooSmall = 33
+
 abbrev pub received_of : Received → Outcome Progress
-received_of More = accepted more
-received_of (Fragment n) = accepted (complete n)
-received_of SegmentLength = refused 21
-received_of OutOfSequence = refused 22
-received_of FragmentTooLong = refused 23
-received_of OutputTooSmall = refused 33
+received_of (Ok None) = accepted more
+received_of (Ok (Some n)) = accepted (complete n)
+received_of (Err why) = refused (segment_refusal_of why)
 
 -- a call that took the segment s, with this assembly and these lent bytes before it, gives r and leaves these lent bytes
 pub record SegmentReceived (r : Reception) (a : Assembly) (s before after : List ℕ) : Type 0 where
@@ -103,8 +109,8 @@ pub record SegmentReceived (r : Reception) (a : Assembly) (s before after : List
   pub assembly : r.assembly ≡ assembly_after a s (receiving before a s)
   pub lent : after ≡ lent_after_receive before s (receiving before a s)
 
-abbrev pub place_of : DataPlace → Outcome Place
-place_of (Behind n) = accepted (behind n)
-place_of Ignored = accepted ignored
-place_of NotNext = refused 22
-place_of TooLong = refused 23
+-- where a segment's data goes, as the code has it: behind so many bytes, or nowhere
+abbrev pub place_of : Result (Option ℕ) SegmentRefusal → Outcome Place
+place_of (Ok (Some n)) = accepted (behind n)
+place_of (Ok None) = accepted ignored
+place_of (Err why) = refused (segment_refusal_of why)

@@ -1,13 +1,11 @@
 -- A segment heard twice (document 02, 103), about the calls: the second changes nothing, and a fragment comes whole from a radio that repeats.
 -- Assumes nothing.
-use Rattle.std.specs.Prelude.{ℕ, ◌-◌, ◌≤◌, ◌≡◌, List, [], ◌∷◌, length}
+use Rattle.std.specs.Prelude.{ℕ, ◌-◌, ◌≤◌, ◌≡◌, List, [], ◌∷◌, length, Ok, None}
 use Rattle.laws.specs.Limits.{fragment_max}
 use Rattle.octets.specs.Bytes.{splice, AreBytes}
-use Rattle.transport.specs.Receive.{idle, last_segment, SegmentReceived}
+use Rattle.transport.specs.Receive.{idle, last_segment, Received, SegmentReceived}
 use Rattle.transport.specs.RoundTrip.{Sends, Receives, completes}
 use Rattle.transport.specs.declared.Assembly.{Assembly}
-use Rattle.transport.specs.declared.Received.{Received}
-use Rattle.transport.specs.declared.Received.TheVariants.{More}
 use Rattle.transport.specs.declared.Reception.{Reception}
 use Rattle.transport.specs.declared.Sender.{Sender}
 
@@ -15,14 +13,14 @@ use Rattle.transport.specs.declared.Sender.{Sender}
 -- have it. 21 and 33 change neither, so "the last one" is the last segment taken in
 abbrev pub LastIsKept : Type 0
 LastIsKept =
-    (r : Reception) (a : Assembly) (s d d₁ : List ℕ) → AreBytes s → SegmentReceived r a s d d₁ → r.answer ≡ More → last_segment r.assembly d₁ ≡ s
+    (r : Reception) (a : Assembly) (s d d₁ : List ℕ) → AreBytes s → SegmentReceived r a s d d₁ → r.answer ≡ Ok None → last_segment r.assembly d₁ ≡ s
 
 -- Whatever was kept and lent: a segment with which the fragment goes on, heard again at once, gives the same answer and leaves the assembly
 -- and the lent bytes as they are. With FIR it starts afresh, with the same bytes; without, it "is to be ignored"
 abbrev pub HeardTwice : Type 0
 HeardTwice =
     (r r₁ : Reception) (a : Assembly) (s d d₁ d₂ : List ℕ) → AreBytes s
-    → SegmentReceived r a s d d₁ → r.answer ≡ More → SegmentReceived r₁ r.assembly s d₁ d₂
+    → SegmentReceived r a s d d₁ → r.answer ≡ Ok None → SegmentReceived r₁ r.assembly s d₁ d₂
     → (r₁ ≡ r) × (d₂ ≡ d₁)
 
 -- The segments of the first list are heard as those of the second: each but the last once, or any number of times more right behind itself

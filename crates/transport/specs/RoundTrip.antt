@@ -1,26 +1,23 @@
 -- The round trip of segments, about the calls: what is sent in segments and received in order is the fragment.
 -- Assumes nothing.
-use Rattle.std.specs.Prelude.{ℕ, zero, suc, ◌+◌, ◌-◌, ◌%◌, ◌≤◌, ◌≡◌, true, false, List, [], ◌∷◌, length, take}
+use Rattle.std.specs.Prelude.{ℕ, zero, suc, ◌+◌, ◌-◌, ◌%◌, ◌≤◌, ◌≡◌, true, false, List, [], ◌∷◌, length, take, Ok, Some, None}
 use Rattle.laws.specs.Limits.{segment_data_max, fragment_max}
 use Rattle.octets.specs.Bytes.{splice}
 use Rattle.transport.specs.Segment.{segment_count, segments_of}
-use Rattle.transport.specs.Receive.{idle, SegmentReceived}
+use Rattle.transport.specs.Receive.{idle, Received, SegmentReceived}
 use Rattle.transport.specs.Send.{SegmentSent}
 use Rattle.transport.specs.declared.Assembly.{Assembly}
-use Rattle.transport.specs.declared.Received.{Received}
-use Rattle.transport.specs.declared.Received.TheVariants.{More, Fragment}
 use Rattle.transport.specs.declared.Reception.{Reception}
 use Rattle.transport.specs.declared.Sender.{Sender}
 use Rattle.transport.specs.declared.Sending.{Sending}
-use Rattle.transport.specs.declared.Sent.TheVariants.{Segment}
 
 -- Calls of `send` with the fragment f, each on the sender that the one before left, up to the first that answers that its segment is the
 -- last. A segment is the first bytes of those lent, as many as the call answers; each call may lend other bytes
 pub data Sends (f : List ℕ) : Sender → List (List ℕ) → Sender → Type 0 where
-  last : {p : Sender} {r : Sending} {n : ℕ} {lent written : List ℕ} → SegmentSent r p f lent written → r.answer ≡ Segment n true →
+  last : {p : Sender} {r : Sending} {n : ℕ} {lent written : List ℕ} → SegmentSent r p f lent written → r.answer ≡ Ok (record { size = n; last = true }) →
       Sends f p (take n written ∷ []) r.sender
   more : {p p₁ : Sender} {r : Sending} {n : ℕ} {lent written : List ℕ} {ss : List (List ℕ)} → SegmentSent r p f lent written →
-      r.answer ≡ Segment n false → Sends f r.sender ss p₁ → Sends f p (take n written ∷ ss) p₁
+      r.answer ≡ Ok (record { size = n; last = false }) → Sends f r.sender ss p₁ → Sends f p (take n written ∷ ss) p₁
 
 -- Calls of `receive`, one for each segment, each on the assembly and on the lent bytes that the one before left, and their answers
 pub data Receives : Assembly → List ℕ → List (List ℕ) → List Received → Assembly → List ℕ → Type 0 where
@@ -30,8 +27,8 @@ pub data Receives : Assembly → List ℕ → List (List ℕ) → List Received 
 
 -- the answers: k times that the fragment goes on, then that it is complete with n bytes
 unfoldable pub completes : ℕ → ℕ → List Received
-completes zero n = Fragment n ∷ []
-completes (suc k) n = More ∷ completes k n
+completes zero n = Ok (Some n) ∷ []
+completes (suc k) n = Ok None ∷ completes k n
 
 -- what sending the fragment f from the sender p and receiving it into the lent bytes d comes to
 pub record Delivered (p p₁ : Sender) (f d : List ℕ) (ss : List (List ℕ)) (answers : List Received) (a₁ : Assembly) (d₁ : List ℕ) : Type 0 where

@@ -1,6 +1,6 @@
 -- Sending: one segment a call, in document 01's order of refusals.
 -- Assumes nothing.
-use Rattle.std.specs.Prelude.{ℕ, ◌+◌, ◌≡◌, Bool, cond, List, [], ◌∷◌, length, take, drop, ltb, leb, eqb}
+use Rattle.std.specs.Prelude.{ℕ, ◌+◌, ◌≡◌, Bool, cond, List, [], ◌∷◌, length, take, drop, ltb, leb, eqb, Result, Ok, Err}
 use Rattle.octets.specs.Bytes.{splice}
 use Rattle.laws.specs.First.{first, ◌⇒◌}
 use Rattle.laws.specs.Limits.{fragment_max, segment_data_max}
@@ -8,8 +8,9 @@ use Rattle.laws.specs.Outcome.{Outcome, accepted, refused}
 use Rattle.transport.specs.Segment.{head_of, fin, segment, next_sequence}
 use Rattle.transport.specs.declared.Sender.{Sender}
 use Rattle.transport.specs.declared.Sending.{Sending}
-use Rattle.transport.specs.declared.Sent.{Sent}
-use Rattle.transport.specs.declared.Sent.TheVariants.{Segment, FragmentLength, OutputTooSmall}
+use Rattle.transport.specs.declared.SentSegment.{SentSegment}
+use Rattle.transport.specs.declared.SendRefusal.{SendRefusal}
+use Rattle.transport.specs.declared.SendRefusal.TheVariants.{FragmentLength, OutputTooSmall}
 
 -- a sender that has sent nothing ("0 first"): what a restart leaves
 abbrev pub nothing_sent : Sender
@@ -67,10 +68,14 @@ abbrev pub lent_after_send : List ℕ → Outcome (List ℕ) → List ℕ
 lent_after_send d (accepted s) = splice d 0 s
 lent_after_send d (refused k) = d
 
-abbrev pub sent_of : Sent → Outcome Written
-sent_of (Segment n l) = accepted (record { size = n; last = l })
-sent_of FragmentLength = refused 16
-sent_of OutputTooSmall = refused 33
+-- the number of each refusal
+abbrev pub send_refusal_of : SendRefusal → ℕ
+send_refusal_of FragmentLength = 16
+send_refusal_of OutputTooSmall = 33
+
+abbrev pub sent_of : Result SentSegment SendRefusal → Outcome Written
+sent_of (Ok s) = accepted (record { size = s.size; last = s.last })
+sent_of (Err why) = refused (send_refusal_of why)
 
 -- a call that wrote the next segment of f, with this sender and these lent bytes before it, gives r and leaves these lent bytes
 pub record SegmentSent (r : Sending) (p : Sender) (f before after : List ℕ) : Type 0 where

@@ -4,9 +4,8 @@
 ghost use Rattle.std.specs.Prelude.{◌≡◌, ◌+◌, ◌-◌, ◌≤◌, ◌<◌, ◌%◌, length};
 ghost use Rattle.laws.specs.Limits.{segment_data_max, fragment_max};
 ghost use Rattle.laws.specs.Lists.{same};
-ghost use Rattle.laws.specs.Outcome.{number_of};
 ghost use Rattle.octets.specs.Bytes.{splice};
-ghost use Rattle.transport.specs.Segment.{bit_of, transport_header, next_sequence};
+ghost use Rattle.transport.specs.Segment.{transport_header, next_sequence};
 ghost use Rattle.transport.specs.Receive.{
   idle,
   last_segment,
@@ -41,7 +40,8 @@ pub const FRAGMENT_MAX: usize = 2048;
 pub struct TransportSequence(pub u8);
 
 // What is kept between segments: whether a fragment is begun; of the last segment taken its sequence, whether it had FIR, and how many bytes of data;
-// and how many bytes the fragment has so far, the first of the lent bytes.
+// and how many bytes the fragment has so far, the first of the lent bytes. No Option: a C host keeps these fields, and where nothing is begun a
+// refusal gives back the others as they came (`pomarisco_segment_receive`, by `TookSegment`).
 #[derive(Clone, Copy)]
 pub struct Assembly {
     pub begun: bool,
@@ -51,13 +51,9 @@ pub struct Assembly {
     pub len: usize,
 }
 
-// What taking a segment answers.
-#[derive(Clone, Copy)]
-pub enum Received {
-    // The fragment goes on.
-    More,
-    // The fragment is complete, so many bytes.
-    Fragment(usize),
+// Why a segment is not taken.
+#[derive(Clone, Copy, Debug, PartialEq, Eq)]
+pub enum SegmentRefusal {
     // 21: segment with no data, or over 249.
     SegmentLength,
     // 22: no FIR and nothing begun, or sequence not next and not the last segment heard twice. The unfinished fragment is forgotten.
@@ -68,33 +64,27 @@ pub enum Received {
     OutputTooSmall,
 }
 
-// Document 01's number of a refusal; 0 for a segment that was taken.
-pub fn received_number(x: Received) -> u8
-    ensures { result ≡ number_of (received_of x) }
-{
-    match x {
-        Received::More => 0,
-        Received::Fragment(_) => 0,
-        Received::SegmentLength => 21,
-        Received::OutOfSequence => 22,
-        Received::FragmentTooLong => 23,
-        Received::OutputTooSmall => 33,
+impl SegmentRefusal {
+    ghost use Rattle.transport.specs.Receive.{segment_refusal_of};
+
+    // Document 01's number.
+    pub fn number(self) -> u8
+        ensures { result ≡ segment_refusal_of self }
+    {
+        match self {
+            SegmentRefusal::SegmentLength => 21,
+            SegmentRefusal::OutOfSequence => 22,
+            SegmentRefusal::FragmentTooLong => 23,
+            SegmentRefusal::OutputTooSmall => 33,
+        }
     }
 }
 
+// What taking a segment answers, and what is kept after it. The answer has the fragment's length where it is complete, and none where it goes on.
 #[derive(Clone, Copy)]
 pub struct Reception {
-    pub answer: Received,
+    pub answer: Result<Option<usize>, SegmentRefusal>,
     pub assembly: Assembly,
-}
-
-// Where a segment's data goes in the fragment; the last segment heard twice goes nowhere.
-#[derive(Clone, Copy)]
-pub enum DataPlace {
-    Behind(usize),
-    Ignored,
-    NotNext,
-    TooLong,
 }
 
 // Nothing begun: what a restart leaves.
@@ -125,31 +115,32 @@ fn repeats(a: Assembly, segment: &[u8], lent: &[u8]) -> bool
     if segment[0] != transport_header(a.last_fir, false, a.last) {
         return false;
     }
-    let to = octets::least(a.len, lent.len());
-    let from = octets::least(a.len - octets::least(a.last_len, a.len), to);
+    let to = a.len.min(lent.len());
+    let from = a.len.saturating_sub(a.last_len).min(to);
     octets::equal(&segment[1..], &lent[from..to])
 }
 
-// Where the data of a segment without FIR goes.
-fn placed(a: Assembly, segment: &[u8], lent: &[u8]) -> DataPlace
+// Behind how many bytes the data of a segment without FIR goes; the last segment heard twice goes nowhere.
+#[tactic(auto, unfolding(crate::specs::Receive::places))]
+fn placed(a: Assembly, segment: &[u8], lent: &[u8]) -> Result<Option<usize>, SegmentRefusal>
     requires { (2 ≤ length segment.now) × (length segment.now ≤ segment_data_max + 1) }
     ensures { place_of result ≡ places a lent.now segment.now }
 {
     if !a.begun {
-        return DataPlace::NotNext;
+        return Err(SegmentRefusal::OutOfSequence);
     }
     if repeats(a, segment, lent) {
-        return DataPlace::Ignored;
+        return Ok(None);
     }
     let q = next_sequence(a.last);
     if segment[0] % 64 != q.0 {
-        return DataPlace::NotNext;
+        return Err(SegmentRefusal::OutOfSequence);
     }
-    let len = octets::least(a.len, FRAGMENT_MAX);
+    let len = a.len.min(FRAGMENT_MAX);
     if FRAGMENT_MAX < len + (segment.len() - 1) {
-        return DataPlace::TooLong;
+        return Err(SegmentRefusal::FragmentTooLong);
     }
-    DataPlace::Behind(len)
+    Ok(Some(len))
 }
 
 // What is kept and answered once n bytes are in the fragment, the last m of them just now.
@@ -158,12 +149,12 @@ fn progressed(header: u8, n: usize, m: usize) -> Reception
 {
     if header / 128 % 2 == 1 {
         return Reception {
-            answer: Received::Fragment(n),
+            answer: Ok(Some(n)),
             assembly: nothing_begun(),
         };
     }
     Reception {
-        answer: Received::More,
+        answer: Ok(None),
         assembly: Assembly {
             begun: true,
             last: TransportSequence(header % 64),
@@ -175,24 +166,19 @@ fn progressed(header: u8, n: usize, m: usize) -> Reception
 }
 
 // Takes a segment into the fragment whose bytes so far are the first of the lent bytes.
+#[tactic(auto, unfolding(crate::specs::Receive::receiving))]
 pub fn receive(a: Assembly, segment: &[u8], out: &mut [u8]) -> Reception
     ensures { SegmentReceived result a segment.now out.old out.new }
 {
     if out.len() < FRAGMENT_MAX {
         return Reception {
-            answer: Received::OutputTooSmall,
+            answer: Err(SegmentRefusal::OutputTooSmall),
             assembly: a,
         };
     }
-    if segment.len() < 2 {
+    if segment.len() < 2 || SEGMENT_MAX < segment.len() {
         return Reception {
-            answer: Received::SegmentLength,
-            assembly: a,
-        };
-    }
-    if SEGMENT_MAX < segment.len() {
-        return Reception {
-            answer: Received::SegmentLength,
+            answer: Err(SegmentRefusal::SegmentLength),
             assembly: a,
         };
     }
@@ -202,22 +188,17 @@ pub fn receive(a: Assembly, segment: &[u8], out: &mut [u8]) -> Reception
         octets::copy(out, 0, &segment[1..]);
         return progressed(header, n, n);
     }
-    let p = placed(a, segment, out);
-    match p {
-        DataPlace::Behind(at) => {
+    match placed(a, segment, out) {
+        Ok(Some(at)) => {
             octets::copy(out, at, &segment[1..]);
             progressed(header, at + n, n)
         }
-        DataPlace::Ignored => Reception {
-            answer: Received::More,
+        Ok(None) => Reception {
+            answer: Ok(None),
             assembly: a,
         },
-        DataPlace::NotNext => Reception {
-            answer: Received::OutOfSequence,
-            assembly: nothing_begun(),
-        },
-        DataPlace::TooLong => Reception {
-            answer: Received::FragmentTooLong,
+        Err(why) => Reception {
+            answer: Err(why),
             assembly: nothing_begun(),
         },
     }
@@ -230,31 +211,40 @@ pub struct Sender {
     pub at: usize,
 }
 
-// What writing a segment answers.
-#[derive(Clone, Copy)]
-pub enum Sent {
-    // So many bytes were written, and whether they are the fragment's last segment.
-    Segment { size: usize, last: bool },
+// A segment that was written: its size, and whether it is the fragment's last.
+#[derive(Clone, Copy, Debug, PartialEq, Eq)]
+pub struct SentSegment {
+    pub size: usize,
+    pub last: bool,
+}
+
+// Why no segment is written.
+#[derive(Clone, Copy, Debug, PartialEq, Eq)]
+pub enum SendRefusal {
     // 16: a fragment of 0 or over 2,048 bytes.
     FragmentLength,
     // 33: under 250 lent bytes.
     OutputTooSmall,
 }
 
-// Document 01's number of a refusal; 0 for a segment that was written.
-pub fn sent_number(x: Sent) -> u8
-    ensures { result ≡ number_of (sent_of x) }
-{
-    match x {
-        Sent::Segment { size: _, last: _ } => 0,
-        Sent::FragmentLength => 16,
-        Sent::OutputTooSmall => 33,
+impl SendRefusal {
+    ghost use Rattle.transport.specs.Send.{send_refusal_of};
+
+    // Document 01's number.
+    pub fn number(self) -> u8
+        ensures { result ≡ send_refusal_of self }
+    {
+        match self {
+            SendRefusal::FragmentLength => 16,
+            SendRefusal::OutputTooSmall => 33,
+        }
     }
 }
 
+// What writing a segment answers, and the sender after it.
 #[derive(Clone, Copy)]
 pub struct Sending {
-    pub answer: Sent,
+    pub answer: Result<SentSegment, SendRefusal>,
     pub sender: Sender,
 }
 
@@ -268,17 +258,12 @@ pub fn nothing_sent() -> Sender
     }
 }
 
-fn bit(b: bool) -> u8
-    ensures { (result ≡ bit_of b) × (result ≤ 1) }
-{
-    if b { 1 } else { 0 }
-}
-
 // The transport byte.
+#[tactic(auto, unfolding(crate::specs::Segment::transport_header))]
 fn transport_header(first: bool, last: bool, q: TransportSequence) -> u8
     ensures { result ≡ transport_header first last q.0 }
 {
-    128 * bit(last) + 64 * bit(first) + q.0 % 64
+    128 * u8::from(last) + 64 * u8::from(first) + q.0 % 64
 }
 
 // Where the next segment begins: a place at or past the fragment's end begins it anew.
@@ -310,16 +295,16 @@ fn write_segment(p: Sender, fragment: &[u8], out: &mut [u8]) -> Sending
 {
     let n = fragment.len();
     let at = from(p.at, n);
-    let e = octets::least(at + SEGMENT_DATA_MAX, n);
+    let e = (at + SEGMENT_DATA_MAX).min(n);
     let last = n <= at + SEGMENT_DATA_MAX;
     let h = transport_header(at == 0, last, p.next);
     out[0] = h;
     octets::copy(out, 1, &fragment[at..e]);
     Sending {
-        answer: Sent::Segment {
+        answer: Ok(SentSegment {
             size: e - at + 1,
-            last: last,
-        },
+            last,
+        }),
         sender: Sender {
             next: next_sequence(p.next),
             at: after(at, n),
@@ -328,24 +313,19 @@ fn write_segment(p: Sender, fragment: &[u8], out: &mut [u8]) -> Sending
 }
 
 // Writes the next segment of the fragment at the front of the lent bytes.
+#[tactic(auto, unfolding(crate::specs::Send::sending))]
 pub fn send(p: Sender, fragment: &[u8], out: &mut [u8]) -> Sending
     ensures { SegmentSent result p fragment.now out.old out.new }
 {
     if out.len() < SEGMENT_MAX {
         return Sending {
-            answer: Sent::OutputTooSmall,
+            answer: Err(SendRefusal::OutputTooSmall),
             sender: p,
         };
     }
-    if fragment.len() < 1 {
+    if fragment.is_empty() || FRAGMENT_MAX < fragment.len() {
         return Sending {
-            answer: Sent::FragmentLength,
-            sender: p,
-        };
-    }
-    if FRAGMENT_MAX < fragment.len() {
-        return Sending {
-            answer: Sent::FragmentLength,
+            answer: Err(SendRefusal::FragmentLength),
             sender: p,
         };
     }

@@ -1,29 +1,21 @@
--- `application::write_fault` meets its contract: each fault by the tests that led there.
+-- `application::write_fault` meets its contract: std's `==` compares the six bytes.
 -- Assumes nothing.
-use mathlib.Core.Path.{sym, ◌∙◌}
-use borrow.Author.Tests.{lt-ltb, le-ltb, eq-eqb, ne_eqb}
-use Rattle.application.specs.Response.{write_fault}
+use mathlib.Core.Path.{◌≡◌}
+use mathlib.Core.Bool.{true, false}
+use borrow.Author.Tests.{le-ltb, eq-eqb}
+use Rattle.laws.specs.Lists.{same}
+use Rattle.laws.proofs.SameLaws.{same_as_eq}
+use Rattle.application.specs.Response.{clear_restart}
 use Rattle.application.proofs.write_fault.Goals as goal
 
-pub returns-then-objects-lt3 : goal.returns-then-objects-lt3
-unfolding write_fault
-returns-then-objects-lt3 c = rw (lt-ltb _ _ c.if-objects-lt3.true)
-
-pub returns-then-objects-ne80 : goal.returns-then-objects-ne80
-unfolding write_fault
-returns-then-objects-ne80 c = rw (le-ltb _ _ c.if-objects-lt3.false, ne_eqb _ _ c.if-objects-ne80.true)
-
-pub returns-then-objects-ne1 : goal.returns-then-objects-ne1
-unfolding write_fault
-returns-then-objects-ne1 c =
-    rw (le-ltb _ _ c.if-objects-lt3.false, eq-eqb _ _ c.if-objects-ne80.false, ne_eqb _ _ c.if-objects-ne1.true)
-
-pub returns-then-equal : goal.returns-then-equal
-unfolding write_fault
-returns-then-equal c =
-    rw (le-ltb _ _ c.if-objects-lt3.false, eq-eqb _ _ c.if-objects-ne80.false, eq-eqb _ _ c.if-objects-ne1.false, sym c.equal.ensures ∙ c.if-equal.true)
+pub returns-then-eq : goal.returns-then-eq
+returns-then-eq c =
+    let p = same_as_eq c.args.objects.now clear_restart in
+    let e : same c.args.objects.now clear_restart ≡ true = cc in
+    rw (le-ltb _ _ c.if-objects-lt3.false, eq-eqb _ _ c.if-objects-ne80.false, eq-eqb _ _ c.if-objects-ne1.false, e)
 
 pub returns : goal.returns
-unfolding write_fault
 returns c =
-    rw (le-ltb _ _ c.if-objects-lt3.false, eq-eqb _ _ c.if-objects-ne80.false, eq-eqb _ _ c.if-objects-ne1.false, sym c.equal.ensures ∙ c.if-equal.false)
+    let p = same_as_eq c.args.objects.now clear_restart in
+    let e : same c.args.objects.now clear_restart ≡ false = cc in
+    rw (le-ltb _ _ c.if-objects-lt3.false, eq-eqb _ _ c.if-objects-ne80.false, eq-eqb _ _ c.if-objects-ne1.false, e)

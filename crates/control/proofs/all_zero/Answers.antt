@@ -1,35 +1,25 @@
-use mathlib.Core.Path.{◌≡◌, refl, sym, ap, ◌∙◌}
-use native.Mathlib.Omega.{arith}
+-- `control::all_zero` meets its contract.
+-- Assumes nothing.
+use mathlib.Core.Path.{◌≡◌, refl, ap, ◌∙◌}
+use mathlib.Core.Bool.{Bool, ◌&&◌}
+use mathlib.Core.List.{List, [], ◌∷◌}
+use Prim.Native.Nat.{ℕ}
 use borrow.Author.Rules.{rules}
-use lib.ListN.{length}
-use Rattle.laws.proofs.Filling.{clamped}
+use borrow.Author.Tests.{tests}
+use lib.Dec.{eqb}
+use Rattle.std.specs.List.{list_all}
+use Rattle.std.proofs.lemmas.Iterator.{YieldsList-from_slice, YieldsList-from_take}
+use Rattle.std.proofs.lemmas.Iterator.Search.{all_from_yields_List}
 use Rattle.control.specs.Status.{all_zero}
-use Rattle.control.proofs.StatusLaws.{zero_more, zero-stop, zero-end}
 use Rattle.control.proofs.all_zero.Goals as goal
 
-pub loop-i-init : goal.loop-i-init
-loop-i-init c = (refl, omega arith)
-
-pub returns-then-ss-i-ne0 : goal.returns-then-ss-i-ne0
-returns-then-ss-i-ne0 c =
-    let n = c.filled-n.result in
-    let few = c.filled-n.ensures in
-    let a = c.args in
-    let k : length a.ss ≡ 8 = search rules in
-    sym (zero-stop a.ss n c.loop-i.i (omega arith) (omega arith) c.if-ss-i-ne0.true) ∙ c.loop-i.invariant.0 ∙ ap all_zero (clamped a.ss 8 a.count n k few)
-
-pub loop-i-preserved : goal.loop-i-preserved
-loop-i-preserved c =
-    let n = c.filled-n.result in
-    let few = c.filled-n.ensures in
-    let a = c.args in
-    let k : length a.ss ≡ 8 = search rules in
-    (zero_more a.ss n c.loop-i.i (omega arith) (omega arith) c.if-ss-i-ne0.false ∙ c.loop-i.invariant.0, omega arith)
+each : (ss : List ℕ) → list_all (λ s. eqb s 0) ss ≡ all_zero ss
+unfolding all_zero
+each [] = refl
+each (s ∷ ss) = ap (λ (t : Bool). eqb s 0 && t) (each ss)
 
 pub returns : goal.returns
 returns c =
-    let n = c.filled-n.result in
-    let few = c.filled-n.ensures in
-    let a = c.args in
-    let k : length a.ss ≡ 8 = search rules in
-    sym (zero-end a.ss n c.loop-i.i (omega arith) (omega arith)) ∙ c.loop-i.invariant.0 ∙ ap all_zero (clamped a.ss 8 a.count n k few)
+    all_from_yields_List (λ s. eqb s 0) _ _ _ c.all.ensures.ran
+    (YieldsList-from_take c.args.count (YieldsList-from_slice c.args.ss (cc (c.take.ensures.source, c.iter.ensures.rest))) c.take.ensures.count) (λ x b q k. search (rules, tests))
+    ∙ each _

@@ -12,6 +12,3 @@ abbrev pub invariant-loop-i : goal.invariant-loop-i
 invariant-loop-i l =
     (splice l.out (l.at + l.from) (echoed l.w l.z (drop l.i (take l.n l.ss)) (drop l.from l.b)) ≡ splice l.initial.out l.at (echoed l.w l.z (take l.n l.ss) l.b)) × (length l.out ≡ length l.initial.out)
     × (l.i ≤ l.n) × (l.from + span l.w l.z (l.n - l.i) ≡ span l.w l.z l.n)
-
-abbrev pub decreases-loop-i : goal.decreases-loop-i
-decreases-loop-i l = l.n - l.i

@@ -15,15 +15,15 @@ use Rattle.control.proofs.statuses.Goals as goal
 pub loop-i-init : goal.loop-i-init
 loop-i-init c =
     let a = c.args in
-    (ap (λ (e : List ℕ). statuses (outputs_of a.counts a.ws.now) e (take c.filled-n.result a.cs.items)) (earlier-start a.cs.items), refl, omega arith)
+    (ap (λ (e : List ℕ). statuses (outputs_of a.counts a.ws.now) e (take c.min-n.result a.cs.items)) (earlier-start a.cs.items), refl, omega arith)
 
 pub bounds-cs-i : goal.bounds-cs-i
 bounds-cs-i c = search (length-mapped, rules)
 
 pub loop-i-preserved : goal.loop-i-preserved
 loop-i-preserved c =
-    let n = c.filled-n.result in
-    let few = c.filled-n.ensures in
+    let n = c.min-n.result in
+    let few = c.min-n.ensures in
     let a = c.args in
     let h : length a.cs.items ≡ 8 = search (length-mapped, rules) in
     let v = c.status.ensures ∙ ap (λ (t : Bool). status_of (outputs_of a.counts a.ws.now) t (get_or a.cs.items c.loop-i.i no_object)) c.seen.ensures in (
@@ -38,8 +38,8 @@ loop-i-preserved c =
 pub returns : goal.returns
 unfolding list_of
 returns c =
-    let n = c.filled-n.result in
-    let few = c.filled-n.ensures in
+    let n = c.min-n.result in
+    let few = c.min-n.ensures in
     let a = c.args in
     let h : length a.cs.items ≡ 8 = search (length-mapped, rules) in
     let e : n ≡ c.loop-i.i = omega arith in (

@@ -9,7 +9,4 @@ use Rattle.control.proofs.taken.Given as goal
 
 abbrev pub invariant-loop-i : goal.invariant-loop-i
 invariant-loop-i l =
-    (take l.i l.next.items ++ objects l.kind l.w (l.n - l.i) (drop l.at l.b) ≡ objects l.kind l.w l.n l.b) × (length l.next.items ≡ 8) × (l.i ≤ l.n) × (l.at + span l.w (value_size l.kind) (l.n - l.i) ≤ length l.b)
-
-abbrev pub decreases-loop-i : goal.decreases-loop-i
-decreases-loop-i l = l.n - l.i
+    (take l.i l.next.items ++ objects l.x.kind l.x.width (l.x.count - l.i) (drop l.at l.b) ≡ objects l.x.kind l.x.width l.x.count l.b) × (length l.next.items ≡ 8) × (l.i ≤ l.x.count) × (l.at + span l.x.width (value_size l.x.kind) (l.x.count - l.i) ≤ length l.b)

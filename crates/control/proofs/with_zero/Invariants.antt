@@ -2,7 +2,7 @@
 -- Assumes nothing.
 use mathlib.Core.Path.{◌≡◌}
 use mathlib.Core.List.{◌++◌}
-use Prim.Native.Nat.{◌≤◌, ◌-◌}
+use Prim.Native.Nat.{◌≤◌}
 use lib.ListN.{length, take, drop}
 use Rattle.control.specs.Status.{chosen}
 use Rattle.control.proofs.with_zero.Given as goal
@@ -11,6 +11,3 @@ abbrev pub invariant-loop-i : goal.invariant-loop-i
 invariant-loop-i l =
     (take l.j l.next.items ++ chosen (drop l.i (take l.n l.cs.items)) (drop l.i (take l.n l.ss)) ≡ chosen (take l.n l.cs.items) (take l.n l.ss)) × (length l.next.items ≡ 8)
     × (l.j ≤ l.i) × (l.i ≤ l.n)
-
-abbrev pub decreases-loop-i : goal.decreases-loop-i
-decreases-loop-i l = l.n - l.i

@@ -1,7 +1,6 @@
 use mathlib.Core.Path.{◌≡◌, refl}
 use Prim.Native.Nat.{◌+◌, ◌-◌, ◌*◌, ◌<◌, ◌≤◌}
 use native.Mathlib.Omega.{arith}
-use borrow.Author.Rules.{rules}
 use lib.Bits.{xor_zero_r}
 use lib.ListN.{length, get_or, drop, drop_of_length-le}
 use Rattle.crc.specs.Check.{shifts, remainder}
@@ -9,7 +8,7 @@ use Rattle.crc.proofs.Laws.{xor_assoc, remainder-nil, remainder-at, remainder-tw
 use Rattle.crc.proofs.eight_in.Goals as goal
 
 pub loop-place-init : goal.loop-place-init
-loop-place-init c = (refl, search rules)
+loop-place-init c = refl
 
 pub loop-place-preserved : goal.loop-place-preserved
 loop-place-preserved c =
@@ -17,7 +16,7 @@ loop-place-preserved c =
     let k = c.loop-place.place in
     let h : k < length s = omega arith in
     let w : 8 * (length s - k) ≡ 64 - 8 * k = omega arith in
-    (cc (w, remainder-at k s h, xor_assoc c.loop-place.q (shifts (64 - 8 * k) (get_or s k 0)) (remainder 0 (drop (k + 1) s))), omega arith)
+    cc (w, remainder-at k s h, xor_assoc c.loop-place.q (shifts (64 - 8 * k) (get_or s k 0)) (remainder 0 (drop (k + 1) s)))
 
 pub returns : goal.returns
 returns c =

@@ -3,8 +3,8 @@
 use mathlib.Core.Path.{sym, ◌∙◌}
 use Rattle.effects.proofs.write_effect.Goals as goal
 
-pub returns-then-is_faultless : goal.returns-then-is_faultless
-returns-then-is_faultless c = λ w lent. rw (← c.write_fault-fault.ensures, sym c.is_faultless.ensures ∙ c.if-is_faultless.true) (c.plain_effect.ensures w lent)
+pub returns-in-None : goal.returns-in-None
+returns-in-None c = λ w lent. rw (sym c.write_fault.ensures ∙ c.in-None.is) (c.plain_effect.ensures w lent)
 
-pub returns-else-is_faultless : goal.returns-else-is_faultless
-returns-else-is_faultless c = λ w lent. rw (← c.write_fault-fault.ensures, sym c.is_faultless.ensures ∙ c.if-is_faultless.false) (c.plain_effect-else-is_faultless.ensures w lent)
+pub returns-in-Some : goal.returns-in-Some
+returns-in-Some c = λ w lent. rw (sym c.write_fault.ensures ∙ c.in-Some.is) (c.plain_effect-in-Some.ensures w lent)

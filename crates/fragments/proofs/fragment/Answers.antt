@@ -1,6 +1,7 @@
 -- `fragments::fragment` meets its contract.
 -- Assumes nothing.
-use mathlib.Core.Path.{◌≡◌, sym, ◌∙◌}
+use mathlib.Core.Path.{◌≡◌, sym, ap, ◌∙◌}
+use Rattle.std.specs.Prelude.{Some}
 use mathlib.Core.Bool.{false}
 use borrow.Author.Tests.{lt-ltb, le-ltb}
 use lib.Dec.{ltb}
@@ -9,7 +10,7 @@ use Rattle.laws.specs.Limits.{fragment_max}
 use Rattle.outstation.specs.Readings.{bad_time}
 use Rattle.outstation.specs.OutstationView.{OutstationView}
 use Rattle.fragments.specs.declared.FragmentRefusal.TheVariants as R
-use Rattle.fragments.proofs.AskLaws.{request-sized, fragment-late, fragment-small, fragment-malformed, fragment-confirm, fragment-request}
+use Rattle.fragments.proofs.AskLaws.{fragment-late, fragment-small, fragment-malformed, fragment-confirm, fragment-request}
 use Rattle.outstation.specs.Lent.{Lent, Outstation, view_of}
 use Rattle.fragments.specs.FragmentMeets.{FragmentMeets, answered_by}
 use Rattle.fragments.proofs.PartLaws.{given-in, refused-in}
@@ -55,26 +56,21 @@ returns-then-out-lt-FRAGMENT_MAX c =
     (given-in a.h (mem (goal.at.returns-then-out-lt-FRAGMENT_MAX c).Start) (mem (goal.at.returns-then-out-lt-FRAGMENT_MAX c).Start) c.refuse-then-out-lt-FRAGMENT_MAX.result a.out.now a.out.now _
     (refused-in c.refuse-then-out-lt-FRAGMENT_MAX.result a.h R.OutputTooSmall c.refuse-then-out-lt-FRAGMENT_MAX.ensures.0 c.refuse-then-out-lt-FRAGMENT_MAX.ensures.1 c.refuse-then-out-lt-FRAGMENT_MAX.ensures.2 (mem (goal.at.returns-then-out-lt-FRAGMENT_MAX c).Start) a.out.now))
 
-pub take_request-requires : goal.take_request-requires
-take_request-requires c =
-    let z = request-sized (start (goal.at.take_request-requires c).After-classify).args.f.now c.classify.result c.in-Request.sequence c.in-Request.function c.classify.ensures c.in-Request.is in
-    (z.0, z.1, c.if-out-lt-FRAGMENT_MAX.false)
-
-pub returns-in-Malformed : goal.returns-in-Malformed
-returns-in-Malformed c =
-    let s = start (goal.at.returns-in-Malformed c).After-classify in
+pub returns-in_default : goal.returns-in_default
+returns-in_default c =
+    let s = start (goal.at.returns-in_default c).After-classify in
     let a = s.args in
-    fragment-malformed (was s) a.time a.f.now (length a.out.now) (FragmentMeets (unit s) (answered_by c.refuse-in-Malformed.result (mem s)) a.out.now a.out.now)
-    (in-time (goal.at.returns-in-Malformed c).After-classify) (roomy (goal.at.returns-in-Malformed c).After-classify) c.classify.result c.classify.ensures c.in-Malformed.is
-    (given-in a.h (mem s) (mem s) c.refuse-in-Malformed.result a.out.now a.out.now _
-    (refused-in c.refuse-in-Malformed.result a.h R.Malformed c.refuse-in-Malformed.ensures.0 c.refuse-in-Malformed.ensures.1 c.refuse-in-Malformed.ensures.2 (mem s) a.out.now))
+    fragment-malformed (was s) a.time a.f.now (length a.out.now) (FragmentMeets (unit s) (answered_by c.refuse-in_default.result (mem s)) a.out.now a.out.now)
+    (in-time (goal.at.returns-in_default c).After-classify) (roomy (goal.at.returns-in_default c).After-classify) c.classify.result c.classify.ensures c.in_default.is
+    (given-in a.h (mem s) (mem s) c.refuse-in_default.result a.out.now a.out.now _
+    (refused-in c.refuse-in_default.result a.h R.Malformed c.refuse-in_default.ensures.0 c.refuse-in_default.ensures.1 c.refuse-in_default.ensures.2 (mem s) a.out.now))
 
 pub returns-in-Confirm : goal.returns-in-Confirm
 returns-in-Confirm c =
     let s = start (goal.at.returns-in-Confirm c).After-classify in
     let a = s.args in
     fragment-confirm (was s) a.time a.f.now (length a.out.now) (FragmentMeets (unit s) (answered_by c.take_confirm.result _) a.out.now a.out.now)
-    (in-time (goal.at.returns-in-Confirm c).After-classify) (roomy (goal.at.returns-in-Confirm c).After-classify) c.classify.result c.classify.ensures c.in-Confirm.sequence c.in-Confirm.unsolicited c.in-Confirm.is (given-in a.h (mem s) _ c.take_confirm.result a.out.now a.out.now _ (c.take_confirm.ensures (mem s) a.out.now))
+    (in-time (goal.at.returns-in-Confirm c).After-classify) (roomy (goal.at.returns-in-Confirm c).After-classify) c.classify.result c.classify.ensures c.in-Confirm.sequence c.in-Confirm.unsolicited (c.in-Some.is ∙ ap Some c.in-Confirm.is) (given-in a.h (mem s) _ c.take_confirm.result a.out.now a.out.now _ (c.take_confirm.ensures (mem s) a.out.now))
 
 pub returns-in-Request : goal.returns-in-Request
 returns-in-Request c =
@@ -82,4 +78,4 @@ returns-in-Request c =
     let a = s.args in
     let r = c.take_request in
     fragment-request (was s) a.time a.f.now (length a.out.now) (FragmentMeets (unit s) (answered_by r.result _) a.out.now _)
-    (in-time (goal.at.returns-in-Request c).After-classify) (roomy (goal.at.returns-in-Request c).After-classify) c.classify.result c.classify.ensures c.in-Request.sequence c.in-Request.function c.in-Request.is (given-in a.h (mem s) _ r.result a.out.now _ _ r.ensures)
+    (in-time (goal.at.returns-in-Request c).After-classify) (roomy (goal.at.returns-in-Request c).After-classify) c.classify.result c.classify.ensures c.in-Request.sequence c.in-Request.function (c.in-Some.is ∙ ap Some c.in-Request.is) (given-in a.h (mem s) _ r.result a.out.now _ _ r.ensures)

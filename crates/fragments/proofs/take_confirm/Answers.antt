@@ -14,4 +14,4 @@ returns-in-None c =
 pub returns-in-Some : goal.returns-in-Some
 returns-in-Some c =
     let a = c.args in
-    confirm-in a.h a.held.now a.q.0 a.uns a.time _ c.confirm.result (Some c.in-Some.c) c.wait_of.ensures c.confirm.ensures c.in-Some.is c.accept_confirm.result _ c.accept_confirm.ensures
+    confirm-in a.h a.held.now a.q.0 a.uns a.time _ c.confirm.result (Some c.in-Some.a) c.wait_of.ensures c.confirm.ensures c.in-Some.is c.accept_confirm.result _ c.accept_confirm.ensures

@@ -1,41 +1,33 @@
-use mathlib.Core.Path.{◌≡◌, refl, sym, ap, ◌∙◌}
+use mathlib.Core.Path.{◌≡◌, sym, ap, ◌∙◌}
 use native.Mathlib.Omega.{arith}
-use Prim.Native.Nat.{ℕ, suc, ◌+◌, ◌-◌, ◌*◌}
+use borrow.Author.Rules.{rules}
+use Prim.Native.Nat.{ℕ, ◌+◌, ◌-◌, ◌*◌}
 use lib.ListN.{drop}
-use borrow.Author.Tests.{not-true, not-false}
 use Rattle.frame.specs.Frame.{first_wrong}
 use Rattle.frame.proofs.Laws.{wrong-turn, wrong-stop, wrong-none}
 use Rattle.frame.proofs.first_wrong.Goals as goal
 
-pub loop-left-init : goal.loop-left-init
-loop-left-init c =
-    let a = c.args in
-    let z : a.k - a.k ≡ 0 = omega arith in
-    let e : first_wrong a.k (drop (18 * (a.k - a.k)) a.b.now) ≡ first_wrong a.k a.b.now = rw z refl in
-    (omega (arith, e), omega arith)
-
 pub returns-then-not-crc_ok : goal.returns-then-not-crc_ok
 returns-then-not-crc_ok c =
     let a = c.args in
-    let at = 18 * (a.k - c.loop-left.left) in
-    let e = c.least-e in
-    let t = sym c.crc_ok.ensures ∙ not-true _ c.if-not-crc_ok.true-raw in
-    let z = wrong-stop at e.result c.loop-left.left a.b.now (omega arith) (omega arith) e.ensures t in
-    omega (arith, z, c.loop-left.invariant.0)
+    let i = c.loop-i.i in
+    let t = sym c.crc_ok.ensures ∙ c.if-not-crc_ok.true in
+    let z = wrong-stop (18 * i) c.min-e.result (a.k - i) a.b.now (omega arith) (omega arith) c.min-e.ensures t in
+    let e : i ≡ first_wrong a.k a.b.now = omega (arith, z, c.loop-i.invariant) in
+    search rules
 
-pub loop-left-preserved : goal.loop-left-preserved
-loop-left-preserved c =
+pub loop-i-preserved : goal.loop-i-preserved
+loop-i-preserved c =
     let a = c.args in
-    let left = c.loop-left.left in
-    let at = 18 * (a.k - left) in
-    let e = c.least-e in
-    let t = sym c.crc_ok.ensures ∙ not-false _ c.if-not-crc_ok.false-raw in
-    let z = wrong-turn at e.result left a.b.now (omega arith) (omega arith) e.ensures t in
-    let n : at + 18 ≡ 18 * (a.k - (left - 1)) = omega arith in
-    let w = z ∙ ap (λ (m : ℕ). suc (first_wrong (left - 1) (drop m a.b.now))) n in
-    (omega (arith, w, c.loop-left.invariant.0), omega arith)
+    let i = c.loop-i.i in
+    let t = sym c.crc_ok.ensures ∙ c.if-not-crc_ok.false in
+    let z = wrong-turn (18 * i) c.min-e.result (a.k - i) a.b.now (omega arith) (omega arith) c.min-e.ensures t in
+    let n : 18 * i + 18 ≡ 18 * (i + 1) = omega arith in
+    let m : a.k - i - 1 ≡ a.k - (i + 1) = omega arith in
+    let w = ap (λ (x : ℕ). first_wrong x (drop (18 * i + 18) a.b.now)) m ∙ ap (λ (x : ℕ). first_wrong (a.k - (i + 1)) (drop x a.b.now)) n in
+    omega (arith, z, w, c.loop-i.invariant)
 
 pub returns : goal.returns
 returns c =
-    let z = wrong-none c.loop-left.left (drop (18 * (c.args.k - c.loop-left.left)) c.args.b.now) c.loop-left-test.false in
-    omega (arith, z, c.loop-left.invariant.0)
+    let z = wrong-none (c.args.k - c.loop-i.i) (drop (18 * c.loop-i.i) c.args.b.now) (omega arith) in
+    omega (arith, z, c.loop-i.invariant)

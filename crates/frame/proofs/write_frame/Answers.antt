@@ -1,6 +1,6 @@
 -- `frame::write_frame` meets its contract: the two refusals by their tests, and else the header with its check and the blocks next to it.
 -- Assumes nothing.
-use mathlib.Core.Path.{refl, sym, ap}
+use mathlib.Core.Path.{refl, ap}
 use native.Mathlib.Omega.{arith}
 use lib.ListN.{length}
 use Rattle.laws.specs.Outcome.{accepted, refused}
@@ -22,4 +22,4 @@ pub returns : goal.returns
 returns c =
     let a = c.args in
     let f : Parts = parts a.control a.destination a.source a.user.now in
-    written-by _ _ a.out.now _ (accepted (encode f)) (into (length a.out.now) f (omega arith) (omega arith)) (ap accepted (sym (length-encode f))) (cc (splice-encode a.out.now f))
+    written-by _ _ a.out.now _ (accepted (encode f)) (into (length a.out.now) f (omega arith) (omega arith)) (ap accepted (omega (arith, length-encode f))) (cc (splice-encode a.out.now f))

@@ -1,55 +1,60 @@
 -- `link::take_frame` meets its contract: what was checked is decided, and only user data that is handed on is copied.
 -- Assumes nothing.
-use mathlib.Core.Path.{◌≡◌, refl, sym, ap, ◌∙◌, subst}
-use mathlib.Core.Logic.{inl, inr}
-use Prim.Native.Nat.{ℕ}
-use native.Mathlib.Omega.{arith}
+use mathlib.Core.Path.{◌≡◌, refl, sym, ap, ◌∙◌}
 use lib.ListN.{length}
+use Rattle.std.specs.Prelude.{Result, Ok, Err}
+use Rattle.std.proofs.lemmas.Result.{err_from_is_err_and}
 use Rattle.frame.specs.FrameOutcome.{refused_by}
 use Rattle.frame.specs.Frame.{checked_of}
 use Rattle.link.specs.declared.Taken.{Taken}
-use Rattle.link.specs.declared.Taken.TheVariants as Ts
-use Rattle.link.specs.Station.{station, takes, taken_of}
-use Rattle.link.proofs.Laws.{station-lent, station-is, taken-by, NoData, after-check-other, Handed, after-check-data, handed-right}
+use Rattle.link.specs.declared.Taken.TheVariants.{UserData, Reply}
+use Rattle.link.specs.declared.TakeRefusal.{TakeRefusal}
+use Rattle.link.specs.Station.{station, takes, after_check}
+use Rattle.link.proofs.Laws.{station-lent, station-is, taken-by, Promised, after-check, handed-right}
 use Rattle.link.proofs.take_frame.Goals as goal
-use Rattle.link.proofs.take_frame.Goals.{After-check_frame-r, In-UserData}
+use Rattle.link.proofs.take_frame.Goals.{In_ok-f}
 
 -- the outcome is that of the frame that was checked
-decided : (m : After-check_frame-r) → let a = m.args in station (length a.out.now) a.st a.s.now ≡ takes a.st (checked_of m.check_frame-r.result a.s.now)
-decided m =
+outcome : (m : In_ok-f) → let a = m.args in station (length a.out.now) a.st a.s.now ≡ takes a.st (checked_of (Ok m.in_ok-f.f) a.s.now)
+outcome m =
     let a = m.args in
-    station-is (length a.out.now) a.st a.s.now m.check_frame-r.result m.if-out-lt-USER_MAX.false m.check_frame-r.ensures.0
+    station-is (length a.out.now) a.st a.s.now (Ok m.in_ok-f.f) m.if-out-lt-USER_MAX.false m.in_ok-f.ensures.0
 
-handed : (u : In-UserData) → let a = u.args in Handed (takes a.st (checked_of u.check_frame-r.result a.s.now)) a.s.now u.in-UserData.n
-handed u =
-    let a = u.args in
-    after-check-data a.st u.check_frame-r.result a.s.now u.in-UserData.n u.check_frame-r.ensures.1 (sym u.after_check-t.ensures ∙ u.in-UserData.is)
-
--- any other answer hands nothing on
-no-data : (t : Taken) → ((n : ℕ) → t ≡ Ts.UserData n → ⊥) → NoData t
-no-data (Ts.UserData n) h = absurd (h n refl)
-no-data (Ts.Reply c) h = inl refl
-no-data (Ts.Refused why) h = inr (inl refl)
-no-data Ts.NotTaken h = inr (inr refl)
+-- and the answer, that of its fields, is what is promised of it
+promised : (m : In_ok-f) (t : Result Taken TakeRefusal) → let a = m.args in t ≡ after_check a.st (Ok m.in_ok-f.f)
+    → Promised t (takes a.st (checked_of (Ok m.in_ok-f.f) a.s.now)) a.s.now a.out.now
+promised m t e =
+    let a = m.args in
+    rw e (after-check a.st (Ok m.in_ok-f.f) a.s.now a.out.now m.in_ok-f.ensures.1)
 
 pub returns-then-out-lt-USER_MAX : goal.returns-then-out-lt-USER_MAX
 returns-then-out-lt-USER_MAX c =
     let a = c.args in
     taken-by _ _ _ a.out.now _ (refused_by 33) (station-lent (length a.out.now) a.st a.s.now c.if-out-lt-USER_MAX.true) (refl, refl)
 
+pub returns-in_err-f : goal.returns-in_err-f
+returns-in_err-f c =
+    let a = c.args in
+    let p = err_from_is_err_and c.from_residual.result c.from_residual.ensures.1 in
+    let e = station-is (length a.out.now) a.st a.s.now (Err c.in_err-f.field-0.0) c.if-out-lt-USER_MAX.false c.in_err-f.ensures.0 in
+    rw (p.1, p.2) (taken-by _ _ _ _ _ _ e (refl, refl))
+
+pub returns-in_err-taken : goal.returns-in_err-taken
+returns-in_err-taken c =
+    let m = (goal.at.returns-in_err-taken c).In_ok-f in
+    let p = err_from_is_err_and c.from_residual-in_err-taken.result c.from_residual-in_err-taken.ensures.1 in
+    rw (p.1, p.2) (taken-by _ _ _ _ _ _ (outcome m) (promised m _ c.in_err-taken.ensures))
+
+pub returns-in-UserData : goal.returns-in-UserData
+returns-in-UserData c =
+    let a = c.args in
+    let m = (goal.at.returns-in-UserData c).In_ok-f in
+    let w = promised m (Ok (UserData c.in-UserData.n)) (ap Ok (sym c.in-UserData.is) ∙ c.in_ok-taken.ensures) in
+    let t = handed-right c.in-UserData.n a.s.now a.out.now w.1.0 in
+    taken-by _ _ _ _ _ _ (outcome m ∙ w.1.1) (t.0, c.copy_user.ensures ∙ t.1)
+
 pub returns-in_default : goal.returns-in_default
 returns-in_default c =
-    let e = c.after_check-t.ensures in
-    let a = c.args in
-    let t = after-check-other a.st c.check_frame-r.result a.s.now a.out.now c.check_frame-r.ensures.1 (subst NoData e (no-data c.after_check-t.result c.in_default.not-UserData)) in
-    taken-by _ _ _ _ _ _ (decided (goal.at.returns-in_default c).After-check_frame-r) (ap taken_of e ∙ t.0, t.1)
-
-pub copy_user-requires : goal.copy_user-requires
-copy_user-requires c = let w = handed (goal.at.copy_user-requires c).In-UserData in (w.0, w.1.0, omega arith)
-
-pub returns : goal.returns
-returns c =
-    let a = c.args in
-    let w = handed (goal.at.returns c).In-UserData in
-    let t = handed-right c.in-UserData.n a.s.now a.out.now w.1.0 in
-    taken-by _ _ _ _ _ _ (decided (goal.at.returns c).After-check_frame-r ∙ w.1.1) (t.0, c.copy_user.ensures ∙ t.1)
+    let m = (goal.at.returns-in_default c).In_ok-f in
+    let is = c.in_default.is in
+    rw is (taken-by _ _ _ _ _ _ (outcome m) (promised m (Ok (Reply c.in_default.field-0)) (ap Ok (sym is) ∙ c.in_ok-taken.ensures)))

@@ -1,19 +1,5 @@
-use mathlib.Core.Path.{refl, sym, ◌∙◌}
-use Prim.Native.Nat.{◌+◌, zero-le}
-use native.Mathlib.Omega.{arith}
-use lib.ListN.{length-set}
-use Rattle.octets.proofs.Splice.{splice-start, splice-turn, splice-end}
+use Rattle.octets.proofs.Splice.{splice-put_mid}
 use Rattle.octets.proofs.copy.Goals as goal
 
-pub loop-i-init : goal.loop-i-init
-loop-i-init c = (splice-start c.args.d.now c.args.at c.args.s.now, refl, zero-le)
-
-pub loop-i-preserved : goal.loop-i-preserved
-loop-i-preserved c =
-    let a = c.args in
-    (splice-turn c.loop-i.d a.at c.loop-i.i a.s.now (omega arith) ∙ c.loop-i.invariant.0, simp length-set (omega arith), omega arith)
-
 pub returns : goal.returns
-returns c =
-    let a = c.args in
-    sym (splice-end c.loop-i.d (a.at + c.loop-i.i) c.loop-i.i a.s.now c.loop-i-test.false) ∙ c.loop-i.invariant.0
+returns c = rw c.copy_from_slice.ensures.after (splice-put_mid c.args.d.now c.args.at c.args.s.now c.requires)

@@ -18,7 +18,6 @@ returns-then-kept-gt-KEPT_MAX c = let a = c.args in (sym (kept-many a.kept a.mem
 pub returns-then-kept-lt-HEADER : goal.returns-then-kept-lt-HEADER
 returns-then-kept-lt-HEADER c =
     let a = c.args in
-    let l = c.memory_length.ensures in
     let b = begun-few a.kept a.memory.now c.if-kept-lt-HEADER.true (omega arith) in
     (sym (kept-is a.kept a.memory.now b.most b.waiting), b)
 

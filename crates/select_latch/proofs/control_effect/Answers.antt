@@ -7,9 +7,9 @@ use native.Mathlib.Omega.{arith}
 use lib.ListN.{length, take}
 use Rattle.octets.specs.Bytes.{splice}
 use Rattle.octets.proofs.Splice.{splice-nil}
-use Rattle.control.specs.declared.ObjectKind.{ObjectKind}
+use Rattle.control.specs.declared.Form.{Form}
 use Rattle.control.specs.declared.ControlObjects.{ControlObjects}
-use Rattle.control.specs.Objects.{value_size, HasObjects, Holding, objects}
+use Rattle.control.specs.Objects.{value_size, Holding, objects}
 use Rattle.control.specs.Status.{outputs_of, echo_of}
 use Rattle.control.proofs.FormLaws.{formed-fits}
 use Rattle.control.proofs.ObjectLaws.{objects-length}
@@ -17,62 +17,45 @@ use Rattle.select_latch.specs.declared.ControlGroup.{ControlGroup}
 use Rattle.select_latch.specs.Select.{latch_of, operate_status, statuses_by, echo_by, carried_by, latch_by}
 use Rattle.select_latch.proofs.Laws.{effect-wrong, effect-objects}
 use Rattle.select_latch.proofs.control_effect.Goals as goal
-use Rattle.select_latch.proofs.control_effect.Goals.{In-Objects}
-
--- what the header says, where it is right
-told : (m : In-Objects)
-    → HasObjects m.in-Objects.kind m.in-Objects.width m.in-Objects.count m.args.o.now
-told m = sym m.header.ensures ∙ m.in-Objects.is
 
 -- as many objects as the header says
-held-count : {c : ControlObjects} (k : ObjectKind) (w n : ℕ) (b : List ℕ) → Holding c (objects k w n b) → c.count ≡ n
-held-count k w n b h = h.count ∙ objects-length k w n b
-
-pub objects-cs-requires : goal.objects-cs-requires
-objects-cs-requires c = told (goal.at.objects-cs-requires c).In-Objects
+held-count : {c : ControlObjects} (x : Form) (b : List ℕ) → Holding c (objects x.kind x.width x.count b) → c.count ≡ x.count
+held-count x b h = h.count ∙ objects-length x.kind x.width x.count b
 
 pub statuses_by-ss-requires : goal.statuses_by-ss-requires
 statuses_by-ss-requires c =
-    let fit = formed-fits _ c.in-Objects.kind c.in-Objects.width c.in-Objects.count (told (goal.at.statuses_by-ss-requires c).In-Objects) in
-    let count = held-count c.in-Objects.kind c.in-Objects.width c.in-Objects.count _ c.objects-cs.ensures in
-    omega (arith, count, fit.few)
-
-pub answer-len-requires : goal.answer-len-requires
-answer-len-requires c = (c.requires, told (goal.at.answer-len-requires c).In-Objects)
+    let fit = formed-fits c.args.o.now c.in-Ok.x (sym c.header.ensures ∙ c.in-Ok.is) in
+    omega (arith, held-count c.in-Ok.x _ c.objects-cs.ensures, fit.few)
 
 pub latch_after-requires : goal.latch_after-requires
-latch_after-requires c =
-    (formed-fits _ _ _ _ (told (goal.at.latch_after-requires c).In-Objects)).short
+latch_after-requires c = (formed-fits c.args.o.now c.in-Ok.x (sym c.header.ensures ∙ c.in-Ok.is)).short
 
-pub returns-in-Wrong : goal.returns-in-Wrong
-returns-in-Wrong c =
+pub returns-in-Err : goal.returns-in-Err
+returns-in-Err c =
     let a = c.args in
     rw
-    (effect-wrong (outputs_of a.counts a.ws.now) a.arm_time (latch_of a.latch) a.f a.sequence.0 a.time a.o.now c.in-Wrong.fault
-    (sym c.header.ensures ∙ c.in-Wrong.is))
+    (effect-wrong (outputs_of a.counts a.ws.now) a.arm_time (latch_of a.latch) a.f a.sequence.0 a.time a.o.now c.in-Err.fault
+    (sym c.header.ensures ∙ c.in-Err.is))
     (record { fault = refl; len = refl; lent = sym (splice-nil a.out.now 4); carried = c.none.ensures; latch = c.empty.ensures.0; counted = c.empty.ensures.1 })
 
-pub returns-in-Objects : goal.returns-in-Objects
-returns-in-Objects c =
-    let an = c.answer-len in
-    let st = c.statuses_by-ss in
-    let op = c.operate_status-s in
-    let ob = c.objects-cs in
-    let gr = c.group_of-group in
+pub returns-in-Ok : goal.returns-in-Ok
+returns-in-Ok c =
     let a = c.args in
-    let u = outputs_of a.counts a.ws.now in
-    let cs = ob.ensures.objects in
-    let s = op.ensures ∙ ap (λ (g : ControlGroup). operate_status a.arm_time (latch_of a.latch) g a.sequence.0 a.time a.o.now) gr.ensures in
-    let by = st.ensures.0 ∙ ap₂ (statuses_by a.f u) s cs in
-    let ss = ap (λ (i : ℕ). take i st.result) (sym (held-count c.in-Objects.kind c.in-Objects.width c.in-Objects.count _ ob.ensures)) ∙ by in
-    rw (effect-objects u a.arm_time (latch_of a.latch) a.f a.sequence.0 a.time a.o.now c.in-Objects.kind c.in-Objects.width c.in-Objects.count (told (goal.at.returns-in-Objects c).In-Objects))
+    let x = c.in-Ok.x in
+    let cs = c.objects-cs.ensures.objects in
+    let s =
+    c.operate_status-s.ensures
+    ∙ ap (λ (g : ControlGroup). operate_status a.arm_time (latch_of a.latch) g a.sequence.0 a.time a.o.now) c.group_of-group.ensures in
+    let by = c.statuses_by-ss.ensures.0 ∙ ap₂ (statuses_by a.f (outputs_of a.counts a.ws.now)) s cs in
+    let ss = ap (λ (i : ℕ). take i c.statuses_by-ss.result) (sym (held-count x _ c.objects-cs.ensures)) ∙ by in
+    rw (effect-objects (outputs_of a.counts a.ws.now) a.arm_time (latch_of a.latch) a.f a.sequence.0 a.time a.o.now x (sym c.header.ensures ∙ c.in-Ok.is))
     (record {
       fault = refl;
-      len = an.ensures.1 ∙ ap (λ (x : List ℕ). length (echo_by a.f (echo_of c.in-Objects.width (value_size c.in-Objects.kind) x a.o.now))) ss;
-      lent = an.ensures.0 ∙ ap (λ (x : List ℕ). splice a.out.now 4 (echo_by a.f (echo_of c.in-Objects.width (value_size c.in-Objects.kind) x a.o.now))) ss;
+      len = c.answer-len.ensures.1 ∙ ap (λ (z : List ℕ). length (echo_by a.f (echo_of x.width (value_size x.kind) z a.o.now))) ss;
+      lent = c.answer-len.ensures.0 ∙ ap (λ (z : List ℕ). splice a.out.now 4 (echo_by a.f (echo_of x.width (value_size x.kind) z a.o.now))) ss;
       carried = rw (← ap₂ (carried_by a.f) cs by) c.carry.ensures;
       latch =
           c.latch_after.ensures.0
-          ∙ ap₂ (λ (g : ControlGroup) (x : List ℕ). latch_by a.f g x a.sequence.0 a.time a.o.now) gr.ensures ss;
+          ∙ ap₂ (λ (g : ControlGroup) (z : List ℕ). latch_by a.f g z a.sequence.0 a.time a.o.now) c.group_of-group.ensures ss;
       counted = c.latch_after.ensures.1;
     })

@@ -7,14 +7,12 @@ use lib.ListN.{length, replicate}
 use Rattle.laws.proofs.Loops.{length-mapped}
 use Rattle.laws.proofs.Filling.{take-replicate}
 use Rattle.control.proofs.ObjectLaws.{length-list_of}
+use Rattle.select_latch.proofs.Laws.{operate-is}
 use Rattle.select_latch.proofs.statuses_by.Goals as goal
 
-pub returns-then-is_operate : goal.returns-then-is_operate
-returns-then-is_operate c =
+pub returns-then-eq : goal.returns-then-eq
+returns-then-eq c =
     let a = c.args in
     let h : length a.cs.items ≡ 8 = search (length-mapped, rules) in
-    rw (sym c.is_operate.ensures ∙ c.if-is_operate.true)
+    rw (sym (operate-is a.f) ∙ sym c.if-eq.ensures)
     (take-replicate a.cs.count 8 a.s c.requires ∙ ap (λ (k : ℕ). replicate k a.s) (sym (length-list_of a.cs h c.requires)), refl)
-
-pub returns-else-is_operate : goal.returns-else-is_operate
-returns-else-is_operate c = rw (sym c.is_operate.ensures ∙ c.if-is_operate.false) c.statuses.ensures

@@ -6,8 +6,5 @@ use Rattle.text.specs.Words.{whole_within}
 use mathlib.Core.Path.{◌≡◌}
 use Rattle.text.proofs.digits_of.Given as goal
 
-abbrev pub invariant-loop-i : goal.invariant-loop-i
-invariant-loop-i l = (whole_within l.limit l.a (drop l.i l.w) ≡ whole_within l.limit 0 l.w) × (l.a ≤ l.limit) × (l.i ≤ length l.w)
-
-abbrev pub decreases-loop-i : goal.decreases-loop-i
-decreases-loop-i l = length l.w - l.i
+abbrev pub invariant-loop-b : goal.invariant-loop-b
+invariant-loop-b l = (whole_within l.limit l.a (drop l.b-index l.w) ≡ whole_within l.limit 0 l.w) × (l.a ≤ l.limit) × (l.b-index ≤ length l.w)

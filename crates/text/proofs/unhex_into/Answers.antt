@@ -1,38 +1,40 @@
-use mathlib.Core.Path.{refl}
-use mathlib.Core.Path.{sym, ap, ◌∙◌}
-use Prim.Native.Nat.{◌*◌}
-use lib.ListN.{length-set}
-use Rattle.text.proofs.HexLaws.{first-none, second_none, both-digits, unhex-turn, hex-whole, hex-all, read-room, read-odd, read-not, read_all}
-use Prim.Native.Nat.{◌+◌}
-use Rattle.text.specs.Words.{bytes}
+use mathlib.Core.Path.{◌≡◌, sym, ap, ◌∙◌}
+use Prim.Native.Nat.{◌+◌, ◌*◌, ◌/◌}
+use lib.ListN.{length, length-set}
 use native.Mathlib.Omega.{arith}
+use Rattle.text.specs.Words.{bytes}
+use Rattle.text.proofs.HexLaws.{first-none, second_none, both-digits, unhex-turn, hex-whole, hex-all, read-room, read-odd, read-not, read_all}
 use Rattle.text.proofs.unhex_into.Goals as goal
 
-pub returns-then-out-w : goal.returns-then-out-w
-returns-then-out-w c = (sym (read-room _ _ c.if-out-w.true), omega arith)
+pub returns-then-out-n-clause-said : goal.returns-then-out-n-clause-said
+returns-then-out-n-clause-said c = sym (read-room _ _ c.if-out-n.true)
 
-pub returns-then-w-ne0 : goal.returns-then-w-ne0
-returns-then-w-ne0 c = (sym (read-odd _ _ c.if-out-w.false c.if-w-ne0.true), omega arith)
+pub returns-then-w-ne0-clause-said : goal.returns-then-w-ne0-clause-said
+returns-then-w-ne0-clause-said c = sym (read-odd _ _ c.if-out-n.false c.if-w-ne0.true)
 
-pub loop-i-init : goal.loop-i-init
-loop-i-init c = (refl, refl, refl, refl, omega arith)
+-- a digit that is none
+pub returns-in_err-high-clause-said : goal.returns-in_err-high-clause-said
+returns-in_err-high-clause-said c = let l = c.loop-k in let w = c.args.w.now in
+    rw c.from_residual.ensures (sym (read-not _ w (omega arith) c.if-w-ne0.false
+    (sym l.invariant.digits ∙ first-none (2 * l.k) w (omega arith) (omega (arith, c.in_err-high.ensures)))))
 
-pub returns-then-h-gt15 : goal.returns-then-h-gt15
-returns-then-h-gt15 c = let l = c.loop-i in
-    let w = c.args.w.now in
-    (sym (read-not _ w (omega arith) c.if-w-ne0.false (sym l.invariant.1 ∙ first-none l.i w (omega arith) (omega arith))), omega arith)
+pub returns-in_err-low-clause-said : goal.returns-in_err-low-clause-said
+returns-in_err-low-clause-said c = let l = c.loop-k in let w = c.args.w.now in
+    rw c.from_residual-in_err-low.ensures (sym (read-not _ w (omega arith) c.if-w-ne0.false
+    (sym l.invariant.digits ∙ second_none (2 * l.k) w (omega arith) (omega (arith, c.in_ok-high.ensures.0, c.in_ok-high.ensures.1)) (omega (arith, c.in_err-low.ensures)))))
 
-pub returns-then-l-gt15 : goal.returns-then-l-gt15
-returns-then-l-gt15 c = let l = c.loop-i in
-    let w = c.args.w.now in
-    (sym (read-not _ w (omega arith) c.if-w-ne0.false (sym l.invariant.1 ∙ second_none l.i w (omega arith) (omega arith) (omega arith))), omega arith)
+pub loop-k-preserved : goal.loop-k-preserved
+loop-k-preserved c = let l = c.loop-k in let w = c.args.w.now in
+    let n = c.in_ok-high.ensures in let m = c.in_ok-low.ensures in
+    let next : 2 * (l.k + 1) ≡ 2 * l.k + 2 = omega arith in
+    record {
+      bytes = rw next (unhex-turn (2 * l.k) w (omega arith) l.out l.k (16 * c.in_ok-high.high + c.in_ok-low.low) (omega arith) (omega (arith, n.0, m.0)) ∙ l.invariant.bytes);
+      digits = rw next (both-digits (2 * l.k) w (omega arith) (omega (arith, n.0, n.1)) (omega (arith, m.0, m.1)) ∙ l.invariant.digits);
+      room = simp length-set l.invariant.room;
+    }
 
-pub loop-i-preserved : goal.loop-i-preserved
-loop-i-preserved c = let l = c.loop-i in
-    let w = c.args.w.now in
-    (unhex-turn l.i w (omega arith) l.out l.k (16 * c.nibble-h.result + c.nibble-l.result) (omega arith) (omega arith) ∙ l.invariant.0, both-digits l.i w (omega arith) (omega arith) (omega arith) ∙ l.invariant.1, simp length-set l.invariant.2, omega arith, omega arith)
-
-pub returns : goal.returns
-returns c = let l = c.loop-i in
-    let w = c.args.w.now in
-    (ap bytes (sym (hex-whole l.out l.k l.i w (omega arith)) ∙ l.invariant.0) ∙ sym (read_all _ w (omega arith) c.if-w-ne0.false (sym l.invariant.1 ∙ hex-all l.i w (omega arith))), omega arith)
+pub returns-clause-said : goal.returns-clause-said
+returns-clause-said c = let l = c.loop-k in let w = c.args.w.now in
+    let n : length w / 2 ≡ l.k = omega arith in
+    rw n (ap bytes (sym (hex-whole l.out l.k (2 * l.k) w (omega arith)) ∙ l.invariant.bytes)
+    ∙ sym (read_all _ w (omega arith) c.if-w-ne0.false (sym l.invariant.digits ∙ hex-all (2 * l.k) w (omega arith))))

@@ -1,9 +1,0 @@
--- `bench::stations::read_held` meets its contract. The measure is the number of turns that are left.
--- Assumes nothing.
-use Rattle.bench.proofs.stations.read_held.Given as goal
-
-abbrev pub invariant-loop-left : goal.invariant-loop-left
-invariant-loop-left l = Unit {0}
-
-abbrev pub decreases-loop-left : goal.decreases-loop-left
-decreases-loop-left l = l.left
