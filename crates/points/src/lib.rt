@@ -405,7 +405,7 @@ fn read_int32(
     Ok(analog_after(p, Value::Int32(z), flags, report, AnalogState::Int32(next)))
 }
 
-// A reading of a 16-bit point.
+// A reading of a 16-bit point. No twin of a 32-bit one's: the value is clamped, and the flags follow.
 fn read_int16(
     p: AnalogPoint,
     t: GateState<i32, u32>,

@@ -100,6 +100,9 @@ fn limits_ok(s: SetupWords, binaries: usize, analogs: usize) -> bool
         && s.confirm_time <= CONFIRM_TIME_MAX
 }
 
+// The three that follow test and store the parts of a setup. One function over closures would be no plainer: each loop is a test and a store, and
+// what they share is in their laws, `Storing`.
+
 // Stores the fresh binaries, up to the first whose class is none.
 fn fresh_binaries(binaries: &mut [u32; BINARY_WORDS], classes: &[u8]) -> bool
     requires { length classes.now ≤ points_max }
