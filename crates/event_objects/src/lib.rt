@@ -62,13 +62,13 @@ fn put_event(out: &mut [u8], at: usize, e: Event) -> usize
     match e.shown {
         Shown::State(on) => {
             out[at + 2] = objects::state_byte(on, e.flags);
-            octets::put6(out, at + 3, e.time);
+            octets::put(out, at + 3, 6, e.time);
             at + 9
         }
         Shown::Analog(v) => {
             out[at + 2] = e.flags;
             let to = objects::put_value(out, at + 3, v);
-            octets::put6(out, to, e.time);
+            octets::put(out, to, 6, e.time);
             to + 6
         }
     }

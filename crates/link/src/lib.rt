@@ -80,10 +80,10 @@ pub enum TakeRefusal {
 impl From<FrameRefusal> for TakeRefusal {
     ghost use Rattle.link.specs.declared.TakeRefusal.TheVariants as R;
 
-    ghost from_gives = { λ why refusal. refusal ≡ R.Frame why };
+    ghost from_gives = { λ why refused. refused ≡ R.Frame why };
 
-    fn from(why: FrameRefusal) -> TakeRefusal {
-        TakeRefusal::Frame(why)
+    fn from(refusal: FrameRefusal) -> TakeRefusal {
+        TakeRefusal::Frame(refusal)
     }
 }
 

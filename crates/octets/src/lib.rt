@@ -1,7 +1,7 @@
 // Numbers of several bytes, lowest byte first, put into and taken from bytes at an offset; byte strings copied and compared.
 #![tactic(auto)]
 
-ghost use Rattle.std.specs.Prelude.{◌≡◌, ◌+◌, ◌^◌, ◌≤◌, ◌<◌, min, length};
+ghost use Rattle.std.specs.Prelude.{◌≡◌, ◌+◌, ◌^◌, ◌≤◌, ◌<◌, length};
 ghost use Rattle.laws.specs.Lists.{same};
 ghost use Rattle.octets.specs.Bytes.{splice, le, value_at};
 
@@ -17,8 +17,8 @@ pub fn put(b: &mut [u8], at: usize, n: usize, v: u64)
     }
 }
 
-// `put` is of any width. These four say it by a number's type, so that no caller converts: one function over the types would need a trait of its own
-// with an impl for each, longer than they are.
+// `put` and `take` are of any width. These four say it by a number's type, so that no caller converts: one function over the types would need a trait
+// of its own with an impl for each, longer than they are.
 pub fn put2(b: &mut [u8], at: usize, v: u16)
     requires { at + 2 ≤ length b.old }
     ensures { b.new ≡ splice b.old at (le 2 v) }
@@ -31,13 +31,6 @@ pub fn put4(b: &mut [u8], at: usize, v: u32)
     ensures { b.new ≡ splice b.old at (le 4 v) }
 {
     put(b, at, 4, u64::from(v))
-}
-
-pub fn put6(b: &mut [u8], at: usize, v: u64)
-    requires { at + 6 ≤ length b.old }
-    ensures { b.new ≡ splice b.old at (le 6 v) }
-{
-    put(b, at, 6, v)
 }
 
 // The number of n bytes at the offset, n at most 8.
@@ -64,13 +57,6 @@ pub fn take4(s: &[u8], at: usize) -> u32
     ensures { result ≡ value_at 4 at s.now }
 {
     take(s, at, 4) as u32
-}
-
-// The smaller of two.
-pub fn least(a: usize, b: usize) -> usize
-    ensures { result ≡ min a b }
-{
-    a.min(b)
 }
 
 // The two byte strings are equal.

@@ -12,8 +12,8 @@ put2-requires c = omega (arith, length-least c.args.e)
 pub bounds-out-at : goal.bounds-out-at
 bounds-out-at c = omega (arith, length-least c.args.e, c.put2.auto.b)
 
-pub put6-requires : goal.put6-requires
-put6-requires c = simp length-set (omega (arith, length-least c.args.e, c.put2.auto.b))
+pub put-requires : goal.put-requires
+put-requires c = simp length-set (omega (arith, length-least c.args.e, c.put2.auto.b))
 
 pub bounds-out-at-in-Analog : goal.bounds-out-at-in-Analog
 bounds-out-at-in-Analog c = omega (arith, length-least c.args.e, c.put2.auto.b)
@@ -21,28 +21,28 @@ bounds-out-at-in-Analog c = omega (arith, length-least c.args.e, c.put2.auto.b)
 pub put_value-to-requires : goal.put_value-to-requires
 put_value-to-requires c = simp length-set (omega (arith, length-analog c.args.e _ c.in-Analog.is, c.put2.auto.b))
 
-pub put6-requires-in-Analog : goal.put6-requires-in-Analog
-put6-requires-in-Analog c = omega (arith, length-analog c.args.e _ c.in-Analog.is, c.put2.auto.b, c.put_value-to.ensures.0, simp length-set at c.put_value-to.auto.out)
+pub put-requires-in-Analog : goal.put-requires-in-Analog
+put-requires-in-Analog c = omega (arith, length-analog c.args.e _ c.in-Analog.is, c.put2.auto.b, c.put_value-to.ensures.0, simp length-set at c.put_value-to.auto.out)
 
 pub overflow_add-result-in-Analog : goal.overflow_add-result-in-Analog
 overflow_add-result-in-Analog c = omega (arith, length-analog c.args.e _ c.in-Analog.is, c.put_value-to.ensures.0)
 
 pub shape_of-out-in-State : goal.shape_of-out-in-State
-shape_of-out-in-State c = c.put6.auto.b ∙ simp length-set c.put2.auto.b
+shape_of-out-in-State c = c.put.auto.b ∙ simp length-set c.put2.auto.b
 
 pub returns-in-State : goal.returns-in-State
 returns-in-State c =
     let a = c.args in (
       omega (arith, length-state a.e _ c.in-State.is),
-      state-put a.e _ _ _ _ _ _ c.in-State.is c.state_byte.ensures c.put2.ensures c.put6.ensures,
+      state-put a.e _ _ _ _ _ _ c.in-State.is c.state_byte.ensures c.put2.ensures c.put.ensures,
     )
 
 pub shape_of-out-in-Analog : goal.shape_of-out-in-Analog
-shape_of-out-in-Analog c = c.put6-in-Analog.auto.b ∙ c.put_value-to.auto.out ∙ simp length-set c.put2.auto.b
+shape_of-out-in-Analog c = c.put-in-Analog.auto.b ∙ c.put_value-to.auto.out ∙ simp length-set c.put2.auto.b
 
 pub returns-in-Analog : goal.returns-in-Analog
 returns-in-Analog c =
     let a = c.args in (
       omega (arith, length-analog a.e _ c.in-Analog.is, c.put_value-to.ensures.0),
-      analog-put a.e _ _ _ _ _ _ _ c.in-Analog.is c.put_value-to.ensures.0 c.put2.ensures c.put_value-to.ensures.1 c.put6-in-Analog.ensures,
+      analog-put a.e _ _ _ _ _ _ _ c.in-Analog.is c.put_value-to.ensures.0 c.put2.ensures c.put_value-to.ensures.1 c.put-in-Analog.ensures,
     )
