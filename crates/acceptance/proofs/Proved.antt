@@ -34,6 +34,6 @@ unfolding restarted U.setup_ok U.binary_classes U.analog_setups U.analog_outputs
     static_bytes range_bytes point_objects point_bytes encoded runs all_bytes object_bytes O.le O.value
     event_bytes carried_events carried_objects carried_bytes
     I.response_of is_repeat same
-    L.control_effect L.operate_status C.formed C.formed_as C.exact C.width_of C.span C.objects T.statuses T.status_of T.relay_can T.all_zero T.echoed T.chosen
+    L.control_effect L.operate_status C.span C.objects T.statuses T.all_zero T.echoed T.chosen
 acceptance =
     record { setups = refl; a_to_h = refl; a_to_late = refl; a_to_i = refl; releases = refl; j_alone = refl; frame_sizes = refl }

@@ -14,7 +14,7 @@ use Rattle.laws.specs.Lists.{same}
 use Rattle.points.specs.PointsView.{PointsView}
 use Rattle.application.specs.declared.Fault.{Fault}
 use Rattle.application.specs.declared.Fault.TheVariants.{FunctionUnknown, ObjectUnknown, BadParameter}
-use Rattle.std.specs.Prelude.{Option, Some, None}
+use Rattle.std.specs.Prelude.{Option, Some, None, Result, Ok, Err}
 use Rattle.application.specs.declared.Indications.{Indications}
 use Rattle.application.specs.Fragment as F
 use Rattle.application.specs.Fragment.{classified, function_of, sequence_of, control_of, is_confirm, objects_of}
@@ -23,7 +23,6 @@ use Rattle.read_headers.specs.declared.Header.{Header}
 use Rattle.read_headers.specs.Parse.{Parsed, headers, fault}
 use Rattle.control.specs.declared.ControlObject.{ControlObject}
 use Rattle.control.specs.declared.Form.{Form}
-use Rattle.control.specs.declared.Form.TheVariants.{Wrong, Objects}
 use Rattle.control.proofs.ObjectLaws.{objects-length}
 use Rattle.control.specs.Objects.{formed, objects, objects_by}
 use Rattle.control.specs.Status.{Outputs, echo_with}
@@ -136,19 +135,19 @@ effect-ends w q function time o =
 -- ---- its objects
 
 -- the echo by a form, with some status for each object
-pub record Echo (x : Form) (o echo : List ℕ) : Type 0 where
+pub record Echo (x : Result Form Fault) (o echo : List ℕ) : Type 0 where
   pub statuses : List ℕ
   pub each : length statuses ≡ length (objects_by x o)
   pub is : echo ≡ echo_with x statuses o
 
 module _ (outputs : Outputs) (arm : ℕ) (l : LatchView) (g : ControlFunction) (u : is_unanswered g ≡ false) (q time : ℕ) (o : List ℕ) where
-  echo-form : (x : Form) → Echo x o (by_form x outputs arm l g q time o).echo
-  echo-form (Wrong y) = record { statuses = []; each = refl; is = refl }
-  echo-form (Objects j w n) =
-      let cs : List ControlObject = objects j w n (drop (3 + w) o) in
-      let ss : List ℕ = statuses_by g outputs (operate_status arm l (group_of j) q time o) cs in
-      let k : length ss ≡ length cs = length-by g outputs (operate_status arm l (group_of j) q time o) cs in
-      record { statuses = ss; each = k; is = rw (u, take_all n ss (le_of_eq (k ∙ objects-length j w n (drop (3 + w) o)))) }
+  echo-form : (x : Result Form Fault) → Echo x o (by_form x outputs arm l g q time o).echo
+  echo-form (Err y) = record { statuses = []; each = refl; is = refl }
+  echo-form (Ok x) =
+      let cs : List ControlObject = objects x.kind x.width x.count (drop (3 + x.width) o) in
+      let ss : List ℕ = statuses_by g outputs (operate_status arm l (group_of x.kind) q time o) cs in
+      let k : length ss ≡ length cs = length-by g outputs (operate_status arm l (group_of x.kind) q time o) cs in
+      record { statuses = ss; each = k; is = rw (u, take_all x.count ss (le_of_eq (k ∙ objects-length x.kind x.width x.count (drop (3 + x.width) o)))) }
 
   echo_of : Echo (formed o) o (control_effect outputs arm l g q time o).echo
   unfolding control_effect

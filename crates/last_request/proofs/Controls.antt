@@ -16,7 +16,8 @@ use Rattle.laws.proofs.AllLaws.{all-four}
 use Rattle.control.specs.declared.ObjectKind.{ObjectKind}
 use Rattle.control.specs.declared.ControlObject.{ControlObject}
 use Rattle.control.specs.declared.Form.{Form}
-use Rattle.control.specs.declared.Form.TheVariants.{Wrong, Objects}
+use Rattle.std.specs.Prelude.{Result, Ok, Err}
+use Rattle.application.specs.declared.Fault.{Fault}
 use Rattle.control.specs.Objects.{formed, objects}
 use Rattle.control.specs.Status.{Outputs, statuses, all_zero, chosen}
 use Rattle.select_latch.specs.declared.ControlFunction.{ControlFunction}
@@ -97,7 +98,7 @@ module _ (outputs : Outputs) (arm : ℕ) (l : LatchView) (r : Request) where
       → Arms outputs arm r g q t o
   unfolding control_effect
   select-arms f g q t o e = over_form (formed (objects_in r)) refl e where
-    zero : (j : ObjectKind) (w n : ℕ) → formed (objects_in r) ≡ Objects j w n
+    zero : (j : ObjectKind) (w n : ℕ) → formed (objects_in r) ≡ Ok (record { kind = j; width = w; count = n })
         → (b : Bool) → all_zero (statuses outputs [] (objects j w n (drop (3 + w) (objects_in r)))) ≡ b
         → cond (all (true ∷ b ∷ [])) (selected (group_of j) (sequence_in r) r.time (objects_in r)) no_select ≡ selected g q t o
         → Arms outputs arm r g q t o
@@ -111,28 +112,28 @@ module _ (outputs : Outputs) (arm : ℕ) (l : LatchView) (r : Request) where
         }
     zero j w n x false z k = let y : ◌≡◌ {A = ℕ} 0 1 = cc in absurd (omega arith)
 
-    over_form : (x : Form) → formed (objects_in r) ≡ x → (by_form x outputs arm l Select (sequence_in r) r.time (objects_in r)).latch ≡ selected g q t o
+    over_form : (x : Result Form Fault) → formed (objects_in r) ≡ x → (by_form x outputs arm l Select (sequence_in r) r.time (objects_in r)).latch ≡ selected g q t o
         → Arms outputs arm r g q t o
-    over_form (Wrong y) x k = let z : ◌≡◌ {A = ℕ} 0 1 = cc in absurd (omega arith)
-    over_form (Objects j w n) x k = zero j w n x (all_zero (statuses outputs [] (objects j w n (drop (3 + w) (objects_in r))))) refl k
+    over_form (Err y) x k = let z : ◌≡◌ {A = ℕ} 0 1 = cc in absurd (omega arith)
+    over_form (Ok i) x k = zero i.kind i.width i.count x (all_zero (statuses outputs [] (objects i.kind i.width i.count (drop (3 + i.width) (objects_in r))))) refl k
 
   -- of another control
-  others-empty : (f : ControlFunction) → (g : (x : Form) → (by_form x outputs arm l f (sequence_in r) r.time (objects_in r)).latch ≡ no_select)
+  others-empty : (f : ControlFunction) → (g : (x : Result Form Fault) → (by_form x outputs arm l f (sequence_in r) r.time (objects_in r)).latch ≡ no_select)
       → (controls outputs arm f l r).latch ≡ no_select
   unfolding control_effect
   others-empty f g = g (formed (objects_in r))
 
-  operate-empties : (x : Form) → (by_form x outputs arm l Operate (sequence_in r) r.time (objects_in r)).latch ≡ no_select
-  operate-empties (Wrong y) = refl
-  operate-empties (Objects j w n) = refl
+  operate-empties : (x : Result Form Fault) → (by_form x outputs arm l Operate (sequence_in r) r.time (objects_in r)).latch ≡ no_select
+  operate-empties (Err y) = refl
+  operate-empties (Ok x) = refl
 
-  direct-empties : (x : Form) → (by_form x outputs arm l DirectOperate (sequence_in r) r.time (objects_in r)).latch ≡ no_select
-  direct-empties (Wrong y) = refl
-  direct-empties (Objects j w n) = refl
+  direct-empties : (x : Result Form Fault) → (by_form x outputs arm l DirectOperate (sequence_in r) r.time (objects_in r)).latch ≡ no_select
+  direct-empties (Err y) = refl
+  direct-empties (Ok x) = refl
 
-  unanswered-empties : (x : Form) → (by_form x outputs arm l DirectOperateNoResponse (sequence_in r) r.time (objects_in r)).latch ≡ no_select
-  unanswered-empties (Wrong y) = refl
-  unanswered-empties (Objects j w n) = refl
+  unanswered-empties : (x : Result Form Fault) → (by_form x outputs arm l DirectOperateNoResponse (sequence_in r) r.time (objects_in r)).latch ≡ no_select
+  unanswered-empties (Err y) = refl
+  unanswered-empties (Ok x) = refl
 
   never : (s : LatchView) (g : ControlGroup) (q t : ℕ) (o : List ℕ) → s ≡ no_select → s ≡ selected g q t o → Arms outputs arm r g q t o
   never s g q t o e k = let z : ◌≡◌ {A = ℕ} 0 1 = cc in absurd (omega arith)
@@ -165,13 +166,13 @@ module _ (outputs : Outputs) (arm : ℕ) (l : LatchView) (r : Request) where
         differ n x y = omega arith
 
         decided : (j : ObjectKind) (w n : ℕ) (b : Bool) → eqb (operate_status arm l (group_of j) (sequence_in r) r.time (objects_in r)) 0 ≡ b
-            → ((by_form (Objects j w n) outputs arm l Operate (sequence_in r) r.time (objects_in r)).carried ≡ [] → ⊥) → Zero
+            → ((by_form (Ok (record { kind = j; width = w; count = n })) outputs arm l Operate (sequence_in r) r.time (objects_in r)).carried ≡ [] → ⊥) → Zero
         decided j w n true e k = (group_of j, eqb-true _ 0 e)
         decided j w n false e k = absurd (k (chosen_none (objects j w n (drop (3 + w) (objects_in r))) _ (eqb-false _ 0 e)))
 
-        over_form : (x : Form) → ((by_form x outputs arm l Operate (sequence_in r) r.time (objects_in r)).carried ≡ [] → ⊥) → Zero
-        over_form (Wrong y) k = absurd (k refl)
-        over_form (Objects j w n) k = decided j w n (eqb (operate_status arm l (group_of j) (sequence_in r) r.time (objects_in r)) 0) refl k
+        over_form : (x : Result Form Fault) → ((by_form x outputs arm l Operate (sequence_in r) r.time (objects_in r)).carried ≡ [] → ⊥) → Zero
+        over_form (Err y) k = absurd (k refl)
+        over_form (Ok x) k = decided x.kind x.width x.count (eqb (operate_status arm l (group_of x.kind) (sequence_in r) r.time (objects_in r)) 0) refl k
 
 -- ---- histories
 
@@ -273,7 +274,7 @@ module _ (outputs : Outputs) (arm : ℕ) where
     go true x ih k = rw x (ih k y)
     go false x ih k = rw (x, head-is r s (new_requests outputs arm h) e k) (selects-arms (remembered_after outputs arm h).latch r (subst (Selects outputs) (head-is r s (new_requests outputs arm h) e k) y))
 
-  operate-runs : (l : LatchView) (r : Request) (j : ObjectKind) (w n : ℕ) → function_in r ≡ 4 → formed (objects_in r) ≡ Objects j w n
+  operate-runs : (l : LatchView) (r : Request) (j : ObjectKind) (w n : ℕ) → function_in r ≡ 4 → formed (objects_in r) ≡ Ok (record { kind = j; width = w; count = n })
       → operate_status arm l (group_of j) (sequence_in r) r.time (objects_in r) ≡ 0
       → (acted outputs arm l r).carried ≡ objects j w n (drop (3 + w) (objects_in r))
   unfolding acted control_effect
@@ -302,9 +303,9 @@ module _ (outputs : Outputs) (arm : ℕ) where
 -- ---- what the other functions hand over
 
 module _ (outputs : Outputs) (arm : ℕ) (l : LatchView) (r : Request) where
-  select-hands : (x : Form) → (by_form x outputs arm l Select (sequence_in r) r.time (objects_in r)).carried ≡ []
-  select-hands (Wrong y) = refl
-  select-hands (Objects j w n) = refl
+  select-hands : (x : Result Form Fault) → (by_form x outputs arm l Select (sequence_in r) r.time (objects_in r)).carried ≡ []
+  select-hands (Err y) = refl
+  select-hands (Ok x) = refl
 
   others-act : (function_in r ≡ 4 → ⊥) → (function_in r ≡ 5 → ⊥) → (function_in r ≡ 6 → ⊥) → (acted outputs arm l r).carried ≡ []
   unfolding acted control_effect

@@ -12,8 +12,8 @@ use Rattle.analog_outputs.specs.declared.AnalogOutput.TheVariants.{Float32}
 use Rattle.analog_outputs.specs.Output.{within_float, takes}
 use Rattle.control.specs.declared.Command.TheVariants as C
 use Rattle.control.specs.declared.ControlObject.{ControlObject}
-use Rattle.control.specs.Objects.{width_of, span, exact, formed_as, formed, objects}
-use Rattle.control.specs.Status.{Outputs, relay_can, analog_can, status_of, statuses, all_zero, chosen}
+use Rattle.control.specs.Objects.{span, objects}
+use Rattle.control.specs.Status.{Outputs, statuses, all_zero, chosen}
 use Rattle.select_latch.specs.Select.{operate_status, control_effect}
 use Rattle.last_request.specs.Repeat.{is_repeat}
 use Rattle.last_request.specs.Requests.{Request, acted, remembered_after, repeated, hands_over}
@@ -57,20 +57,20 @@ read_again = refl
 
 -- SELECT, OPERATE 5,000 later: carried out; the OPERATE again, or a new one: nothing
 selected : hands_over outputs 5000 (at 1000 select ∷ []) (at 6000 operate) ≡ asked ∷ []
-unfolding at outputs crob select operate asked remembered_after is_repeat same acted control_effect formed formed_as exact width_of span value objects statuses status_of relay_can all_zero chosen operate_status
+unfolding at outputs crob select operate asked remembered_after is_repeat same acted control_effect span value objects statuses all_zero chosen operate_status
 selected = refl
 
 operated : hands_over outputs 5000 (at 6000 operate ∷ at 1000 select ∷ []) (at 6000 operate) ≡ []
-unfolding at outputs crob select operate remembered_after is_repeat same acted control_effect formed formed_as exact width_of span value objects statuses status_of relay_can all_zero chosen operate_status
+unfolding at outputs crob select operate remembered_after is_repeat same acted control_effect span value objects statuses all_zero chosen operate_status
 operated = refl
 
 not_selected : hands_over outputs 5000 (at 6000 operate ∷ at 1000 select ∷ []) (at 6000 later) ≡ []
-unfolding at outputs crob select operate later remembered_after is_repeat same acted control_effect formed formed_as exact width_of span value objects statuses status_of relay_can all_zero chosen operate_status
+unfolding at outputs crob select operate later remembered_after is_repeat same acted control_effect span value objects statuses all_zero chosen operate_status
 not_selected = refl
 
 -- SELECT repeated at 5,000: the arm time runs from the first
 repeated-select : hands_over outputs 5000 (at 5000 select ∷ at 1000 select ∷ []) (at 6001 operate) ≡ []
-unfolding at outputs crob select operate remembered_after is_repeat same acted control_effect formed formed_as exact width_of span value objects statuses status_of relay_can all_zero chosen operate_status
+unfolding at outputs crob select operate remembered_after is_repeat same acted control_effect span value objects statuses all_zero chosen operate_status
 repeated-select = refl
 
 -- ---- an analog output: 29 03 17 01 00, a zero with its sign, and the status
@@ -95,5 +95,5 @@ record SetPoints : Type 0 where
   after-relay : hands_over outputs 5000 (at 1000 select ∷ []) (at 6000 (set-operate 0x80)) ≡ []
 
 set-points : SetPoints
-unfolding at outputs crob float select operate set-select set-operate minus-zero remembered_after is_repeat same acted control_effect formed formed_as exact width_of span value objects statuses status_of relay_can analog_can takes within_float of_bits le all_zero chosen operate_status
+unfolding at outputs crob float select operate set-select set-operate minus-zero remembered_after is_repeat same acted control_effect span value objects statuses takes within_float of_bits le all_zero chosen operate_status
 set-points = record { same-zero = refl; other-zero = refl; relay-after = refl; after-relay = refl }

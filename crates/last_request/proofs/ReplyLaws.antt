@@ -10,7 +10,8 @@ use Rattle.octets.specs.Bytes.{splice}
 use Rattle.octets.proofs.Splice.{stored-splice}
 use Rattle.control.specs.declared.ControlObject.{ControlObject}
 use Rattle.control.specs.declared.Form.{Form}
-use Rattle.control.specs.declared.Form.TheVariants.{Wrong, Objects}
+use Rattle.std.specs.Prelude.{Result, Ok, Err}
+use Rattle.application.specs.declared.Fault.{Fault}
 use Rattle.control.specs.Objects.{echo_max, value_size, formed, objects}
 use Rattle.control.proofs.ObjectLaws.{objects-length}
 use Rattle.control.specs.Status.{Outputs, statuses, echo_of}
@@ -37,22 +38,23 @@ module _ (outputs : Outputs) (arm : ℕ) (l : LatchView) (f : ControlFunction) (
     two true e h = omega arith
     two false e h = h
 
-    over_form : (x : Form) → formed o ≡ x → length (by_form x outputs arm l f sequence time o).echo ≤ echo_max
-    over_form (Wrong y) e = omega arith
-    over_form (Objects j w n) e =
-        let fit = formed-fits o j w n e in
-        let s = operate_status arm l (group_of j) sequence time o in
-        let ss : List ℕ = statuses_by f outputs s (objects j w n (drop (3 + w) o)) in
-        let k = length-by f outputs s (objects j w n (drop (3 + w) o)) ∙ objects-length j w n (drop (3 + w) o) in
-        let m : length (echo_of w (value_size j) ss o) ≡ length o = echo-length w (value_size j) n ss o k fit.size in
-        two (is_unanswered f) (echo_of w (value_size j) ss o) (omega arith)
+    over_form : (x : Result Form Fault) → formed o ≡ x → length (by_form x outputs arm l f sequence time o).echo ≤ echo_max
+    over_form (Err y) e = omega arith
+    over_form (Ok x) e =
+        let fit = formed-fits o x e in
+        let s = operate_status arm l (group_of x.kind) sequence time o in
+        let cs = objects x.kind x.width x.count (drop (3 + x.width) o) in
+        let ss : List ℕ = statuses_by f outputs s cs in
+        let k = length-by f outputs s cs ∙ objects-length x.kind x.width x.count (drop (3 + x.width) o) in
+        let m : length (echo_of x.width (value_size x.kind) ss o) ≡ length o = echo-length x.width (value_size x.kind) x.count ss o k fit.size in
+        two (is_unanswered f) (echo_of x.width (value_size x.kind) ss o) (omega arith)
 
   pub unanswered-echo : is_unanswered f ≡ true → (control_effect outputs arm l f sequence time o).echo ≡ []
   unfolding control_effect
   unanswered-echo u = over_form (formed o) where
-    over_form : (x : Form) → (by_form x outputs arm l f sequence time o).echo ≡ []
-    over_form (Wrong y) = refl
-    over_form (Objects j w n) = rw u
+    over_form : (x : Result Form Fault) → (by_form x outputs arm l f sequence time o).echo ≡ []
+    over_form (Err y) = refl
+    over_form (Ok x) = rw u
 
 -- the answer is the first bytes
 pub answer-taken : (d d₂ a : List ℕ) (m : ℕ) → d₂ ≡ splice d 0 a → m ≡ length a → m ≤ length d → take m d₂ ≡ a

@@ -1,9 +1,8 @@
 -- What is promised of controls over every list of accepted requests; proved in proofs/Controls.antt.
 -- Assumes nothing.
-use Rattle.std.specs.Prelude.{◌≡◌, ℕ, ◌+◌, ◌-◌, ◌≤◌, true, false, List, [], ◌∷◌, drop}
+use Rattle.std.specs.Prelude.{◌≡◌, ℕ, ◌+◌, ◌-◌, ◌≤◌, true, false, Ok, List, [], ◌∷◌, drop}
 use Rattle.application.specs.Fragment.{next_of}
 use Rattle.control.specs.declared.ObjectKind.{ObjectKind}
-use Rattle.control.specs.declared.Form.TheVariants.{Objects}
 use Rattle.control.specs.Objects.{formed, objects}
 use Rattle.control.specs.Status.{Outputs, statuses, all_zero}
 use Rattle.last_request.specs.Repeat.{kept_answer}
@@ -16,7 +15,7 @@ pub record Selects (outputs : Outputs) (s : Request) : Type 0 where
   pub kind : ObjectKind
   pub width : ℕ
   pub count : ℕ
-  pub form : formed (objects_in s) ≡ Objects kind width count
+  pub form : formed (objects_in s) ≡ Ok (record { kind = kind; width = width; count = count })
   pub zeros : all_zero (statuses outputs [] (objects kind width count (drop (3 + width) (objects_in s)))) ≡ true
 
 -- the request before r, repeats aside, is a SELECT with all statuses 0, equal objects and the preceding sequence, in time

@@ -14,7 +14,8 @@ use Rattle.control.specs.declared.ObjectKind.{ObjectKind}
 use Rattle.control.specs.declared.ObjectKind.TheVariants as K
 use Rattle.control.specs.declared.ControlObject.{ControlObject}
 use Rattle.control.specs.declared.Form.{Form}
-use Rattle.control.specs.declared.Form.TheVariants.{Wrong, Objects}
+use Rattle.std.specs.Prelude.{Result, Ok, Err}
+use Rattle.application.specs.declared.Fault.{Fault}
 use Rattle.control.specs.Objects.{objects, is_crob, is_analog_output, formed}
 use Rattle.control.specs.Status.{Outputs, chosen}
 use Rattle.select_latch.specs.declared.ControlFunction.{ControlFunction}
@@ -77,11 +78,12 @@ nothing-apart = inl refl
 -- ---- a request, and a call
 
 module _ (outputs : Outputs) (arm : ℕ) where
-  form-apart : (l : LatchView) (r : Request) (f : ControlFunction) (x : Form)
+  form-apart : (l : LatchView) (r : Request) (f : ControlFunction) (x : Result Form Fault)
       → Apart (by_form x outputs arm l f (sequence_in r) r.time (objects_in r)).carried
-  form-apart l r f (Wrong y) = nothing-apart
-  form-apart l r f (Objects k w n) =
-      split Apart (is_select f) (λ _. nothing-apart) (λ _. chosen-apart (objects k w n (drop (3 + w) (objects_in r))) _ (objects-apart k w n (drop (3 + w) (objects_in r))))
+  form-apart l r f (Err y) = nothing-apart
+  form-apart l r f (Ok x) =
+      split Apart (is_select f) (λ _. nothing-apart)
+      (λ _. chosen-apart (objects x.kind x.width x.count (drop (3 + x.width) (objects_in r))) _ (objects-apart x.kind x.width x.count (drop (3 + x.width) (objects_in r))))
 
   abbrev P : Acted → Type 0
   P a = Apart a.carried

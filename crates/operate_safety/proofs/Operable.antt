@@ -11,7 +11,8 @@ use lib.ListN.{length, drop, replicate}
 use Rattle.laws.proofs.Choices.{by, split}
 use Rattle.control.specs.declared.ControlObject.{ControlObject}
 use Rattle.control.specs.declared.Form.{Form}
-use Rattle.control.specs.declared.Form.TheVariants.{Wrong, Objects}
+use Rattle.std.specs.Prelude.{Result, Ok, Err}
+use Rattle.application.specs.declared.Fault.{Fault}
 use Rattle.control.specs.Objects.{formed, objects, objects_by}
 use Rattle.control.specs.Status.{Outputs, statuses, all_zero, chosen}
 use Rattle.control.specs.Operable.{AllOperable}
@@ -49,7 +50,7 @@ module _ (outputs : Outputs) (arm : ℕ) where
   -- ---- one request
 
   module _ (l : LatchView) (r : Request) (armed : LatchOperable l) where
-    abbrev ByForm : ControlFunction → Form → Type 0
+    abbrev ByForm : ControlFunction → Result Form Fault → Type 0
     ByForm f x =
         ActsOperable
         (record {
@@ -57,25 +58,25 @@ module _ (outputs : Outputs) (arm : ℕ) where
           latch = (by_form x outputs arm l f (sequence_in r) r.time (objects_in r)).latch;
         })
 
-    select-ok : (x : Form) → formed (objects_in r) ≡ x → ByForm Select x
-    select-ok (Wrong y) e = record { carried = tt; latch = tt }
-    select-ok (Objects j w n) e =
-        by (all_zero (statuses outputs [] (objects j w n (drop (3 + w) (objects_in r)))))
-        (λ t. rw t (record { carried = tt; latch = rw e (zeros-operable outputs [] (objects j w n (drop (3 + w) (objects_in r))) t) }))
+    select-ok : (x : Result Form Fault) → formed (objects_in r) ≡ x → ByForm Select x
+    select-ok (Err y) e = record { carried = tt; latch = tt }
+    select-ok (Ok x) e =
+        by (all_zero (statuses outputs [] (objects x.kind x.width x.count (drop (3 + x.width) (objects_in r)))))
+        (λ t. rw t (record { carried = tt; latch = rw e (zeros-operable outputs [] (objects x.kind x.width x.count (drop (3 + x.width) (objects_in r))) t) }))
         (λ t. rw t (record { carried = tt; latch = tt }))
 
-    operate-ok : (x : Form) → formed (objects_in r) ≡ x → ByForm Operate x
-    operate-ok (Wrong y) e = record { carried = tt; latch = tt }
-    operate-ok (Objects j w n) e =
-        let status = operate_status arm l (group_of j) (sequence_in r) r.time (objects_in r) in
-        let all : status ≡ 0 → AllOperable outputs (objects j w n (drop (3 + w) (objects_in r))) =
-        λ z. rw e at (subst LatchOperable (operate-zero arm l (group_of j) (sequence_in r) r.time (objects_in r) z).latched armed) in
-        record { carried = chosen-alike (objects j w n (drop (3 + w) (objects_in r))) status all; latch = tt }
+    operate-ok : (x : Result Form Fault) → formed (objects_in r) ≡ x → ByForm Operate x
+    operate-ok (Err y) e = record { carried = tt; latch = tt }
+    operate-ok (Ok x) e =
+        let status = operate_status arm l (group_of x.kind) (sequence_in r) r.time (objects_in r) in
+        let all : status ≡ 0 → AllOperable outputs (objects x.kind x.width x.count (drop (3 + x.width) (objects_in r))) =
+        λ z. rw e at (subst LatchOperable (operate-zero arm l (group_of x.kind) (sequence_in r) r.time (objects_in r) z).latched armed) in
+        record { carried = chosen-alike (objects x.kind x.width x.count (drop (3 + x.width) (objects_in r))) status all; latch = tt }
 
     -- with a response or without
-    direct-ok : (f : ControlFunction) → is_select f ≡ false → is_operate f ≡ false → (x : Form) → ByForm f x
-    direct-ok f s d (Wrong y) = record { carried = tt; latch = tt }
-    direct-ok f s d (Objects j w n) = rw (s, d) (record { carried = chosen-operable outputs [] (objects j w n (drop (3 + w) (objects_in r))); latch = tt })
+    direct-ok : (f : ControlFunction) → is_select f ≡ false → is_operate f ≡ false → (x : Result Form Fault) → ByForm f x
+    direct-ok f s d (Err y) = record { carried = tt; latch = tt }
+    direct-ok f s d (Ok x) = rw (s, d) (record { carried = chosen-operable outputs [] (objects x.kind x.width x.count (drop (3 + x.width) (objects_in r))); latch = tt })
 
     acts-operable : ActsOperable (acted outputs arm l r)
     unfolding acted control_effect

@@ -119,7 +119,7 @@ pub fn installed(count: usize) -> usize
 }
 
 // Why a reading is refused. The time is tested before the point.
-#[derive(Clone, Copy)]
+#[derive(Clone, Copy, Debug, PartialEq, Eq)]
 pub enum ReadingRefusal {
     // 1: time at or above 2^48, or before the last accepted call's.
     Time,
@@ -402,13 +402,7 @@ fn read_int32(
     let gated = gate_whole(t, z);
     let report = is_reported(p.seen, flags, p.reported_flags, gated.pass);
     let next = gate_after(t, z, report, gated.sum, 0);
-    Ok(analog_after(
-        p,
-        Value::Int32(z),
-        flags,
-        report,
-        AnalogState::Int32(next),
-    ))
+    Ok(analog_after(p, Value::Int32(z), flags, report, AnalogState::Int32(next)))
 }
 
 // A reading of a 16-bit point.
@@ -464,11 +458,7 @@ fn read_float32(
 }
 
 // One whole reading against one analog point.
-pub fn read_whole(
-    p: AnalogPoint,
-    z: i32,
-    flags: u8,
-) -> Result<Taken<AnalogPoint>, ReadingRefusal>
+pub fn read_whole(p: AnalogPoint, z: i32, flags: u8) -> Result<Taken<AnalogPoint>, ReadingRefusal>
     ensures { taken_of result ≡ read_whole p z flags }
 {
     match p.gate_state {
@@ -479,11 +469,7 @@ pub fn read_whole(
 }
 
 // One float reading against one analog point.
-pub fn read_float(
-    p: AnalogPoint,
-    x: f32,
-    flags: u8,
-) -> Result<Taken<AnalogPoint>, ReadingRefusal>
+pub fn read_float(p: AnalogPoint, x: f32, flags: u8) -> Result<Taken<AnalogPoint>, ReadingRefusal>
     ensures { taken_of result ≡ read_float p x flags }
 {
     match p.gate_state {

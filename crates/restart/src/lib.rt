@@ -60,25 +60,27 @@ pub struct Restarted {
     pub refusal: u8,
 }
 
-#[tactic(auto, unfolding(crate::specs::Restart::analog_setup_of))]
-fn analog_setup_of(w: AnalogSetupWords) -> AnalogSetup
-    ensures { result ≡ analog_setup_of w }
-{
-    let gate = u32::from(w.gate);
-    let kind = match w.kind {
-        0 => AnalogKind::Int32(point_store::gate_of(gate, w.limit)),
-        1 => AnalogKind::Int16(point_store::gate_of(gate, w.limit)),
-        _ => {
-            let s = Scale {
-                gain: words::float(w.gain),
-                offset: words::float(w.offset),
-            };
-            AnalogKind::Float32(point_store::gate_of(gate, words::float(w.limit)), s)
+impl From<AnalogSetupWords> for AnalogSetup {
+    ghost from_gives = { λ w a. a ≡ analog_setup_of w };
+
+    #[tactic(auto, unfolding(crate::specs::Restart::analog_setup_of))]
+    fn from(w: AnalogSetupWords) -> AnalogSetup {
+        let gate = u32::from(w.gate);
+        let kind = match w.kind {
+            0 => AnalogKind::Int32(point_store::gate_of(gate, w.limit)),
+            1 => AnalogKind::Int16(point_store::gate_of(gate, w.limit)),
+            _ => {
+                let s = Scale {
+                    gain: words::float(w.gain),
+                    offset: words::float(w.offset),
+                };
+                AnalogKind::Float32(point_store::gate_of(gate, words::float(w.limit)), s)
+            }
+        };
+        AnalogSetup {
+            class: w.class,
+            kind,
         }
-    };
-    AnalogSetup {
-        class: w.class,
-        kind,
     }
 }
 
@@ -133,7 +135,7 @@ fn fresh_analogs(analogs: &mut [u32; ANALOG_WORDS], setups: &[AnalogSetupWords])
     ensures { (result ≡ all (map analog_given_ok setups.now)) × (result ≡ true → take (length setups.now) (analogs_in analogs.new) ≡ map fresh_analog_of setups.now) }
 {
     for (i, w) in setups.iter().enumerate() {
-        let a = analog_setup_of(*w);
+        let a = AnalogSetup::from(*w);
         if !points::analog_ok(a) {
             return false;
         }

@@ -3,8 +3,9 @@
 use mathlib.Core.Path.{◌≡◌, refl}
 use mathlib.Core.Bool.{Bool, true, false, cond, not}
 use mathlib.Core.List.{List, [], ◌∷◌}
-use Prim.Native.Nat.{ℕ, ◌+◌, ◌-◌}
+use Prim.Native.Nat.{ℕ, ◌+◌, ◌-◌, ◌≤◌}
 use denote.Enum.Bare.{sameb}
+use borrow.Author.Tests.{eq-eqb, le-leb}
 use lib.Dec.{eqb, leb}
 use lib.ListN.{take, drop}
 use Rattle.laws.specs.First.{first, ◌⇒◌}
@@ -59,6 +60,13 @@ status-tested arm l g sequence time o = go l.armed
         2
     go true = by-four
     go false = refl
+
+-- an OPERATE that is the one armed for, in time
+pub operate-good : (arm : ℕ) (h : ControlGroup) (q t : ℕ) (s : List ℕ) (g : ControlGroup) (sequence time : ℕ) (o : List ℕ)
+    → same_group h g ≡ true → same o s ≡ true → sequence ≡ next_of q → time - t ≤ arm
+    → operate_status arm (selected h q t s) g sequence time o ≡ 0
+unfolding operate_status
+operate-good arm h q t s g sequence time o x y e l = rw (x, y, eq-eqb sequence (next_of q) e, le-leb (time - t) arm l)
 
 -- the derived `==` of the groups
 pub group-same : (a b : ControlGroup) → sameb Groups.the_type a b ≡ same_group a b

@@ -40,4 +40,4 @@ returns c =
     λ h a.
     binary-taken (with_changes h i.n i.m) (record { binaries = i.binaries.now; analogs = a; held = i.held.now }) i.r i.state c.in_ok-i.ensures.ok.1 _
     (c.in_ok-t.ensures ∙ ap (λ (x : BinaryPoint). read_binary x i.state i.r.flags) (loaded (goal.at.returns c).After-load_binary))
-    _ refl _ _ _ (rw c.in_ok-i.ensures.ok.0 at c.store_binary.ensures) (c.taken.ensures h i.n)
+    _ refl _ _ _ (rw c.in_ok-i.ensures.ok.0 at c.store_binary.ensures) (rw c.event_of-e.ensures at (c.taken.ensures h i.n))

@@ -2,4 +2,4 @@
 use Rattle.outstation.proofs.apply_words.Goals as goal
 
 pub returns : goal.returns
-returns c = λ h. rw c.measured_of.ensures at (c.apply_reading.ensures h)
+returns c = λ h. rw c.from.ensures at (c.apply_reading.ensures h)

@@ -9,4 +9,4 @@ returns c =
     let i = c.args in
     λ h b.
     analog-taken (with_changes h i.n i.m) (record { binaries = b; analogs = i.analogs.now; held = i.held.now }) i.r (omega (arith, c.requires.1)) i.t _ _ _
-    (rw c.from.ensures at c.store_analog.ensures) (c.taken.ensures h i.n)
+    (rw c.from.ensures at c.store_analog.ensures) (rw c.event_of-e.ensures at (c.taken.ensures h i.n))

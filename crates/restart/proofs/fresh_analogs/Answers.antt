@@ -14,13 +14,13 @@ loop-i-init c = storing-start _ _ _ _
 pub loop-i-preserved : goal.loop-i-preserved
 loop-i-preserved c =
     let at = c.loop-i in
-    rw (add-one, c.store_analog.ensures, c.fresh_analog.ensures, c.analog_setup_of-a.ensures)
-    (storing-more _ _ _ _ _ at.invariant c.loop-i-test.true _ (sym (ap analog_ok c.analog_setup_of-a.ensures) ∙ sym c.analog_ok.ensures ∙ c.if-not-analog_ok.false)
+    rw (add-one, c.store_analog.ensures, c.fresh_analog.ensures, c.from-a.ensures)
+    (storing-more _ _ _ _ _ at.invariant c.loop-i-test.true _ (sym (ap analog_ok c.from-a.ensures) ∙ sym c.analog_ok.ensures ∙ c.if-not-analog_ok.false)
     (rw (analogs-length at.analogs) (omega arith)))
 
 pub returns-then-not-analog_ok : goal.returns-then-not-analog_ok
 returns-then-not-analog_ok c = (
-  sym (storing-fails _ _ _ _ _ c.loop-i.invariant c.loop-i-test.true _ (sym (ap analog_ok c.analog_setup_of-a.ensures) ∙ sym c.analog_ok.ensures ∙ c.if-not-analog_ok.true)),
+  sym (storing-fails _ _ _ _ _ c.loop-i.invariant c.loop-i-test.true _ (sym (ap analog_ok c.from-a.ensures) ∙ sym c.analog_ok.ensures ∙ c.if-not-analog_ok.true)),
   (λ e. absurd (false≢true e)),
 )
 
