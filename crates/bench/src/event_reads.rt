@@ -93,7 +93,9 @@ pub fn event_read(count: u64, n: u64) -> u64 {
     for done in 0..count {
         let left = count - done;
         sum = x.exchange(sum, full, 1000 + left % 1000, left);
-        x.memory.held[..words].copy_from_slice(&events[..words]);
+        for (slot, &word) in x.memory.held.iter_mut().zip(&events).take(words) {
+            *slot = word;
+        }
     }
     x.exchange(sum, full, 1000, count.min(1));
     digest(fold_all(sum, &x.out), &x.memory.held)

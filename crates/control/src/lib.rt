@@ -84,7 +84,8 @@ pub struct ControlObject {
     pub command: Command,
 }
 
-// Up to OBJECTS_MAX objects, in the order asked.
+// Up to OBJECTS_MAX objects, in the order asked. An array with its count beside it: it goes by value up to the host's call, and the kit's
+// ArrayVec is not Copy.
 #[derive(Clone, Copy)]
 pub struct ControlObjects {
     pub items: [ControlObject; OBJECTS_MAX],
@@ -315,7 +316,7 @@ fn can_do(n: OutputCounts, ws: &[u32; ANALOG_OUTPUT_WORDS], index: u16, c: Comma
     }
 }
 
-// The status of one object, for SELECT and direct operation.
+// The status of one object, for SELECT and direct operation: IEEE 1815's byte, which the echo gives as it is.
 fn status(n: OutputCounts, ws: &[u32; ANALOG_OUTPUT_WORDS], again: bool, c: ControlObject) -> u8
     ensures { result ≡ status_of (outputs_of n ws.now) again c }
 {

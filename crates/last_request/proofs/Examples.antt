@@ -12,8 +12,8 @@ use Rattle.analog_outputs.specs.declared.AnalogOutput.TheVariants.{Float32}
 use Rattle.analog_outputs.specs.Output.{within_float, takes}
 use Rattle.control.specs.declared.Command.TheVariants as C
 use Rattle.control.specs.declared.ControlObject.{ControlObject}
-use Rattle.control.specs.Objects.{width_of, span, exact, formed_as, formed, objects}
-use Rattle.control.specs.Status.{Outputs, relay_can, analog_can, status_of, statuses, all_zero, chosen}
+use Rattle.control.specs.Objects.{span, objects}
+use Rattle.control.specs.Status.{Outputs, statuses, all_zero, chosen}
 use Rattle.select_latch.specs.Select.{operate_status, control_effect}
 use Rattle.last_request.specs.Repeat.{is_repeat}
 use Rattle.last_request.specs.Requests.{Request, acted, remembered_after, repeated, hands_over}

@@ -1,4 +1,3 @@
-pub mod RepeatLaws
 pub mod ReplyLaws
 pub mod Controls
 pub mod Examples

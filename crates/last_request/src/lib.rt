@@ -38,6 +38,7 @@ pub fn remember(
 }
 
 // Whether a request is a repeat.
+#[tactic(auto, using(laws::proofs::Filling::clamped, laws::proofs::SameLaws::same_as_eq), unfolding(crate::specs::Repeat::last_in, crate::specs::Repeat::is_repeat))]
 pub fn is_repeat(
     request: &[u8; FRAGMENT_MAX],
     answer: &[u8; ANSWER_MAX],
@@ -55,6 +56,7 @@ pub fn is_repeat(
 }
 
 // Puts the kept answer at the front of the lent bytes, and says its length.
+#[tactic(auto, using(laws::proofs::Filling::clamped), unfolding(crate::specs::Repeat::last_in))]
 pub fn answer_again(
     request: &[u8; FRAGMENT_MAX],
     answer: &[u8; ANSWER_MAX],

@@ -1,6 +1,6 @@
 -- Laws of OPERATE's status, and of what a request does by the form of its object bytes.
 -- Assumes nothing.
-use mathlib.Core.Path.{◌≡◌, refl}
+use mathlib.Core.Path.{◌≡◌, refl, sym, ◌∙◌}
 use mathlib.Core.Bool.{Bool, true, false, cond, not}
 use mathlib.Core.List.{List, [], ◌∷◌}
 use Prim.Native.Nat.{ℕ, ◌+◌, ◌-◌, ◌≤◌}
@@ -57,7 +57,7 @@ unfolding operate_status
 operate-good arm h q t s g sequence time o x y e l = rw (x, y, eq-eqb sequence (next_of q) e, le-leb (time - t) arm l)
 
 -- the derived `==` of the groups
-pub group-same : (a b : ControlGroup) → sameb Groups.the_type a b ≡ same_group a b
+group-same : (a b : ControlGroup) → sameb Groups.the_type a b ≡ same_group a b
 group-same G.Crob G.Crob = refl
 group-same G.Crob G.AnalogOutput = refl
 group-same G.AnalogOutput G.Crob = refl
@@ -71,6 +71,12 @@ is_so false e = cc
 pub not_so : (t : Bool) → true ≡ not t → t ≡ false
 not_so false e = refl
 not_so true e = cc
+
+pub alike : (a b : ControlGroup) → false ≡ not (sameb Groups.the_type a b) → same_group a b ≡ true
+alike a b e = sym (group-same a b) ∙ is_so (sameb Groups.the_type a b) e
+
+pub apart : (a b : ControlGroup) → true ≡ not (sameb Groups.the_type a b) → same_group a b ≡ false
+apart a b e = sym (group-same a b) ∙ not_so (sameb Groups.the_type a b) e
 
 -- the derived `==` of the functions
 pub select-is : (f : ControlFunction) → sameb Functions.the_type f F.Select ≡ is_select f

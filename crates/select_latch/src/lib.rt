@@ -39,7 +39,8 @@ pub enum ControlGroup {
     AnalogOutput,
 }
 
-// What an armed latch has of its SELECT: the group, the sequence, the time and the object bytes. A latch is an Option of it.
+// What an armed latch has of its SELECT: the group, the sequence, the time and the object bytes. A latch is an Option of it. The bytes
+// are an array with their length beside it, as the host lends them.
 #[derive(Clone, Copy)]
 pub struct Selection {
     pub group: ControlGroup,

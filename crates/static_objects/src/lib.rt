@@ -123,7 +123,8 @@ fn put_point(out: &mut [u8], at: usize, s: ShownPoint) -> usize
     }
 }
 
-// ---- what the i-th point shows, of so many installed
+// ---- what the i-th point shows, of so many installed: a binary and an analog each by its own words, load and variant, so that one function
+// over both would be no plainer
 
 fn binary_shown(ws: &[u32; BINARY_WORDS], count: usize, i: usize) -> ShownPoint
     ensures { result ≡ shown_at (binaries_alone count ws.now) PointKind.BinaryInput i }

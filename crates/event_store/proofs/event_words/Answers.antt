@@ -10,7 +10,8 @@ returns c =
     let e = c.args.e in
     let f : e.flags < 256 = omega arith in
     let cl : e.class < 256 = omega arith in
-    let b : k.result.bits < 4294967296 = omega arith in (
+    let b : k.result.bits < 4294967296 = omega arith in
+    rw (c.from-kind.ensures, c.from-bits.ensures, c.from-flags.ensures, c.from-class.ensures, c.from-point.ensures) (
       space_after e k.result.kind k.result.bits c.requires b f cl k.ensures.1 k.ensures.0,
       packed-small e k.result.kind k.result.bits c.requires b f cl k.ensures.1,
     )

@@ -16,7 +16,7 @@ use Rattle.laws.proofs.Filling.{clamped}
 use Rattle.laws.proofs.SameLaws.{same_as_eq}
 use Rattle.application.specs.Fragment.{next_of}
 use Rattle.control.specs.Objects.{echo_max}
-use Rattle.select_latch.proofs.Laws.{status-tested, status-empty, group-same, is_so, not_so}
+use Rattle.select_latch.proofs.Laws.{status-tested, status-empty, alike, apart, is_so, not_so}
 use Rattle.select_latch.proofs.operate_status.Goals as goal
 
 compared : (o objects : List ℕ) (len n : ℕ) → length objects ≡ 109 → n ≡ min len echo_max → (t : Bool) → pointwise eqb o (take n objects) ≡ t
@@ -34,24 +34,24 @@ returns-in_default c =
 pub returns-then-ne : goal.returns-then-ne
 returns-then-ne c =
     let a = c.args in
-    rw (status-tested a.arm_time a.latch c.in-Some.selection c.in-Some.is a.group a.sequence.0 a.time a.o.now, sym (group-same c.in-Some.selection.group a.group) ∙ not_so _ c.if-ne.ensures)
+    rw (status-tested a.arm_time a.latch c.in-Some.selection c.in-Some.is a.group a.sequence.0 a.time a.o.now, apart c.in-Some.selection.group a.group c.if-ne.ensures)
 
 pub returns-then-ne-2 : goal.returns-then-ne-2
 returns-then-ne-2 c =
     let a = c.args in
-    rw (status-tested a.arm_time a.latch c.in-Some.selection c.in-Some.is a.group a.sequence.0 a.time a.o.now, sym (group-same c.in-Some.selection.group a.group) ∙ is_so _ c.if-ne.ensures, compared a.o.now c.in-Some.selection.objects c.in-Some.selection.len _ (search (length-mapped, rules)) c.min-len.ensures false (not_so _ c.if-ne-2.ensures))
+    rw (status-tested a.arm_time a.latch c.in-Some.selection c.in-Some.is a.group a.sequence.0 a.time a.o.now, alike c.in-Some.selection.group a.group c.if-ne.ensures, compared a.o.now c.in-Some.selection.objects c.in-Some.selection.len _ (search (length-mapped, rules)) c.min-len.ensures false (not_so _ c.if-ne-2.ensures))
 
 pub returns-then-ne-3 : goal.returns-then-ne-3
 returns-then-ne-3 c =
     let a = c.args in
-    rw (status-tested a.arm_time a.latch c.in-Some.selection c.in-Some.is a.group a.sequence.0 a.time a.o.now, sym (group-same c.in-Some.selection.group a.group) ∙ is_so _ c.if-ne.ensures, compared a.o.now c.in-Some.selection.objects c.in-Some.selection.len _ (search (length-mapped, rules)) c.min-len.ensures true (is_so _ c.if-ne-2.ensures), sequence _ _ _ false c.next.ensures (not_so _ c.if-ne-3.ensures))
+    rw (status-tested a.arm_time a.latch c.in-Some.selection c.in-Some.is a.group a.sequence.0 a.time a.o.now, alike c.in-Some.selection.group a.group c.if-ne.ensures, compared a.o.now c.in-Some.selection.objects c.in-Some.selection.len _ (search (length-mapped, rules)) c.min-len.ensures true (is_so _ c.if-ne-2.ensures), sequence _ _ _ false c.next.ensures (not_so _ c.if-ne-3.ensures))
 
 pub returns-then-arm_time-elapsed : goal.returns-then-arm_time-elapsed
 returns-then-arm_time-elapsed c =
     let a = c.args in
-    rw (status-tested a.arm_time a.latch c.in-Some.selection c.in-Some.is a.group a.sequence.0 a.time a.o.now, sym (group-same c.in-Some.selection.group a.group) ∙ is_so _ c.if-ne.ensures, compared a.o.now c.in-Some.selection.objects c.in-Some.selection.len _ (search (length-mapped, rules)) c.min-len.ensures true (is_so _ c.if-ne-2.ensures), sequence _ _ _ true c.next.ensures (is_so _ c.if-ne-3.ensures), lt-leb (a.time - c.in-Some.selection.time) a.arm_time (omega arith))
+    rw (status-tested a.arm_time a.latch c.in-Some.selection c.in-Some.is a.group a.sequence.0 a.time a.o.now, alike c.in-Some.selection.group a.group c.if-ne.ensures, compared a.o.now c.in-Some.selection.objects c.in-Some.selection.len _ (search (length-mapped, rules)) c.min-len.ensures true (is_so _ c.if-ne-2.ensures), sequence _ _ _ true c.next.ensures (is_so _ c.if-ne-3.ensures), lt-leb (a.time - c.in-Some.selection.time) a.arm_time (omega arith))
 
 pub returns-else-arm_time-elapsed : goal.returns-else-arm_time-elapsed
 returns-else-arm_time-elapsed c =
     let a = c.args in
-    rw (status-tested a.arm_time a.latch c.in-Some.selection c.in-Some.is a.group a.sequence.0 a.time a.o.now, sym (group-same c.in-Some.selection.group a.group) ∙ is_so _ c.if-ne.ensures, compared a.o.now c.in-Some.selection.objects c.in-Some.selection.len _ (search (length-mapped, rules)) c.min-len.ensures true (is_so _ c.if-ne-2.ensures), sequence _ _ _ true c.next.ensures (is_so _ c.if-ne-3.ensures), le-leb (a.time - c.in-Some.selection.time) a.arm_time (omega arith))
+    rw (status-tested a.arm_time a.latch c.in-Some.selection c.in-Some.is a.group a.sequence.0 a.time a.o.now, alike c.in-Some.selection.group a.group c.if-ne.ensures, compared a.o.now c.in-Some.selection.objects c.in-Some.selection.len _ (search (length-mapped, rules)) c.min-len.ensures true (is_so _ c.if-ne-2.ensures), sequence _ _ _ true c.next.ensures (is_so _ c.if-ne-3.ensures), le-leb (a.time - c.in-Some.selection.time) a.arm_time (omega arith))
