@@ -7,6 +7,11 @@ use Rattle.laws.proofs.Filling.{to_end}
 use Rattle.control.proofs.FormLaws.{formed-fits}
 use Rattle.control.proofs.objects.Goals as goal
 
+pub overflow_add-x : goal.overflow_add-x
+overflow_add-x c =
+    let fit = formed-fits c.args.o.now c.args.x c.requires in
+    omega arith
+
 pub slice_bounds-taken-count : goal.slice_bounds-taken-count
 slice_bounds-taken-count c =
     let fit = formed-fits c.args.o.now c.args.x c.requires in

@@ -31,24 +31,6 @@ overflow_add-e-in-loop-i c =
     let st = span-step a.w a.z a.n c.loop-i.i (omega arith) in
     omega (arith, st)
 
-pub overflow_add-at : goal.overflow_add-at
-overflow_add-at c =
-    let a = c.args in
-    let st = span-step a.w a.z a.n c.loop-i.i (omega arith) in
-    omega (arith, st)
-
-pub slice_bounds-copy-count : goal.slice_bounds-copy-count
-slice_bounds-copy-count c =
-    let a = c.args in
-    let st = span-step a.w a.z a.n c.loop-i.i (omega arith) in
-    omega (arith, st)
-
-pub slice_bounds-copy-start : goal.slice_bounds-copy-start
-slice_bounds-copy-start c =
-    let a = c.args in
-    let st = span-step a.w a.z a.n c.loop-i.i (omega arith) in
-    omega (arith, st)
-
 pub slice_bounds-copy-end : goal.slice_bounds-copy-end
 slice_bounds-copy-end c =
     let a = c.args in
@@ -61,20 +43,8 @@ copy-requires c =
     let st = span-step a.w a.z a.n c.loop-i.i (omega arith) in
     simp (length-take, length-drop) (omega (arith, st))
 
-pub overflow_add-out : goal.overflow_add-out
-overflow_add-out c =
-    let a = c.args in
-    let st = span-step a.w a.z a.n c.loop-i.i (omega arith) in
-    omega (arith, st)
-
 pub bounds-out-at : goal.bounds-out-at
 bounds-out-at c =
-    let a = c.args in
-    let st = span-step a.w a.z a.n c.loop-i.i (omega arith) in
-    omega (arith, st)
-
-pub overflow_add-from : goal.overflow_add-from
-overflow_add-from c =
     let a = c.args in
     let st = span-step a.w a.z a.n c.loop-i.i (omega arith) in
     omega (arith, st)

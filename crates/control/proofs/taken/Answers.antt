@@ -24,11 +24,6 @@ take_object-requires c =
     let st = span-step a.x.width (value_size a.x.kind) a.x.count c.loop-i.i (omega arith) in
     (simp (length-take, length-drop) (omega (arith, st)), omega arith)
 
-pub overflow_add-at : goal.overflow_add-at
-overflow_add-at c =
-    let a = c.args in
-    omega (arith, span-step a.x.width (value_size a.x.kind) a.x.count c.loop-i.i (omega arith))
-
 pub loop-i-preserved : goal.loop-i-preserved
 loop-i-preserved c =
     let a = c.args in
