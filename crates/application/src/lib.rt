@@ -93,6 +93,7 @@ pub fn classify(s: &[u8]) -> Option<Fragment>
     Some(Fragment::Request { sequence, function })
 }
 
+// The bit of this weight, where it is on: `w * u8::from(on)` is no plainer, and has a product to bound.
 fn bit(on: bool, w: u8) -> u8
     ensures { (result ≡ weight on w) × (result ≤ w) }
 {

@@ -372,7 +372,7 @@ pub fn with_zero(cs: ControlObjects, ss: [u8; OBJECTS_MAX]) -> ControlObjects
     next
 }
 
-// Puts n objects with these statuses at the offset.
+// Puts n objects with these statuses at the offset. It takes two sizes and a number and not a `Form`, whose kind says nothing here: that is plainer.
 fn put_objects(out: &mut [u8], at: usize, b: &[u8], w: usize, z: usize, ss: &[u8], n: usize)
     requires { (at + span w z n ≤ length out.old) × (span w z n ≤ length b.now) × (n ≤ length ss.now) }
     ensures { out.new ≡ splice out.old at (echoed w z (take n ss.now) b.now) }

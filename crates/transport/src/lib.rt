@@ -35,7 +35,8 @@ pub const SEGMENT_MAX: usize = 250;
 // The most bytes of a fragment.
 pub const FRAGMENT_MAX: usize = 2048;
 
-// A transport sequence number, modulo 64: a type of its own, so that it is not mixed with an application sequence.
+// A transport sequence number, modulo 64: a type of its own, so that it is not mixed with an application sequence. One type over the modulus would be no
+// plainer: neither crate stands on the other, and it would want a crate of its own for one line.
 #[derive(Clone, Copy)]
 pub struct TransportSequence(pub u8);
 
