@@ -21,14 +21,7 @@ ghost use Rattle.static_objects.specs.Running.{run_place, run_heading, RunFits};
 
 use point_store::{ANALOG_WORDS, BINARY_WORDS, Installed};
 use points::Value;
-use read_headers::Header;
-
-// The kinds of points: each has its group of objects.
-#[derive(Clone, Copy)]
-enum PointKind {
-    BinaryInput,
-    AnalogInput,
-}
+use read_headers::{Header, PointKind};
 
 // What a point shows: a binary's flags with its state, or an analog's flags and value.
 #[derive(Clone, Copy)]
@@ -48,12 +41,13 @@ struct Run {
 
 // ---- one point, and one header
 
+// Each kind of points has its group of objects.
 fn group(kind: PointKind) -> u8
     ensures { result ≡ static_group kind }
 {
     match kind {
-        PointKind::BinaryInput => 1,
-        PointKind::AnalogInput => 30,
+        PointKind::Binary => 1,
+        PointKind::Analog => 30,
     }
 }
 
@@ -127,7 +121,7 @@ fn put_point(out: &mut [u8], at: usize, s: ShownPoint) -> usize
 // over both would be no plainer
 
 fn binary_shown(ws: &[u32; BINARY_WORDS], count: usize, i: usize) -> ShownPoint
-    ensures { result ≡ shown_at (binaries_alone count ws.now) PointKind.BinaryInput i }
+    ensures { result ≡ shown_at (binaries_alone count ws.now) PointKind.Binary i }
 {
     if i < points::installed(count) {
         let b = point_store::load_binary(ws, i);
@@ -138,7 +132,7 @@ fn binary_shown(ws: &[u32; BINARY_WORDS], count: usize, i: usize) -> ShownPoint
 }
 
 fn analog_shown(ws: &[u32; ANALOG_WORDS], count: usize, i: usize) -> ShownPoint
-    ensures { result ≡ shown_at (analogs_alone count ws.now) PointKind.AnalogInput i }
+    ensures { result ≡ shown_at (analogs_alone count ws.now) PointKind.Analog i }
 {
     if i < points::installed(count) {
         let a = point_store::load_shown(ws, i);
@@ -153,7 +147,7 @@ fn analog_shown(ws: &[u32; ANALOG_WORDS], count: usize, i: usize) -> ShownPoint
 // The bytes that n binaries take.
 fn binaries_size(n: usize) -> usize
     requires { n < 200000 }
-    ensures { ((i : PointsView) (from : ℕ) → result ≡ length (range_bytes i PointKind.BinaryInput from n)) × (result ≤ 7 + n) }
+    ensures { ((i : PointsView) (from : ℕ) → result ≡ length (range_bytes i PointKind.Binary from n)) × (result ≤ 7 + n) }
 {
     if n == 0 { 0 } else { 7 + n }
 }
@@ -169,7 +163,7 @@ fn put_states(
 )
     requires { (at + n ≤ length out.old) × (from + n < 200000) }
     ensures { out.new ≡
-        splice out.old at (object_bytes (point_objects (binaries_alone count ws.now) PointKind.BinaryInput from n)) }
+        splice out.old at (object_bytes (point_objects (binaries_alone count ws.now) PointKind.Binary from n)) }
 {
     let mut to = at;
     for i in from..from + n {
@@ -186,15 +180,15 @@ fn put_binaries(
     from: usize,
     n: usize,
 ) -> usize
-    requires { (at + length (range_bytes (binaries_alone count ws.now) PointKind.BinaryInput from n) ≤ length out.old)
+    requires { (at + length (range_bytes (binaries_alone count ws.now) PointKind.Binary from n) ≤ length out.old)
         × (from + n < 200000) }
-    ensures { (result ≡ at + length (range_bytes (binaries_alone count ws.now) PointKind.BinaryInput from n))
-        × (out.new ≡ splice out.old at (range_bytes (binaries_alone count ws.now) PointKind.BinaryInput from n)) }
+    ensures { (result ≡ at + length (range_bytes (binaries_alone count ws.now) PointKind.Binary from n))
+        × (out.new ≡ splice out.old at (range_bytes (binaries_alone count ws.now) PointKind.Binary from n)) }
 {
     if n == 0 {
         return at;
     }
-    let to = put_heading(out, at, PointKind::BinaryInput, 2, from, n - 1);
+    let to = put_heading(out, at, PointKind::Binary, 2, from, n - 1);
     put_states(out, to, ws, count, from, n);
     to + n
 }
@@ -204,7 +198,7 @@ fn put_binaries(
 // The bytes that n analogs from `from` on take.
 fn analogs_size(ws: &[u32; ANALOG_WORDS], count: usize, from: usize, n: usize) -> usize
     requires { from + n < 200000 }
-    ensures { (result ≡ length (range_bytes (analogs_alone count ws.now) PointKind.AnalogInput from n)) × (result ≤ 12 * n) }
+    ensures { (result ≡ length (range_bytes (analogs_alone count ws.now) PointKind.Analog from n)) × (result ≤ 12 * n) }
 {
     let mut total = 0;
     let mut last = None;
@@ -226,14 +220,7 @@ fn end_run(out: &mut [u8], run: Option<Run>)
     ensures { out.new ≡ splice out.old (run_place run) (run_heading run) }
 {
     if let Some(r) = run {
-        put_heading(
-            out,
-            r.at,
-            PointKind::AnalogInput,
-            r.variation,
-            r.first,
-            r.more,
-        );
+        put_heading(out, r.at, PointKind::Analog, r.variation, r.first, r.more);
     }
 }
 
@@ -247,10 +234,10 @@ fn put_analogs(
     from: usize,
     n: usize,
 ) -> usize
-    requires { (at + length (range_bytes (analogs_alone count ws.now) PointKind.AnalogInput from n) ≤ length out.old)
+    requires { (at + length (range_bytes (analogs_alone count ws.now) PointKind.Analog from n) ≤ length out.old)
         × (from + n < 200000) }
-    ensures { (result ≡ at + length (range_bytes (analogs_alone count ws.now) PointKind.AnalogInput from n))
-        × (out.new ≡ splice out.old at (range_bytes (analogs_alone count ws.now) PointKind.AnalogInput from n)) }
+    ensures { (result ≡ at + length (range_bytes (analogs_alone count ws.now) PointKind.Analog from n))
+        × (out.new ≡ splice out.old at (range_bytes (analogs_alone count ws.now) PointKind.Analog from n)) }
 {
     let mut to = at;
     let mut run: Option<Run> = None;
