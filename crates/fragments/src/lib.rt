@@ -33,8 +33,9 @@ use effects::{RequestContext, RequestEffect};
 use event_store::{BufferStatus, EVENT_WORDS};
 use last_request::LastLengths;
 use outstation::{Awaited, Head};
-use point_store::{ANALOG_WORDS, BINARY_WORDS, Installed};
+use point_store::{ANALOG_WORDS, BINARY_WORDS};
 use select_latch::{ControlGroup, Selection};
+use static_objects::Points;
 
 // Why a fragment is refused.
 #[derive(Clone, Copy)]
@@ -216,12 +217,13 @@ fn answer_read(
         (λ o u. record { binaries = binaries.now; analogs = analogs.now; held = held.new; request = request.new; answer = answer.new; objects = o; outputs = u })
         out.old out.new }
 {
-    let n = Installed {
-        binaries: h.binary_count,
-        analogs: h.analog_count,
+    let points = Points {
+        binaries,
+        analogs,
+        installed: outstation::installed_of(h),
     };
     let t = outstation::buffer_status(h);
-    let reply = read::respond(out, &r.bytes[2..], binaries, analogs, n, held, t);
+    let reply = read::respond(out, &r.bytes[2..], points, held, t);
     let fault = reply.fault;
     let con = con_by(fault, event_store::any_carried(held, t), t.overflow);
     put_response_header(

@@ -23,6 +23,14 @@ use point_store::{ANALOG_WORDS, BINARY_WORDS, Installed};
 use points::Value;
 use read_headers::{Header, PointKind};
 
+// The points that the host lends: their words, and how many are installed.
+#[derive(Clone, Copy)]
+pub struct Points<'a> {
+    pub binaries: &'a [u32; BINARY_WORDS],
+    pub analogs: &'a [u32; ANALOG_WORDS],
+    pub installed: Installed,
+}
+
 // What a point shows: a binary's flags with its state, or an analog's flags and value.
 #[derive(Clone, Copy)]
 enum ShownPoint {
@@ -280,31 +288,24 @@ pub fn header_size(h: Header, analogs: &[u32; ANALOG_WORDS], n: Installed) -> us
 }
 
 // Puts what a header asks for at the offset, and answers the offset after it.
-pub fn put_header(
-    out: &mut [u8],
-    at: usize,
-    h: Header,
-    binaries: &[u32; BINARY_WORDS],
-    analogs: &[u32; ANALOG_WORDS],
-    n: Installed,
-) -> usize
-    requires { at + length (header_bytes (points_view_in n binaries.now analogs.now) h) ≤ length out.old }
-    ensures { (result ≡ at + length (header_bytes (points_view_in n binaries.now analogs.now) h))
-        × (out.new ≡ splice out.old at (header_bytes (points_view_in n binaries.now analogs.now) h)) }
+pub fn put_header(out: &mut [u8], at: usize, h: Header, points: Points<'_>) -> usize
+    requires { at + length (header_bytes (points_view_in points.installed points.binaries.now points.analogs.now) h) ≤ length out.old }
+    ensures { (result ≡ at + length (header_bytes (points_view_in points.entry.installed points.entry.binaries.now points.entry.analogs.now) h))
+        × (out.new ≡ splice out.old at (header_bytes (points_view_in points.entry.installed points.entry.binaries.now points.entry.analogs.now) h)) }
 {
     let to = put_binaries(
         out,
         at,
-        binaries,
-        n.binaries,
+        points.binaries,
+        points.installed.binaries,
         h.binary as usize,
         h.binaries as usize,
     );
     put_analogs(
         out,
         to,
-        analogs,
-        n.analogs,
+        points.analogs,
+        points.installed.analogs,
         h.analog as usize,
         h.analogs as usize,
     )
