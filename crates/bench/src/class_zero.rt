@@ -5,6 +5,7 @@ use application::FRAGMENT_MAX;
 use event_store::{BufferStatus, EVENT_WORDS};
 use point_store::{ANALOG_WORDS, BINARY_WORDS, Installed};
 use points::{AnalogKind, AnalogPoint, AnalogSetup, BinaryPoint, Gate, POINTS_MAX, Scale};
+use static_objects::Points;
 
 fn kind_of(i: usize) -> AnalogKind {
     match i % 3 {
@@ -67,15 +68,12 @@ pub fn class_zero(count: u64, n: usize) -> u64 {
         let left = count - done;
         let k = (left % POINTS) as usize;
         point_store::store_binary(&mut binaries, k, binary_of(left % 3 == 0, 1));
-        let r = read::respond(
-            &mut out,
-            &[60, 1, 6],
-            &binaries,
-            &analogs,
+        let points = Points {
+            binaries: &binaries,
+            analogs: &analogs,
             installed,
-            &mut held,
-            none,
-        );
+        };
+        let r = read::respond(&mut out, &[60, 1, 6], points, &mut held, none);
         let i = (sum % 1024) as usize;
         sum = fold(sum, (r.size as u64).wrapping_add(byte_at(&out, i)));
     }

@@ -1,7 +1,7 @@
 // Events: what is held of each, and what the selection of a response does with it.
 #![tactic(auto)]
 
-ghost use Rattle.std.specs.Prelude.{◌≡◌, ◌||◌, min, ◌≤◌, eqb};
+ghost use Rattle.std.specs.Prelude.{◌≡◌, min, ◌≤◌};
 ghost use Rattle.laws.specs.Limits.{events_max};
 ghost use Rattle.events.specs.Placing.{kind_of, object_size, is_asked, cost_of, place_event};
 
@@ -132,11 +132,4 @@ pub fn place_event(m: Classes, k: Space, e: Event) -> Placement
     } else {
         Placement::Pass
     }
-}
-
-// Whether the class was met earlier, or is this one.
-pub fn met(earlier: bool, class: u8, wanted: u8) -> bool
-    ensures { result ≡ (earlier || eqb class wanted) }
-{
-    earlier || class == wanted
 }

@@ -33,8 +33,9 @@ use effects::{RequestContext, RequestEffect};
 use event_store::{BufferStatus, EVENT_WORDS};
 use last_request::LastLengths;
 use outstation::{Awaited, Head};
-use point_store::{ANALOG_WORDS, BINARY_WORDS, Installed};
+use point_store::{ANALOG_WORDS, BINARY_WORDS};
 use select_latch::{ControlGroup, Selection};
+use static_objects::Points;
 
 // Why a fragment is refused.
 #[derive(Clone, Copy)]
@@ -82,6 +83,15 @@ pub struct FragmentResult {
     pub head: Head,
     pub answer: Result<FragmentAnswer, FragmentRefusal>,
     pub operated: ControlObjects,
+}
+
+// A request of the master: its sequence and function, when it came, and all its bytes.
+#[derive(Clone, Copy)]
+struct Request<'a> {
+    sequence: ApplicationSequence,
+    function: u8,
+    time: u64,
+    bytes: &'a [u8],
 }
 
 // What an answer says beside its objects and the indications of the state.
@@ -198,36 +208,35 @@ fn answer_read(
     held: &mut [u64; EVENT_WORDS],
     request: &mut [u8; FRAGMENT_MAX],
     answer: &mut [u8; ANSWER_MAX],
-    q: ApplicationSequence,
-    time: u64,
-    f: &[u8],
+    r: Request<'_>,
     out: &mut [u8],
 ) -> FragmentResult
-    requires { (2 ≤ length f.now) × (length f.now ≤ fragment_max) × (fragment_max ≤ length out.old) }
+    requires { (2 ≤ length r.bytes.now) × (length r.bytes.now ≤ fragment_max) × (fragment_max ≤ length out.old) }
     ensures { ReadHolds h (λ o u. record { binaries = binaries.now; analogs = analogs.now; held = held.old; request = request.old; answer = answer.old; objects = o; outputs = u })
-        q.0 time f.now result
+        r.entry.sequence.0 r.entry.time r.entry.bytes.now result
         (λ o u. record { binaries = binaries.now; analogs = analogs.now; held = held.new; request = request.new; answer = answer.new; objects = o; outputs = u })
         out.old out.new }
 {
-    let n = Installed {
-        binaries: h.binary_count,
-        analogs: h.analog_count,
+    let points = Points {
+        binaries,
+        analogs,
+        installed: outstation::installed_of(h),
     };
     let t = outstation::buffer_status(h);
-    let reply = read::respond(out, &f[2..], binaries, analogs, n, held, t);
+    let reply = read::respond(out, &r.bytes[2..], points, held, t);
     let fault = reply.fault;
     let con = con_by(fault, event_store::any_carried(held, t), t.overflow);
     put_response_header(
         out,
-        q,
+        r.sequence,
         ResponseFlags { fault, con },
         held,
         t,
         h.restarted != 0,
     );
-    let kept = last_request::remember(request, answer, f, &f[..0]);
+    let kept = last_request::remember(request, answer, r.bytes, &r.bytes[..0]);
     FragmentResult {
-        head: after_read(h, q, time, con, kept),
+        head: after_read(h, r.sequence, r.time, con, kept),
         answer: Ok(FragmentAnswer::Answer(reply.size)),
         operated: control::none(),
     }
@@ -284,17 +293,16 @@ fn repeat_request(
     h: Head,
     request: &[u8; FRAGMENT_MAX],
     answer: &[u8; ANSWER_MAX],
-    function: u8,
-    time: u64,
+    r: Request<'_>,
     out: &mut [u8],
 ) -> FragmentResult
     requires { fragment_max ≤ length out.old }
-    ensures { RepeatHolds h request.now answer.now function time result out.old out.new }
+    ensures { RepeatHolds h request.now answer.now r.entry.function r.entry.time result out.old out.new }
 {
-    let n = put_again(h, request, answer, function, out);
+    let n = put_again(h, request, answer, r.function, out);
     FragmentResult {
-        head: Head { clock: time, ..h },
-        answer: Ok(answer_as(function, n)),
+        head: Head { clock: r.time, ..h },
+        answer: Ok(answer_as(r.function, n)),
         operated: control::none(),
     }
 }
@@ -427,27 +435,32 @@ fn answer_request(
     answer: &mut [u8; ANSWER_MAX],
     objects: &mut [u8; ECHO_MAX],
     outputs: &[u32; ANALOG_OUTPUT_WORDS],
-    q: ApplicationSequence,
-    function: u8,
-    time: u64,
-    f: &[u8],
+    r: Request<'_>,
     out: &mut [u8],
 ) -> FragmentResult
-    requires { (2 ≤ length f.now) × (length f.now ≤ fragment_max) × (fragment_max ≤ length out.old) }
+    requires { (2 ≤ length r.bytes.now) × (length r.bytes.now ≤ fragment_max) × (fragment_max ≤ length out.old) }
     ensures { OtherHolds h (λ b a. record { binaries = b; analogs = a; held = held.old; request = request.old; answer = answer.old; objects = objects.old; outputs = outputs.now })
-        q.0 function time f.now result
+        r.entry.sequence.0 r.entry.function r.entry.time r.entry.bytes.now result
         (λ b a. record { binaries = b; analogs = a; held = held.new; request = request.new; answer = answer.new; objects = objects.new; outputs = outputs.now })
         out.old out.new }
 {
     let seen = context_of(h, objects);
-    let d = effects::effect_by(seen, outputs, q, function, time, &f[2..], out);
+    let d = effects::effect_by(
+        seen,
+        outputs,
+        r.sequence,
+        r.function,
+        r.time,
+        &r.bytes[2..],
+        out,
+    );
     let t = outstation::buffer_status(h);
     event_store::clear(held, t);
-    let n = put_answer(out, q, function, d, held, t);
-    let kept = last_request::remember(request, answer, f, &out[..n]);
+    let n = put_answer(out, r.sequence, r.function, d, held, t);
+    let kept = last_request::remember(request, answer, r.bytes, &out[..n]);
     FragmentResult {
-        head: after_request(h, objects, time, d.restarted, d.latch, kept),
-        answer: Ok(answer_as(function, n)),
+        head: after_request(h, objects, r.time, d.restarted, d.latch, kept),
+        answer: Ok(answer_as(r.function, n)),
         operated: d.operated,
     }
 }
@@ -464,27 +477,22 @@ fn take_request(
     answer: &mut [u8; ANSWER_MAX],
     objects: &mut [u8; ECHO_MAX],
     outputs: &[u32; ANALOG_OUTPUT_WORDS],
-    q: ApplicationSequence,
-    function: u8,
-    time: u64,
-    f: &[u8],
+    r: Request<'_>,
     out: &mut [u8],
 ) -> FragmentResult
-    requires { (2 ≤ length f.now) × (length f.now ≤ fragment_max) × (fragment_max ≤ length out.old) }
+    requires { (2 ≤ length r.bytes.now) × (length r.bytes.now ≤ fragment_max) × (fragment_max ≤ length out.old) }
     ensures { RequestHolds h (record { binaries = binaries.now; analogs = analogs.now; held = held.old; request = request.old; answer = answer.old; objects = objects.old; outputs = outputs.now })
-        q.0 function time f.now result
+        r.entry.sequence.0 r.entry.function r.entry.time r.entry.bytes.now result
         (record { binaries = binaries.now; analogs = analogs.now; held = held.new; request = request.new; answer = answer.new; objects = objects.new; outputs = outputs.now })
         out.old out.new }
 {
-    if function == 1 {
-        return answer_read(h, binaries, analogs, held, request, answer, q, time, f, out);
+    if r.function == 1 {
+        return answer_read(h, binaries, analogs, held, request, answer, r, out);
     }
-    if last_request::is_repeat(request, answer, last_of(h), f) {
-        return repeat_request(h, request, answer, function, time, out);
+    if last_request::is_repeat(request, answer, last_of(h), r.bytes) {
+        return repeat_request(h, request, answer, r, out);
     }
-    answer_request(
-        h, held, request, answer, objects, outputs, q, function, time, f, out,
-    )
+    answer_request(h, held, request, answer, objects, outputs, r, out)
 }
 
 // A fragment from the master, and the lent output for its answer.
@@ -520,9 +528,16 @@ pub fn fragment(
             sequence,
             unsolicited,
         } => take_confirm(h, held, sequence, unsolicited, time),
-        Fragment::Request { sequence, function } => take_request(
-            h, binaries, analogs, held, request, answer, objects, outputs, sequence, function,
-            time, f, out,
-        ),
+        Fragment::Request { sequence, function } => {
+            let r = Request {
+                sequence,
+                function,
+                time,
+                bytes: f,
+            };
+            take_request(
+                h, binaries, analogs, held, request, answer, objects, outputs, r, out,
+            )
+        }
     }
 }

@@ -15,8 +15,9 @@ ghost use Rattle.read.specs.Response.{request_of, static_part, RepliedAs};
 use application::{FRAGMENT_MAX, Fault};
 use event_store::{BufferStatus, EVENT_WORDS};
 use events::Classes;
-use point_store::{ANALOG_WORDS, BINARY_WORDS, Installed};
+use point_store::{ANALOG_WORDS, Installed};
 use read_headers::HEADERS_MAX;
+use static_objects::Points;
 
 // The bytes of a response's objects: 2,048 less the four bytes in front of them.
 const RESPONSE_OBJECTS_MAX: usize = FRAGMENT_MAX - 4;
@@ -80,25 +81,18 @@ fn asked(s: &[u8], analogs: &[u32; ANALOG_WORDS], n: Installed) -> Result<ReadRe
 
 // Puts the static part of a READ that `asked` found faultless at the offset, and answers the offset after it. No fault is met again before
 // the end of the bytes.
-fn put_static(
-    out: &mut [u8],
-    at: usize,
-    s: &[u8],
-    binaries: &[u32; BINARY_WORDS],
-    analogs: &[u32; ANALOG_WORDS],
-    n: Installed,
-) -> usize
-    requires { (fault_in (asked_of (points_view_in n binaries.now analogs.now) s.now) ≡ None)
-        × (at + length (static_part (points_view_in n binaries.now analogs.now) s.now) ≤ length out.old) }
-    ensures { (result ≡ at + length (static_part (points_view_in n binaries.now analogs.now) s.now))
-        × (out.new ≡ splice out.old at (static_part (points_view_in n binaries.now analogs.now) s.now)) }
+fn put_static(out: &mut [u8], at: usize, s: &[u8], points: Points<'_>) -> usize
+    requires { (fault_in (asked_of (points_view_in points.installed points.binaries.now points.analogs.now) s.now) ≡ None)
+        × (at + length (static_part (points_view_in points.installed points.binaries.now points.analogs.now) s.now) ≤ length out.old) }
+    ensures { (result ≡ at + length (static_part (points_view_in points.entry.installed points.entry.binaries.now points.entry.analogs.now) s.now))
+        × (out.new ≡ splice out.old at (static_part (points_view_in points.entry.installed points.entry.binaries.now points.entry.analogs.now) s.now)) }
 {
-    let binary_count = points::installed(n.binaries) as u16;
-    let analog_count = points::installed(n.analogs) as u16;
+    let binary_count = points::installed(points.installed.binaries) as u16;
+    let analog_count = points::installed(points.installed.analogs) as u16;
     let mut to = at;
     let mut rest = s;
     while let Ok(front) = read_headers::front_header(rest, binary_count, analog_count) {
-        to = static_objects::put_header(out, to, front.header, binaries, analogs, n);
+        to = static_objects::put_header(out, to, front.header, points);
         rest = &rest[front.size..];
     }
     to
@@ -108,37 +102,33 @@ fn put_static(
 fn put_objects(
     out: &mut [u8],
     s: &[u8],
-    binaries: &[u32; BINARY_WORDS],
-    analogs: &[u32; ANALOG_WORDS],
-    n: Installed,
+    points: Points<'_>,
     held: &[u64; EVENT_WORDS],
     status: BufferStatus,
 ) -> usize
-    requires { (fault_in (asked_of (points_view_in n binaries.now analogs.now) s.now) ≡ None)
+    requires { (fault_in (asked_of (points_view_in points.installed points.binaries.now points.analogs.now) s.now) ≡ None)
         × (4 + length (carried_bytes (buffer_view_in held.now status).held)
-        + length (static_part (points_view_in n binaries.now analogs.now) s.now) ≤ length out.old) }
-    ensures { (result ≡ 4 + length (carried_bytes (buffer_view_in held.now status).held ++ static_part (points_view_in n binaries.now analogs.now) s.now))
-        × (out.new ≡ splice out.old 4 (carried_bytes (buffer_view_in held.now status).held ++ static_part (points_view_in n binaries.now analogs.now) s.now)) }
+        + length (static_part (points_view_in points.installed points.binaries.now points.analogs.now) s.now) ≤ length out.old) }
+    ensures { (result ≡ 4 + length (carried_bytes (buffer_view_in held.now status).held ++ static_part (points_view_in points.entry.installed points.entry.binaries.now points.entry.analogs.now) s.now))
+        × (out.new ≡ splice out.old 4 (carried_bytes (buffer_view_in held.now status).held ++ static_part (points_view_in points.entry.installed points.entry.binaries.now points.entry.analogs.now) s.now)) }
 {
     let to = event_objects::put_events(out, 4, held, status);
-    put_static(out, to, s, binaries, analogs, n)
+    put_static(out, to, s, points)
 }
 
 // Answers a READ, of the bytes after control and function.
 pub fn respond(
     out: &mut [u8],
     s: &[u8],
-    binaries: &[u32; BINARY_WORDS],
-    analogs: &[u32; ANALOG_WORDS],
-    n: Installed,
+    points: Points<'_>,
     held: &mut [u64; EVENT_WORDS],
     status: BufferStatus,
 ) -> Reply
     requires { fragment_max ≤ length out.old }
-    ensures { RepliedAs (points_view_in n binaries.now analogs.now) s.now (buffer_view_in held.old status) out.old result
+    ensures { RepliedAs (points_view_in points.entry.installed points.entry.binaries.now points.entry.analogs.now) s.now (buffer_view_in held.old status) out.old result
         (buffer_view_in held.new status) out.new }
 {
-    match asked(s, analogs, n) {
+    match asked(s, points.analogs, points.installed) {
         Ok(request) => {
             event_store::mark_carried(
                 held,
@@ -146,7 +136,7 @@ pub fn respond(
                 request.classes,
                 RESPONSE_OBJECTS_MAX - request.size,
             );
-            let size = put_objects(out, s, binaries, analogs, n, held, status);
+            let size = put_objects(out, s, points, held, status);
             Reply { fault: None, size }
         }
         Err(fault) => {

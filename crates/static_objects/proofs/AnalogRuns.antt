@@ -6,7 +6,7 @@ use Rattle.octets.specs.Bytes.{splice}
 use Rattle.objects.specs.Runs.{Object}
 use Rattle.static_objects.specs.Static.{static_heading}
 use Rattle.static_objects.specs.Running.{run_place, run_heading, RunFits}
-use Rattle.static_objects.specs.declared.PointKind.TheVariants.{AnalogInput}
+use Rattle.read_headers.specs.declared.PointKind.TheVariants as K
 use Rattle.static_objects.specs.declared.Run.{Run}
 use Rattle.static_objects.proofs.RunWriting.{Running, top, top-fits, joined-fits, joined, begun-fits, begun}
 use Rattle.static_objects.proofs.StaticLaws.{heading-length}
@@ -29,11 +29,11 @@ RunBefore None i = Unit {0}
 RunBefore (Some r) i = (r.variation ≡ 0 → ⊥) × (r.first + r.more < i)
 
 pub record Going (out₀ : List ℕ) (at : ℕ) (whole : List Object) (out : List ℕ) (to : ℕ) (run : Option Run) (i : ℕ) (ys : List Object) : Type 0 where
-  pub running : Running (static_heading AnalogInput) 7 out₀ at whole out to (run_place run) (run_variation run) (run_first run) (run_more run) ys
+  pub running : Running (static_heading K.Analog) 7 out₀ at whole out to (run_place run) (run_variation run) (run_first run) (run_more run) ys
   pub before : RunBefore run i
 
 -- the header that `end_run` puts
-pub heading-is : (run : Option Run) (i : ℕ) → RunBefore run i → run_heading run ≡ top (static_heading AnalogInput) (run_variation run) (run_first run) (run_more run + 1)
+pub heading-is : (run : Option Run) (i : ℕ) → RunBefore run i → run_heading run ≡ top (static_heading K.Analog) (run_variation run) (run_first run) (run_more run + 1)
 heading-is None i h = refl
 heading-is (Some r) i h = rw (ne_eqb r.variation 0 h.0)
 
@@ -41,9 +41,9 @@ module _ {out₀ : List ℕ} {at : ℕ} {whole : List Object} {out : List ℕ} {
   pub run-fits : (run : Option Run) → i ≤ 200000 → Going out₀ at whole out to run i ys → RunFits run (length out)
   run-fits None h g = tt
   run-fits (Some r) h g =
-      let t = top-fits (static_heading AnalogInput) 7 (heading-length AnalogInput) g.running in
+      let t = top-fits (static_heading K.Analog) 7 (heading-length K.Analog) g.running in
       let e = ap length (heading-is (Some r) i g.before) in
-      (omega (arith, t, e, heading-length AnalogInput r.variation r.first (r.more + 1)), omega (arith, g.before.1))
+      (omega (arith, t, e, heading-length K.Analog r.variation r.first (r.more + 1)), omega (arith, g.before.1))
 
   -- the turn writes x, whose variation the code has as k and whose bytes as b
   module _ (run : Option Run) (g : Going out₀ at whole out to run i ys) (x : Object) (xs : List Object) (e : ys ≡ x ∷ xs) (k : ℕ) (hk : k ≡ x.kind) (b : List ℕ) (hb : b ≡ x.bytes) where
@@ -53,20 +53,20 @@ module _ {out₀ : List ℕ} {at : ℕ} {whole : List Object} {out : List ℕ} {
       now = subst (λ (q : Option Run). Going out₀ at whole out to q i ys) is g
 
       pub run-joined-fits : to + length b ≤ length out
-      run-joined-fits = joined-fits (static_heading AnalogInput) 7 (heading-length AnalogInput) now.running x xs e k hk b hb same
+      run-joined-fits = joined-fits (static_heading K.Analog) 7 (heading-length K.Analog) now.running x xs e k hk b hb same
 
       pub run-joined : (out' : List ℕ) (to' : ℕ) → to' ≡ to + length b → out' ≡ splice out to b
           → Going out₀ at whole out' to' (Some (record { at = r.at; variation = r.variation; first = r.first; more = r.more + 1 })) (i + 1) xs
       run-joined out' to' ht ho =
           record {
-            running = joined (static_heading AnalogInput) 7 (heading-length AnalogInput) now.running x xs e k hk b hb same out' to' ht ho;
+            running = joined (static_heading K.Analog) 7 (heading-length K.Analog) now.running x xs e k hk b hb same out' to' ht ho;
             before = (now.before.0, omega (arith, now.before.1));
           }
 
     -- in a run of its own
     module _ (new : k ≡ run_variation run → ⊥) where
       pub run-begun-fits : to + 7 + length b ≤ length out
-      run-begun-fits = begun-fits (static_heading AnalogInput) 7 (heading-length AnalogInput) g.running x xs e k hk b hb new
+      run-begun-fits = begun-fits (static_heading K.Analog) 7 (heading-length K.Analog) g.running x xs e k hk b hb new
 
       pub run-begun : (k ≡ 0 → ⊥) → x.index ≡ i → (to2 : ℕ) (out1 out2 : List ℕ) → out1 ≡ splice out (run_place run) (run_heading run)
           → to2 ≡ to + 7 + length b → out2 ≡ splice out1 (to + 7) b
@@ -74,7 +74,7 @@ module _ {out₀ : List ℕ} {at : ℕ} {whole : List Object} {out : List ℕ} {
       run-begun some at to2 out1 out2 h1 ht h2 =
           record {
             running =
-                begun (static_heading AnalogInput) 7 (heading-length AnalogInput) g.running x xs e k hk b hb new some to2 out1 out2
+                begun (static_heading K.Analog) 7 (heading-length K.Analog) g.running x xs e k hk b hb new some to2 out1 out2
                 (h1 ∙ ap (splice out (run_place run)) (heading-is run i g.before)) ht h2;
             before = (some, omega arith);
           }

@@ -1,8 +1,8 @@
 -- Laws of static objects: their number of bytes, and how they are put.
 -- Assumes nothing.
 use mathlib.Core.Path.{◌≡◌, refl, sym, ap, ◌∙◌}
-use Rattle.static_objects.specs.declared.PointKind.{PointKind}
-use Rattle.static_objects.specs.declared.PointKind.TheVariants.{BinaryInput}
+use Rattle.read_headers.specs.declared.PointKind.{PointKind}
+use Rattle.read_headers.specs.declared.PointKind.TheVariants as K
 use mathlib.Core.List.{List, [], ◌∷◌, ◌++◌, append-nil}
 use Prim.Native.Nat.{ℕ, zero, suc, ◌+◌, ◌-◌, ◌≤◌, ◌<◌}
 use native.Mathlib.Omega.{arith}
@@ -124,48 +124,48 @@ module _ (i : PointsView) where
   points-length a n zero = refl
   points-length a n (suc k) = ap suc (points-length a (n + 1) k)
 
-  one-run : (n k : ℕ) → runs (point_objects i BinaryInput n (suc k)) ≡ point_objects i BinaryInput n (suc k) ∷ []
+  one-run : (n k : ℕ) → runs (point_objects i K.Binary n (suc k)) ≡ point_objects i K.Binary n (suc k) ∷ []
   unfolding runs point_objects
   one-run n zero = refl
   one-run n (suc k) = rw (one-run (n + 1) k)
 
-  states-length : (n k : ℕ) → length (object_bytes (point_objects i BinaryInput n k)) ≡ k
+  states-length : (n k : ℕ) → length (object_bytes (point_objects i K.Binary n k)) ≡ k
   unfolding object_bytes point_objects point_bytes
   states-length n zero = refl
   states-length n (suc k) = ap suc (states-length (n + 1) k)
 
   -- a header, and what the points show
-  pub binaries-some : (n k : ℕ) → 0 < k → range_bytes i BinaryInput n k ≡ static_heading BinaryInput 2 n (k - 1 + 1) ++ object_bytes (point_objects i BinaryInput n k)
+  pub binaries-some : (n k : ℕ) → 0 < k → range_bytes i K.Binary n k ≡ static_heading K.Binary 2 n (k - 1 + 1) ++ object_bytes (point_objects i K.Binary n k)
   unfolding range_bytes encoded all_bytes point_objects
   binaries-some n zero h = absurd (omega arith)
   binaries-some n (suc k) h =
-      let xs : List Object = point_objects i BinaryInput n (suc k) in
-      let c : suc (length (point_objects i BinaryInput (n + 1) k)) ≡ suc k - 1 + 1 = omega (arith, points-length BinaryInput (n + 1) k) in
-      ap (all_bytes (static_heading BinaryInput)) (one-run n k)
+      let xs : List Object = point_objects i K.Binary n (suc k) in
+      let c : suc (length (point_objects i K.Binary (n + 1) k)) ≡ suc k - 1 + 1 = omega (arith, points-length K.Binary (n + 1) k) in
+      ap (all_bytes (static_heading K.Binary)) (one-run n k)
       ∙ append-nil _
-      ∙ ap (λ (q : ℕ). static_heading BinaryInput 2 n q ++ object_bytes xs) c
+      ∙ ap (λ (q : ℕ). static_heading K.Binary 2 n q ++ object_bytes xs) c
 
-  pub binaries-none : (n k : ℕ) → k ≤ 0 → range_bytes i BinaryInput n k ≡ []
+  pub binaries-none : (n k : ℕ) → k ≤ 0 → range_bytes i K.Binary n k ≡ []
   unfolding range_bytes encoded all_bytes runs
-  binaries-none n k h = ap (encoded (static_heading BinaryInput)) (points-nil i BinaryInput n k h)
+  binaries-none n k h = ap (encoded (static_heading K.Binary)) (points-nil i K.Binary n k h)
 
-  pub binaries-length : (n k : ℕ) → 0 < k → length (range_bytes i BinaryInput n k) ≡ 7 + k
+  pub binaries-length : (n k : ℕ) → 0 < k → length (range_bytes i K.Binary n k) ≡ 7 + k
   binaries-length n k h =
-      ap length (binaries-some n k h) ∙ length-append (static_heading BinaryInput 2 n (k - 1 + 1)) (object_bytes (point_objects i BinaryInput n k))
-      ∙ omega (arith, heading-length BinaryInput 2 n (k - 1 + 1), states-length n k)
+      ap length (binaries-some n k h) ∙ length-append (static_heading K.Binary 2 n (k - 1 + 1)) (object_bytes (point_objects i K.Binary n k))
+      ∙ omega (arith, heading-length K.Binary 2 n (k - 1 + 1), states-length n k)
 
   -- writing: the points to come from where the loop stands up to e, as all from its start
   pub record Showing (out₀ : List ℕ) (at from e : ℕ) (out : List ℕ) (to j : ℕ) : Type 0 where
-    pub ahead : splice out to (object_bytes (point_objects i BinaryInput j (e - j))) ≡ splice out₀ at (object_bytes (point_objects i BinaryInput from (e - from)))
+    pub ahead : splice out to (object_bytes (point_objects i K.Binary j (e - j))) ≡ splice out₀ at (object_bytes (point_objects i K.Binary from (e - from)))
     pub long : length out ≡ length out₀
     pub room : to + from ≡ at + j
 
   module _ {out₀ : List ℕ} {at from e : ℕ} {out : List ℕ} {to j : ℕ} (g : Showing out₀ at from e out to j) where
-    pub shown : j < e → (s : ShownPoint) → s ≡ shown_at i BinaryInput j → (out' : List ℕ) (to' : ℕ) → to' ≡ to + length (point_bytes s) → out' ≡ splice out to (point_bytes s)
+    pub shown : j < e → (s : ShownPoint) → s ≡ shown_at i K.Binary j → (out' : List ℕ) (to' : ℕ) → to' ≡ to + length (point_bytes s) → out' ≡ splice out to (point_bytes s)
         → Showing out₀ at from e out' to' (j + 1)
     unfolding object_bytes
     shown more s hs out' to' ht ho =
-        let tl : List ℕ = object_bytes (point_objects i BinaryInput (j + 1) (e - (j + 1))) in
+        let tl : List ℕ = object_bytes (point_objects i K.Binary (j + 1) (e - (j + 1))) in
         let one : length (point_bytes s) ≡ 1 = length-binary s _ hs in
         record {
           ahead =
@@ -173,23 +173,23 @@ module _ (i : PointsView) where
               ∙ ap (λ (q : ℕ). splice (splice out to (point_bytes s)) q tl) ht
               ∙ sym (splice-append out to (point_bytes s) tl)
               ∙ ap (λ (x : ShownPoint). splice out to (point_bytes x ++ tl)) hs
-              ∙ ap (λ (os : List Object). splice out to (object_bytes os)) (sym (points-next i BinaryInput j e more))
+              ∙ ap (λ (os : List Object). splice out to (object_bytes os)) (sym (points-next i K.Binary j e more))
               ∙ g.ahead;
           long = ap length ho ∙ length-splice out to (point_bytes s) ∙ g.long;
           room = omega (arith, g.room);
         }
 
-    pub all_shown : e ≤ j → out ≡ splice out₀ at (object_bytes (point_objects i BinaryInput from (e - from)))
+    pub all_shown : e ≤ j → out ≡ splice out₀ at (object_bytes (point_objects i K.Binary from (e - from)))
     unfolding object_bytes
-    all_shown h = sym (ap (λ (os : List Object). splice out to (object_bytes os)) (points-over i BinaryInput j e h) ∙ splice-nil out to) ∙ g.ahead
+    all_shown h = sym (ap (λ (os : List Object). splice out to (object_bytes os)) (points-over i K.Binary j e h) ∙ splice-nil out to) ∙ g.ahead
 
   -- a header, then what the points show
-  pub binaries-put : (d d1 d2 : List ℕ) (at to from n : ℕ) → 0 < n → to ≡ at + 7 → d1 ≡ splice d at (static_heading BinaryInput 2 from (n - 1 + 1))
-      → d2 ≡ splice d1 to (object_bytes (point_objects i BinaryInput from n)) → d2 ≡ splice d at (range_bytes i BinaryInput from n)
+  pub binaries-put : (d d1 d2 : List ℕ) (at to from n : ℕ) → 0 < n → to ≡ at + 7 → d1 ≡ splice d at (static_heading K.Binary 2 from (n - 1 + 1))
+      → d2 ≡ splice d1 to (object_bytes (point_objects i K.Binary from n)) → d2 ≡ splice d at (range_bytes i K.Binary from n)
   binaries-put d d1 d2 at to from n h ht h1 h2 =
-      let hd : List ℕ = static_heading BinaryInput 2 from (n - 1 + 1) in
-      let tl : List ℕ = object_bytes (point_objects i BinaryInput from n) in
-      let t : to ≡ at + length hd = ht ∙ ap (λ (q : ℕ). at + q) (sym (heading-length BinaryInput 2 from (n - 1 + 1))) in
+      let hd : List ℕ = static_heading K.Binary 2 from (n - 1 + 1) in
+      let tl : List ℕ = object_bytes (point_objects i K.Binary from n) in
+      let t : to ≡ at + length hd = ht ∙ ap (λ (q : ℕ). at + q) (sym (heading-length K.Binary 2 from (n - 1 + 1))) in
       h2
       ∙ ap (λ (x : List ℕ). splice x to tl) h1
       ∙ ap (λ (q : ℕ). splice (splice d at hd) q tl) t

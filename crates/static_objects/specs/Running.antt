@@ -2,7 +2,7 @@
 -- Assumes nothing.
 use Rattle.std.specs.Prelude.{ℕ, ◌+◌, ◌≤◌, ◌<◌, List, [], Option, Some, None}
 use Rattle.static_objects.specs.Static.{static_heading}
-use Rattle.static_objects.specs.declared.PointKind.TheVariants.{AnalogInput}
+use Rattle.read_headers.specs.declared.PointKind.TheVariants as K
 use Rattle.static_objects.specs.declared.Run.{Run}
 
 abbrev pub run_place : Option Run → ℕ
@@ -11,7 +11,7 @@ run_place (Some r) = r.at
 
 abbrev pub run_heading : Option Run → List ℕ
 run_heading None = []
-run_heading (Some r) = static_heading AnalogInput r.variation r.first (r.more + 1)
+run_heading (Some r) = static_heading K.Analog r.variation r.first (r.more + 1)
 
 -- its header has its place in so many bytes
 abbrev pub RunFits : Option Run → ℕ → Type 0

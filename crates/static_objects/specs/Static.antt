@@ -13,20 +13,20 @@ use Rattle.objects.specs.Runs.{Object, Heading, encoded}
 use Rattle.application.specs.declared.Fault.TheVariants.{BadParameter}
 use Rattle.read_headers.specs.declared.Header.{Header}
 use Rattle.read_headers.specs.Parse.{Parsed, headers, fault, parse}
-use Rattle.static_objects.specs.declared.PointKind.{PointKind}
-use Rattle.static_objects.specs.declared.PointKind.TheVariants.{BinaryInput, AnalogInput}
+use Rattle.read_headers.specs.declared.PointKind.{PointKind}
+use Rattle.read_headers.specs.declared.PointKind.TheVariants as K
 use Rattle.static_objects.specs.declared.ShownPoint.{ShownPoint}
 use Rattle.static_objects.specs.declared.ShownPoint.TheVariants.{Binary, Analog}
 
 -- what the n-th binary or analog input shows: flags with the state, or flags and a value
 abbrev pub shown_at : PointsView → PointKind → ℕ → ShownPoint
-shown_at i BinaryInput n = Binary (state_byte (get_or i.binaries n no_binary).state (get_or i.binaries n no_binary).flags)
-shown_at i AnalogInput n = Analog (get_or i.analogs n no_analog).flags (get_or i.analogs n no_analog).value
+shown_at i K.Binary n = Binary (state_byte (get_or i.binaries n no_binary).state (get_or i.binaries n no_binary).flags)
+shown_at i K.Analog n = Analog (get_or i.analogs n no_analog).flags (get_or i.analogs n no_analog).value
 
 -- 1 var 2; 30 var 1 (32-bit), 2 (16-bit), 5 (float)
 abbrev pub static_group : PointKind → ℕ
-static_group BinaryInput = 1
-static_group AnalogInput = 30
+static_group K.Binary = 1
+static_group K.Analog = 30
 
 abbrev pub value_variation : Value → ℕ
 value_variation (Int32 z) = 1
@@ -60,7 +60,7 @@ range_bytes i kind n k = encoded (static_heading kind) (point_objects i kind n k
 
 -- "binaries, then analogs", of a request header
 abbrev pub header_bytes : PointsView → Header → List ℕ
-header_bytes i h = range_bytes i BinaryInput h.binary h.binaries ++ range_bytes i AnalogInput h.analog h.analogs
+header_bytes i h = range_bytes i K.Binary h.binary h.binaries ++ range_bytes i K.Analog h.analog h.analogs
 
 -- "static parts in the order asked"
 unfoldable pub static_bytes : PointsView → List Header → List ℕ

@@ -21,13 +21,14 @@ ghost use Rattle.static_objects.specs.Running.{run_place, run_heading, RunFits};
 
 use point_store::{ANALOG_WORDS, BINARY_WORDS, Installed};
 use points::Value;
-use read_headers::Header;
+use read_headers::{Header, PointKind};
 
-// The kinds of points: each has its group of objects.
+// The points that the host lends: their words, and how many are installed.
 #[derive(Clone, Copy)]
-enum PointKind {
-    BinaryInput,
-    AnalogInput,
+pub struct Points<'a> {
+    pub binaries: &'a [u32; BINARY_WORDS],
+    pub analogs: &'a [u32; ANALOG_WORDS],
+    pub installed: Installed,
 }
 
 // What a point shows: a binary's flags with its state, or an analog's flags and value.
@@ -48,12 +49,13 @@ struct Run {
 
 // ---- one point, and one header
 
+// Each kind of points has its group of objects.
 fn group(kind: PointKind) -> u8
     ensures { result ≡ static_group kind }
 {
     match kind {
-        PointKind::BinaryInput => 1,
-        PointKind::AnalogInput => 30,
+        PointKind::Binary => 1,
+        PointKind::Analog => 30,
     }
 }
 
@@ -127,7 +129,7 @@ fn put_point(out: &mut [u8], at: usize, s: ShownPoint) -> usize
 // over both would be no plainer
 
 fn binary_shown(ws: &[u32; BINARY_WORDS], count: usize, i: usize) -> ShownPoint
-    ensures { result ≡ shown_at (binaries_alone count ws.now) PointKind.BinaryInput i }
+    ensures { result ≡ shown_at (binaries_alone count ws.now) PointKind.Binary i }
 {
     if i < points::installed(count) {
         let b = point_store::load_binary(ws, i);
@@ -138,7 +140,7 @@ fn binary_shown(ws: &[u32; BINARY_WORDS], count: usize, i: usize) -> ShownPoint
 }
 
 fn analog_shown(ws: &[u32; ANALOG_WORDS], count: usize, i: usize) -> ShownPoint
-    ensures { result ≡ shown_at (analogs_alone count ws.now) PointKind.AnalogInput i }
+    ensures { result ≡ shown_at (analogs_alone count ws.now) PointKind.Analog i }
 {
     if i < points::installed(count) {
         let a = point_store::load_shown(ws, i);
@@ -153,7 +155,7 @@ fn analog_shown(ws: &[u32; ANALOG_WORDS], count: usize, i: usize) -> ShownPoint
 // The bytes that n binaries take.
 fn binaries_size(n: usize) -> usize
     requires { n < 200000 }
-    ensures { ((i : PointsView) (from : ℕ) → result ≡ length (range_bytes i PointKind.BinaryInput from n)) × (result ≤ 7 + n) }
+    ensures { ((i : PointsView) (from : ℕ) → result ≡ length (range_bytes i PointKind.Binary from n)) × (result ≤ 7 + n) }
 {
     if n == 0 { 0 } else { 7 + n }
 }
@@ -169,7 +171,7 @@ fn put_states(
 )
     requires { (at + n ≤ length out.old) × (from + n < 200000) }
     ensures { out.new ≡
-        splice out.old at (object_bytes (point_objects (binaries_alone count ws.now) PointKind.BinaryInput from n)) }
+        splice out.old at (object_bytes (point_objects (binaries_alone count ws.now) PointKind.Binary from n)) }
 {
     let mut to = at;
     for i in from..from + n {
@@ -186,15 +188,15 @@ fn put_binaries(
     from: usize,
     n: usize,
 ) -> usize
-    requires { (at + length (range_bytes (binaries_alone count ws.now) PointKind.BinaryInput from n) ≤ length out.old)
+    requires { (at + length (range_bytes (binaries_alone count ws.now) PointKind.Binary from n) ≤ length out.old)
         × (from + n < 200000) }
-    ensures { (result ≡ at + length (range_bytes (binaries_alone count ws.now) PointKind.BinaryInput from n))
-        × (out.new ≡ splice out.old at (range_bytes (binaries_alone count ws.now) PointKind.BinaryInput from n)) }
+    ensures { (result ≡ at + length (range_bytes (binaries_alone count ws.now) PointKind.Binary from n))
+        × (out.new ≡ splice out.old at (range_bytes (binaries_alone count ws.now) PointKind.Binary from n)) }
 {
     if n == 0 {
         return at;
     }
-    let to = put_heading(out, at, PointKind::BinaryInput, 2, from, n - 1);
+    let to = put_heading(out, at, PointKind::Binary, 2, from, n - 1);
     put_states(out, to, ws, count, from, n);
     to + n
 }
@@ -204,7 +206,7 @@ fn put_binaries(
 // The bytes that n analogs from `from` on take.
 fn analogs_size(ws: &[u32; ANALOG_WORDS], count: usize, from: usize, n: usize) -> usize
     requires { from + n < 200000 }
-    ensures { (result ≡ length (range_bytes (analogs_alone count ws.now) PointKind.AnalogInput from n)) × (result ≤ 12 * n) }
+    ensures { (result ≡ length (range_bytes (analogs_alone count ws.now) PointKind.Analog from n)) × (result ≤ 12 * n) }
 {
     let mut total = 0;
     let mut last = None;
@@ -226,14 +228,7 @@ fn end_run(out: &mut [u8], run: Option<Run>)
     ensures { out.new ≡ splice out.old (run_place run) (run_heading run) }
 {
     if let Some(r) = run {
-        put_heading(
-            out,
-            r.at,
-            PointKind::AnalogInput,
-            r.variation,
-            r.first,
-            r.more,
-        );
+        put_heading(out, r.at, PointKind::Analog, r.variation, r.first, r.more);
     }
 }
 
@@ -247,10 +242,10 @@ fn put_analogs(
     from: usize,
     n: usize,
 ) -> usize
-    requires { (at + length (range_bytes (analogs_alone count ws.now) PointKind.AnalogInput from n) ≤ length out.old)
+    requires { (at + length (range_bytes (analogs_alone count ws.now) PointKind.Analog from n) ≤ length out.old)
         × (from + n < 200000) }
-    ensures { (result ≡ at + length (range_bytes (analogs_alone count ws.now) PointKind.AnalogInput from n))
-        × (out.new ≡ splice out.old at (range_bytes (analogs_alone count ws.now) PointKind.AnalogInput from n)) }
+    ensures { (result ≡ at + length (range_bytes (analogs_alone count ws.now) PointKind.Analog from n))
+        × (out.new ≡ splice out.old at (range_bytes (analogs_alone count ws.now) PointKind.Analog from n)) }
 {
     let mut to = at;
     let mut run: Option<Run> = None;
@@ -293,31 +288,24 @@ pub fn header_size(h: Header, analogs: &[u32; ANALOG_WORDS], n: Installed) -> us
 }
 
 // Puts what a header asks for at the offset, and answers the offset after it.
-pub fn put_header(
-    out: &mut [u8],
-    at: usize,
-    h: Header,
-    binaries: &[u32; BINARY_WORDS],
-    analogs: &[u32; ANALOG_WORDS],
-    n: Installed,
-) -> usize
-    requires { at + length (header_bytes (points_view_in n binaries.now analogs.now) h) ≤ length out.old }
-    ensures { (result ≡ at + length (header_bytes (points_view_in n binaries.now analogs.now) h))
-        × (out.new ≡ splice out.old at (header_bytes (points_view_in n binaries.now analogs.now) h)) }
+pub fn put_header(out: &mut [u8], at: usize, h: Header, points: Points<'_>) -> usize
+    requires { at + length (header_bytes (points_view_in points.installed points.binaries.now points.analogs.now) h) ≤ length out.old }
+    ensures { (result ≡ at + length (header_bytes (points_view_in points.entry.installed points.entry.binaries.now points.entry.analogs.now) h))
+        × (out.new ≡ splice out.old at (header_bytes (points_view_in points.entry.installed points.entry.binaries.now points.entry.analogs.now) h)) }
 {
     let to = put_binaries(
         out,
         at,
-        binaries,
-        n.binaries,
+        points.binaries,
+        points.installed.binaries,
         h.binary as usize,
         h.binaries as usize,
     );
     put_analogs(
         out,
         to,
-        analogs,
-        n.analogs,
+        points.analogs,
+        points.installed.analogs,
         h.analog as usize,
         h.analogs as usize,
     )

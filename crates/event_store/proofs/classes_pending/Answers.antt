@@ -1,5 +1,5 @@
 use lib.ListN.{length}
-use mathlib.Core.Path.{sym, ◌∙◌}
+use mathlib.Core.Path.{refl, sym, ◌∙◌}
 use Rattle.event_store.proofs.LentLaws.{lent-some, notes, notes-none, noted-early}
 use Rattle.event_store.proofs.EventLaws.{slots_length}
 use Rattle.event_store.specs.EventWords.{slots_in}
@@ -21,9 +21,9 @@ returns-then-three c =
     let a = c.args in
     let below = c.loop-i-test.true in
     let left = sym c.in-Some.is ∙ c.waiting_class.ensures in
-    let one = notes _ _ _ _ _ below at.invariant.0 _ _ left c.met-one.ensures in
-    let two = notes _ _ _ _ _ below at.invariant.1 _ _ left c.met-two.ensures in
-    let three = notes _ _ _ _ _ below at.invariant.2 _ _ left c.met-three.ensures in
+    let one = notes _ _ _ _ _ below at.invariant.0 _ _ left refl in
+    let two = notes _ _ _ _ _ below at.invariant.1 _ _ left refl in
+    let three = notes _ _ _ _ _ below at.invariant.2 _ _ left refl in
     λ k.
     record {
       one = lent-some (is_pending 1) a.held.now a.status _ _ c.filled-i-end.ensures (noted-early _ _ _ _ _ one c.if-one.true) k;
@@ -39,9 +39,9 @@ loop-i-preserved c =
       | in-Some+else-one w ↦
           let left = sym w.in-Some.is ∙ c.waiting_class.ensures in
           rw (w.one-is, w.two-is, w.three-is) (
-            notes _ _ _ _ _ below at.invariant.0 _ _ left w.met-one.ensures,
-            notes _ _ _ _ _ below at.invariant.1 _ _ left w.met-two.ensures,
-            notes _ _ _ _ _ below at.invariant.2 _ _ left w.met-three.ensures,
+            notes _ _ _ _ _ below at.invariant.0 _ _ left refl,
+            notes _ _ _ _ _ below at.invariant.1 _ _ left refl,
+            notes _ _ _ _ _ below at.invariant.2 _ _ left refl,
           )
       | in_default w ↦
           let none = sym w.in_default.is ∙ c.waiting_class.ensures in

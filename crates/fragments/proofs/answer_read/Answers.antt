@@ -23,8 +23,8 @@ returns c =
     let rs = c.con_by-con in
     let g =
     subst (λ (x : List ℕ). RepliedAs (points_view_in (installed_of a.h) a.binaries.now a.analogs.now) x (buffer_view_in a.held.now t.result) a.out.now re.result (buffer_view_in re.new.held t.result) re.new.out)
-    (to_end a.f.now 2) re.ensures in
-    read-in a.h a.binaries.now a.analogs.now a.held.now a.request.now a.answer.now a.q.0 a.time a.f.now _ _ _ re.result a.out.now _ _ _ _
+    (to_end a.r.bytes.now 2) (rw c.installed_of.ensures at re.ensures) in
+    read-in a.h a.binaries.now a.analogs.now a.held.now a.request.now a.answer.now a.r.sequence.0 a.r.time a.r.bytes.now _ _ _ re.result a.out.now _ _ _ _
     c.remember-kept.result c.after_read.result c.none.result c.none.ensures c.after_read.ensures c.remember-kept.ensures
     c.requires.1 c.requires.2 t.result _ t.ensures refl g rs.ensures c.any_carried.ensures
     c.put_response_header.ensures

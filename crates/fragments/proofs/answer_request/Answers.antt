@@ -21,11 +21,11 @@ module _ (c : After-put_answer-n) where
   small : c.effect_by-d.result.size ≤ 113
   small =
       let a = c.args in
-      effect-small c.context_of-seen.result a.outputs.now a.q.0 a.function a.time (take (length a.f.now - 2) (drop 2 a.f.now)) c.effect_by-d.result a.out.now _
+      effect-small c.context_of-seen.result a.outputs.now a.r.sequence.0 a.r.function a.r.time (take (length a.r.bytes.now - 2) (drop 2 a.r.bytes.now)) c.effect_by-d.result a.out.now _
       c.effect_by-d.ensures
 
   less : c.put_answer-n.result ≤ 113
-  less = kept-most (eqb c.args.function 6) c.put_answer-n.result c.effect_by-d.result.size c.put_answer-n.ensures.1 small
+  less = kept-most (eqb c.args.r.function 6) c.put_answer-n.result c.effect_by-d.result.size c.put_answer-n.ensures.1 small
 
   same : length c.put_answer-n.new.out ≡ length c.args.out.now
   same = c.put_answer-n.auto.out ∙ c.effect_by-d.auto.out
@@ -53,8 +53,8 @@ returns c =
     let seen = c.context_of-seen in
     let pa = c.put_answer-n in
     let short : length (take pa.result pa.new.out) ≤ 113 = simp length-take (omega (arith, less (goal.at.returns c).After-put_answer-n)) in
-    other-in a.h a.held.now a.request.now a.answer.now a.objects.now a.outputs.now a.q.0 a.function a.time a.f.now _ _ _ _ dd.result a.out.now _ _
+    other-in a.h a.held.now a.request.now a.answer.now a.objects.now a.outputs.now a.r.sequence.0 a.r.function a.r.time a.r.bytes.now _ _ _ _ dd.result a.out.now _ _
     pa.result _ c.remember-kept.result c.after_request.result c.after_request.ensures c.remember-kept.ensures c.requires.1 short c.requires.2
     c.answer_as.ensures _ seen.result c.buffer_status-t.ensures seen.ensures
-    (λ (u : BufferView). subst (λ (x : List ℕ). EffectMeets dd.result a.out.now dd.new.out (effect_by (context_view seen.result a.outputs.now u) a.q.0 a.function a.time x)) (to_end a.f.now 2) (dd.ensures u))
+    (λ (u : BufferView). subst (λ (x : List ℕ). EffectMeets dd.result a.out.now dd.new.out (effect_by (context_view seen.result a.outputs.now u) a.r.sequence.0 a.r.function a.r.time x)) (to_end a.r.bytes.now 2) (dd.ensures u))
     c.clear.ensures pa.ensures

@@ -25,11 +25,11 @@ pub answer_read-requires : goal.answer_read-requires
 answer_read-requires c =
     c.requires
 
-pub returns-then-function-eq1 : goal.returns-then-function-eq1
-returns-then-function-eq1 c =
+pub returns-then-r-eq1 : goal.returns-then-r-eq1
+returns-then-r-eq1 c =
     let a = c.args in
     let r = c.answer_read in
-    by_read (was (goal.at.returns-then-function-eq1 c).Start) a.q.0 a.function a.time a.f.now (PartMeets a.h r.result _ a.out.now _) (eq-eqb _ _ c.if-function-eq1.true) (r.ensures a.objects.now a.outputs.now)
+    by_read (was (goal.at.returns-then-r-eq1 c).Start) a.r.sequence.0 a.r.function a.r.time a.r.bytes.now (PartMeets a.h r.result _ a.out.now _) (eq-eqb _ _ c.if-r-eq1.true) (r.ensures a.objects.now a.outputs.now)
 
 pub is_repeat-requires : goal.is_repeat-requires
 is_repeat-requires c = c.requires.0
@@ -42,8 +42,8 @@ pub returns-then-is_repeat : goal.returns-then-is_repeat
 returns-then-is_repeat c =
     let a = c.args in
     let r = c.repeat_request in
-    by-repeat (was (goal.at.returns-then-is_repeat c).Start) a.q.0 a.function a.time a.f.now (PartMeets a.h r.result _ a.out.now _) (ne_eqb _ _ c.if-function-eq1.false)
-    (sym (c.is_repeat.ensures ∙ ap (λ (k : Option LastLengths). is_repeat (last_in a.request.now a.answer.now k) a.f.now) c.last_of.ensures) ∙ c.if-is_repeat.true) (r.ensures (mem (goal.at.returns-then-is_repeat c).Start))
+    by-repeat (was (goal.at.returns-then-is_repeat c).Start) a.r.sequence.0 a.r.function a.r.time a.r.bytes.now (PartMeets a.h r.result _ a.out.now _) (ne_eqb _ _ c.if-r-eq1.false)
+    (sym (c.is_repeat.ensures ∙ ap (λ (k : Option LastLengths). is_repeat (last_in a.request.now a.answer.now k) a.r.bytes.now) c.last_of.ensures) ∙ c.if-is_repeat.true) (r.ensures (mem (goal.at.returns-then-is_repeat c).Start))
 
 pub answer_request-requires : goal.answer_request-requires
 answer_request-requires c =
@@ -53,5 +53,5 @@ pub returns : goal.returns
 returns c =
     let a = c.args in
     let r = c.answer_request in
-    by-other (was (goal.at.returns c).Start) a.q.0 a.function a.time a.f.now (PartMeets a.h r.result _ a.out.now _) (ne_eqb _ _ c.if-function-eq1.false)
-    (sym (c.is_repeat.ensures ∙ ap (λ (k : Option LastLengths). is_repeat (last_in a.request.now a.answer.now k) a.f.now) c.last_of.ensures) ∙ c.if-is_repeat.false) (r.ensures a.binaries.now a.analogs.now)
+    by-other (was (goal.at.returns c).Start) a.r.sequence.0 a.r.function a.r.time a.r.bytes.now (PartMeets a.h r.result _ a.out.now _) (ne_eqb _ _ c.if-r-eq1.false)
+    (sym (c.is_repeat.ensures ∙ ap (λ (k : Option LastLengths). is_repeat (last_in a.request.now a.answer.now k) a.r.bytes.now) c.last_of.ensures) ∙ c.if-is_repeat.false) (r.ensures a.binaries.now a.analogs.now)

@@ -13,7 +13,7 @@ pub returns : goal.returns
 returns c =
     let static = c.put_static in
     let a = c.args in
-    let s = static_part (points_view_in a.n a.binaries.now a.analogs.now) a.s.now in (
+    let s = static_part (points_view_in a.points.installed a.points.binaries.now a.points.analogs.now) a.s.now in (
       omega (arith, length-append (carried_bytes (buffer_view_in a.held.now a.status).held) s, static.ensures.0, c.put_events-to.ensures.0),
       two-put _ _ _ _ _ _ c.put_events-to.ensures.0 c.put_events-to.ensures.1 static.ensures.1,
     )

@@ -9,8 +9,8 @@ use Rattle.read.proofs.put_static.Goals as goal
 pub loop-front-init : goal.loop-front-init
 loop-front-init c =
     let a = c.args in
-    let i = points_view_in a.n a.binaries.now a.analogs.now in
-    let e = by-counts a.n a.binaries.now a.analogs.now a.s.now _ _ c.installed-binary_count.ensures c.installed-analog_count.ensures in
+    let i = points_view_in a.points.installed a.points.binaries.now a.points.analogs.now in
+    let e = by-counts a.points.installed a.points.binaries.now a.points.analogs.now a.s.now _ _ c.installed-binary_count.ensures c.installed-analog_count.ensures in
     putting i _ _ a.s.now _ a.out.now a.at (read_as i a.s.now _ _ e c.requires.0) c.requires.1
 
 pub put_header-to-requires : goal.put_header-to-requires

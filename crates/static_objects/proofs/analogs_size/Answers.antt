@@ -3,7 +3,7 @@ use borrow.Author.Tests.{not-true, not-false}
 use Rattle.objects.specs.Runs.{size_after}
 use Rattle.objects.proofs.WriterLaws.{encoded-size, sum_same, sum-own, sum-end}
 use Rattle.static_objects.specs.Static.{static_variation, point_bytes, static_heading, point_objects, range_bytes}
-use Rattle.static_objects.specs.declared.PointKind.TheVariants.{AnalogInput}
+use Rattle.read_headers.specs.declared.PointKind.TheVariants as K
 use Rattle.static_objects.specs.declared.ShownPoint.{ShownPoint}
 use Rattle.static_objects.proofs.StaticLaws.{heading-length, points-over, points-next, points-all, none_first, kind-some, last-same, last-other}
 use Rattle.static_objects.specs.Alone.{analogs_alone}
@@ -17,7 +17,7 @@ pub loop-i-preserved : goal.loop-i-preserved
 loop-i-preserved c =
     let at = c.loop-i in
     let e = c.analog_shown-s.ensures in
-    let next = points-next (analogs_alone c.args.count c.args.ws.now) AnalogInput at.i _ c.loop-i-test.true in
+    let next = points-next (analogs_alone c.args.count c.args.ws.now) K.Analog at.i _ c.loop-i-test.true in
     let k = c.variation-k.ensures ∙ ap static_variation e in
     let n = c.size-total.ensures.0 ∙ ap (λ (x : ShownPoint). length (point_bytes x)) e in
     elim c.if-ne.branch [
@@ -35,7 +35,7 @@ returns c =
     let a = c.args in
     let i = analogs_alone a.count a.ws.now in (
       sum-end _ _ _ _ _ c.loop-i.invariant.0 (points-over _ _ _ _ c.loop-i-test.false)
-          ∙ ap (size_after 7 0) (points-all i AnalogInput a.from a.n)
-          ∙ sym (encoded-size (static_heading AnalogInput) 7 (heading-length AnalogInput) (point_objects i AnalogInput a.from a.n) (none_first i AnalogInput a.from a.n)),
+          ∙ ap (size_after 7 0) (points-all i K.Analog a.from a.n)
+          ∙ sym (encoded-size (static_heading K.Analog) 7 (heading-length K.Analog) (point_objects i K.Analog a.from a.n) (none_first i K.Analog a.from a.n)),
       omega (arith, c.loop-i.invariant.1, c.loop-i.auto),
     )

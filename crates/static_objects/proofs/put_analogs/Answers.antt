@@ -1,7 +1,7 @@
 use Rattle.std.proofs.Common.{◌≡◌, arith, refl, ap, sym, ◌∙◌}
 use Rattle.octets.specs.Bytes.{splice}
 use Rattle.static_objects.specs.Static.{static_variation, point_bytes, static_heading, range_bytes}
-use Rattle.static_objects.specs.declared.PointKind.TheVariants.{AnalogInput}
+use Rattle.read_headers.specs.declared.PointKind.TheVariants as K
 use Rattle.static_objects.proofs.StaticLaws.{heading-length, points-over, points-next, points-all, none_first, kind-some}
 use Rattle.static_objects.proofs.RunWriting.{running-start, running-end}
 use Rattle.static_objects.proofs.AnalogRuns.{run_variation, heading-is, run-fits, run-joined-fits, run-joined, run-begun-fits, run-begun}
@@ -14,17 +14,17 @@ unfolding range_bytes
 loop-i-init c =
     let a = c.args in
     let i = analogs_alone a.count a.ws.now in
-    let whole = points-all i AnalogInput a.from a.n in
+    let whole = points-all i K.Analog a.from a.n in
     rw whole
     (record {
-      running = running-start (static_heading AnalogInput) 7 (heading-length AnalogInput) _ _ _ (none_first i AnalogInput a.from a.n) c.requires.0;
+      running = running-start (static_heading K.Analog) 7 (heading-length K.Analog) _ _ _ (none_first i K.Analog a.from a.n) c.requires.0;
       before = tt;
     })
 
 pub put_point-to-requires : goal.put_point-to-requires
 put_point-to-requires c =
     let s = c.analog_shown-s in
-    run-joined-fits _ c.loop-i.invariant _ _ (points-next (analogs_alone c.args.count c.args.ws.now) AnalogInput c.loop-i.i _ c.loop-i-test.true)
+    run-joined-fits _ c.loop-i.invariant _ _ (points-next (analogs_alone c.args.count c.args.ws.now) K.Analog c.loop-i.i _ c.loop-i-test.true)
     _ (c.variation-k.ensures ∙ ap static_variation s.ensures) _ (ap point_bytes s.ensures) c.in-Some.r c.in-Some.is (sym c.if-r-k.true)
 
 pub end_run-requires : goal.end_run-requires
@@ -43,7 +43,7 @@ put_point-to-requires-in_default c =
       | in_default-via-in-Some+else-r-k w ↦ λ q. w.if-r-k.false (sym (q ∙ ap run_variation w.in-Some.is))
       | in_default-via-in_default w ↦ λ q. kind-some s.result (sym c.variation-k.ensures ∙ q ∙ ap run_variation w.in_default.is)
     ] in
-    let fits = run-begun-fits _ c.loop-i.invariant _ _ (points-next (analogs_alone c.args.count c.args.ws.now) AnalogInput c.loop-i.i _ c.loop-i-test.true)
+    let fits = run-begun-fits _ c.loop-i.invariant _ _ (points-next (analogs_alone c.args.count c.args.ws.now) K.Analog c.loop-i.i _ c.loop-i-test.true)
     _ (c.variation-k.ensures ∙ ap static_variation s.ensures) _ (ap point_bytes s.ensures) new in
     omega (arith, fits, c.end_run.auto.out)
 
@@ -51,7 +51,7 @@ pub loop-i-preserved : goal.loop-i-preserved
 loop-i-preserved c =
     let at = c.loop-i in
     let s = c.analog_shown-s in
-    let next = points-next (analogs_alone c.args.count c.args.ws.now) AnalogInput at.i _ c.loop-i-test.true in
+    let next = points-next (analogs_alone c.args.count c.args.ws.now) K.Analog at.i _ c.loop-i-test.true in
     let kind = c.variation-k.ensures ∙ ap static_variation s.ensures in
     let bytes = ap point_bytes s.ensures in
     elim c.match-run.branch [
@@ -82,6 +82,6 @@ unfolding range_bytes
 returns c =
     let a = c.args in
     let i = analogs_alone a.count a.ws.now in
-    let g = rw (points-all i AnalogInput a.from a.n) at c.loop-i.invariant in
-    running-end (static_heading AnalogInput) 7 (heading-length AnalogInput) _ _ _ (none_first i AnalogInput a.from a.n) _ _ _ _ _ _ _ g.running
-    (points-over i AnalogInput _ _ c.loop-i-test.false) _ (c.end_run-2.ensures ∙ ap (splice c.loop-i.out _) (heading-is c.loop-i.run c.loop-i.i g.before))
+    let g = rw (points-all i K.Analog a.from a.n) at c.loop-i.invariant in
+    running-end (static_heading K.Analog) 7 (heading-length K.Analog) _ _ _ (none_first i K.Analog a.from a.n) _ _ _ _ _ _ _ g.running
+    (points-over i K.Analog _ _ c.loop-i-test.false) _ (c.end_run-2.ensures ∙ ap (splice c.loop-i.out _) (heading-is c.loop-i.run c.loop-i.i g.before))

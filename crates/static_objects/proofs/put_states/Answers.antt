@@ -1,7 +1,7 @@
 use Rattle.std.proofs.Common.{arith, refl, ◌∙◌, ap, List}
 use Rattle.octets.specs.Bytes.{splice}
 use Rattle.objects.specs.Runs.{Object, object_bytes}
-use Rattle.static_objects.specs.declared.PointKind.TheVariants.{BinaryInput}
+use Rattle.read_headers.specs.declared.PointKind.TheVariants as K
 use Rattle.static_objects.proofs.StaticLaws.{length-binary, shown, all_shown, points-all}
 use Rattle.static_objects.specs.Alone.{binaries_alone}
 use Rattle.static_objects.proofs.put_states.Goals as goal
@@ -24,4 +24,4 @@ returns c =
     let a = c.args in
     let i = binaries_alone a.count a.ws.now in
     all_shown i c.loop-i.invariant c.loop-i-test.false
-    ∙ ap (λ (os : List Object). splice a.out.now a.at (object_bytes os)) (points-all i BinaryInput a.from a.n)
+    ∙ ap (λ (os : List Object). splice a.out.now a.at (object_bytes os)) (points-all i K.Binary a.from a.n)
