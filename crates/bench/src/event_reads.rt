@@ -62,11 +62,7 @@ impl Exchange {
     fn exchange(&mut self, sum: u64, full: Head, time: u64, sequence: u64) -> u64 {
         // First and only fragment.
         let control = (192 + sequence % 16) as u8;
-        let r = self.fragment(
-            full,
-            time,
-            &[control, 1, 60, 2, 6, 60, 3, 6, 60, 4, 6],
-        );
+        let r = self.fragment(full, time, &[control, 1, 60, 2, 6, 60, 3, 6, 60, 4, 6]);
         let asked = fold_answer(sum, r.answer, &self.out);
         let d = self.fragment(r.head, time, &[control, 0]);
         fold(

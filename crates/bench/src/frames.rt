@@ -40,7 +40,11 @@ pub fn frame_read(count: u64) -> u64 {
     let _ = frame::write_frame(&mut other, 196, 1, 10, &user);
     let mut sum: u64 = 1;
     for done in 0..count {
-        let frame = if (count - done) % 2 == 0 { &one } else { &other };
+        let frame = if (count - done) % 2 == 0 {
+            &one
+        } else {
+            &other
+        };
         sum = read_once(sum, frame, &mut out);
     }
     sum

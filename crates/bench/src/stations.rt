@@ -78,13 +78,7 @@ impl Memory {
             measured: Measured::State(state),
             flags: 1,
         };
-        outstation::take_reading(
-            h,
-            &mut self.binaries,
-            &mut self.analogs,
-            &mut self.held,
-            r,
-        )
+        outstation::take_reading(h, &mut self.binaries, &mut self.analogs, &mut self.held, r)
     }
 
     // Holds n events.

@@ -73,9 +73,7 @@ impl Console {
     pub fn table(&mut self, words: Words) -> Result<(), NotMade> {
         let table = readings::table_of(words)?;
         let head = self.need_head()?;
-        let r = self
-            .unit
-            .take_table(head, &table.readings[..table.count]);
+        let r = self.unit.take_table(head, &table.readings[..table.count]);
         self.out.put_bytes(b"took ");
         self.out.put_decimal(r.taken as u64);
         self.out.put(b' ');

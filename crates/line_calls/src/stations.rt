@@ -75,13 +75,7 @@ impl LineSession {
     }
 
     // station: a frame came; it is taken and counted, and the answer told.
-    pub fn station(
-        &mut self,
-        station: Station,
-        frame: &[u8],
-        lent: &mut [u8],
-        out: &mut Answers,
-    ) {
+    pub fn station(&mut self, station: Station, frame: &[u8], lent: &mut [u8], out: &mut Answers) {
         lent.fill(answers::FILL);
         let used = match link::receive(&mut self.record, station, frame, lent) {
             Ok(Taken::UserData(n)) => answers::put_outcome(out, Ok(n), b"data ", lent),
