@@ -84,7 +84,7 @@ pub fn event_read(count: u64, n: u64) -> u64 {
     };
     let full = x.memory.holding(n);
     let events = x.memory.held;
-    let words = 2 * full.event_count.min(events::CAPACITY);
+    let words = 2 * events::filled(full.event_count);
     let mut sum: u64 = 1;
     for done in 0..count {
         let left = count - done;

@@ -17,7 +17,7 @@ impl Console {
 
     // Restarts with a setup; says whether there is an outstation.
     fn begin(&mut self, s: &Setup) -> bool {
-        let begun = self.unit.restart(s).is_ok();
+        let begun = self.unit.restart(s);
         if begun {
             self.line.begin(Station {
                 own: s.setup.own,

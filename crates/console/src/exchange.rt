@@ -2,12 +2,12 @@
 use crate::Console;
 use crate::unit::Unit;
 use control::{Command, ControlObject, ControlObjects, Crob, OBJECTS_MAX};
-use fragments::{FragmentAnswer, FragmentRefusal, FragmentResult};
+use fragments::{FragmentAnswer, FragmentResult};
 use line_calls::answers;
-use line_calls::answers::{FILL, NotMade, Refusal};
+use line_calls::answers::{Answers, FILL, NotMade, Refusal};
 use outstation::Head;
 use points::Value;
-use text::{Answers, Words};
+use text::Words;
 
 impl Console {
     // frag T LEN HEX: the answer goes into lent bytes that are filled anew

@@ -8,12 +8,12 @@ mod script;
 mod unit;
 
 use line_calls::answers;
-use line_calls::answers::{BYTES_MAX, NotMade, ROOM_MAX};
+use line_calls::answers::{Answers, BYTES_MAX, NotMade, ROOM_MAX};
 use line_calls::session::LineSession;
 use names::Command;
 use point_calls::setup::Setup;
 use script::{LINE_MAX, Script};
-use text::{Answers, Words};
+use text::Words;
 use unit::Unit;
 
 // Room for the longest answer.

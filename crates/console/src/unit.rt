@@ -36,14 +36,12 @@ impl Unit {
             outputs: [0; ANALOG_OUTPUT_WORDS],
         }
     }
-}
 
-impl Unit {
-    // Restarts with a setup. Its counts may be past the arrays, and are then refused, as one that breaks a limit is; the refusal's number.
-    pub fn restart(&mut self, s: &Setup) -> Result<(), u8> {
+    // Restarts with a setup, and says whether there is an outstation. Counts past the arrays are refused, as all that breaks a limit is.
+    pub fn restart(&mut self, s: &Setup) -> bool {
         self.head = None;
         if POINTS_MAX < s.binary_count || POINTS_MAX < s.analog_count {
-            return Err(5);
+            return false;
         }
         let r = restart::restart(
             s.setup,
@@ -54,10 +52,10 @@ impl Unit {
             &mut self.outputs,
         );
         if r.refusal != 0 {
-            return Err(r.refusal);
+            return false;
         }
         self.head = Some(r.head);
-        Ok(())
+        true
     }
 
     // One reading; the refusal's number, 0 where it was taken.

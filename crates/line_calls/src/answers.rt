@@ -3,7 +3,7 @@ ghost use Rattle.std.specs.Prelude.{◌≤◌, length, IfOk};
 
 use frame::{FrameRefusal, WriteRefusal};
 use link::TakeRefusal;
-use text::{Answers, Words, WrongWord};
+use text::{Words, WrongWord};
 use transport::{SegmentRefusal, SendRefusal};
 
 // The most bytes that a call is lent.
@@ -13,6 +13,11 @@ pub const LENT_MAX: u64 = 65536;
 pub const BYTES_MAX: usize = 32768;
 
 pub const ROOM_MAX: usize = 65536;
+
+// The most bytes of answers that are not yet written out, and those answers.
+pub const OUT_MAX: usize = 65536;
+
+pub type Answers = text::Answers<OUT_MAX>;
 
 // What lent bytes are filled with.
 pub const FILL: u8 = 0xA5;

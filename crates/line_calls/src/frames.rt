@@ -1,8 +1,8 @@
 // The calls `crc`, `frame-write` and `frame-read`.
 use crate::answers;
-use crate::answers::{LENT_MAX, NotMade, Refusal};
+use crate::answers::{Answers, LENT_MAX, NotMade, Refusal};
 use frame::Frame;
-use text::{Answers, Words};
+use text::Words;
 
 // crc HEX
 pub fn crc(mut words: Words, bytes: &mut [u8], out: &mut Answers) -> Result<(), NotMade> {

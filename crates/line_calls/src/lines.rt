@@ -1,8 +1,8 @@
 // The calls that need no outstation, or only its addresses and segments.
-use crate::answers::NotMade;
+use crate::answers::{Answers, NotMade};
 use crate::session::LineSession;
 use crate::{answers, frames};
-use text::{Answers, Words};
+use text::Words;
 
 // The calls with LEN HEX.
 #[derive(Clone, Copy)]

@@ -1,8 +1,7 @@
 // The call `piece`: bytes off the wire, as they come, made into frames.
-use crate::answers::Refusal;
+use crate::answers::{Answers, Refusal};
 use crate::session::LineSession;
 use crate::{answers, frames};
-use text::Answers;
 
 impl LineSession {
     // piece: bytes came, behind those that the memory keeps; a frame's user data goes into lent bytes that are filled anew

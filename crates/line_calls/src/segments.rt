@@ -1,8 +1,7 @@
 // The calls `seg` and `send`: segments put together, and a fragment sent in segments.
 use crate::answers;
-use crate::answers::Refusal;
+use crate::answers::{Answers, Refusal};
 use crate::session::LineSession;
-use text::Answers;
 
 // The most segments of a fragment.
 const SEGMENTS_MAX: usize = 9;

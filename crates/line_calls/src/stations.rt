@@ -1,10 +1,10 @@
 // The calls `record` and `station`: the line record, and frames for the station.
 use crate::answers;
-use crate::answers::{NotMade, Refusal};
+use crate::answers::{Answers, NotMade, Refusal};
 use crate::session::LineSession;
 use frame::FRAME_MAX;
 use link::{BLOCK_COUNTS, COUNT_MAX, LineRecord, Station, Taken};
-use text::{Answers, Words, WrongWord};
+use text::{Words, WrongWord};
 
 // A count of the line record.
 fn count_of(fields: &mut Words) -> Result<u16, WrongWord> {

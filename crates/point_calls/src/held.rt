@@ -1,13 +1,13 @@
 // The events that the outstation holds.
 use event_store::EVENT_WORDS;
-use events::{CAPACITY, Event, Shown};
+use events::{Event, Shown};
 use line_calls::answers;
+use line_calls::answers::Answers;
 use points::Value;
-use text::Answers;
 
 // `held COUNT EVENT..`, oldest first
 pub fn put_held(out: &mut Answers, held: &[u64; EVENT_WORDS], count: usize) {
-    let n = count.min(CAPACITY);
+    let n = events::filled(count);
     out.put_bytes(b"held ");
     out.put_decimal(n as u64);
     for i in 0..n {

@@ -2,14 +2,14 @@
 use analog_outputs::{ANALOG_OUTPUTS_MAX, AnalogOutputWords};
 use text::{Words, WrongWord};
 
-// The first `count`, those past the array not given.
+// The first `count`, as given: those past the array, which is fixed memory, are not given, and the outstation refuses the setup.
 #[derive(Clone, Copy)]
 pub struct Outputs {
     pub items: [AnalogOutputWords; ANALOG_OUTPUTS_MAX],
     pub count: u16,
 }
 
-// An end's bits, where 32 bits hold it.
+// An end's bits, where 32 bits hold it. The kind is as `AnalogOutputWords` has it.
 fn end_of(fields: &mut Words, kind: u8) -> Result<Option<u32>, WrongWord> {
     if kind == 2 {
         return Ok(Some(words::float_bits(fields.real(b',')?)));
@@ -34,7 +34,7 @@ fn output_of(mut fields: Words) -> Result<Option<AnalogOutputWords>, WrongWord> 
     })
 }
 
-// Nothing, or s NS SETPOINT..; none where an end is one that 32 bits do not hold.
+// Nothing, or s NS SETPOINT..; none where an end is one that 32 bits do not hold. The words behind that one are still looked at.
 pub fn outputs_of(words: &mut Words) -> Result<Option<Outputs>, WrongWord> {
     let none = AnalogOutputWords {
         low: 0,

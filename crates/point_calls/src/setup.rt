@@ -4,7 +4,7 @@ use points::POINTS_MAX;
 use restart::{AnalogSetupWords, SetupWords};
 use text::{Words, WrongWord};
 
-// What a setup line asks for. The counts are as given; of the points those past the arrays are not.
+// What a setup line asks for. The counts are as given, and may be past the arrays, which are fixed memory: the outstation refuses such a setup.
 #[derive(Clone, Copy)]
 pub struct Setup {
     pub setup: SetupWords,
@@ -47,7 +47,7 @@ fn float_point(fields: &mut Words, class: u8) -> Result<AnalogSetupWords, WrongW
     })
 }
 
-// -,-,GATE,LIMIT of a whole point; none where the limit is one that 32 bits do not hold.
+// -,-,GATE,LIMIT of a whole point, the kind as `AnalogSetupWords` has it; none where the limit is one that 32 bits do not hold.
 fn whole_point(
     fields: &mut Words,
     class: u8,
@@ -80,20 +80,20 @@ fn analog_of(mut fields: Words) -> Result<Option<AnalogSetupWords>, WrongWord> {
     Ok(analog)
 }
 
-// OWN MASTER ARM CONFIRM NB NA NO BINARY.. ANALOG.., and s NS SETPOINT.. or nothing. None where a limit or an end is more than its type
-// holds.
-pub fn setup_of(mut words: Words) -> Result<Option<Setup>, WrongWord> {
-    let own = words.number(b' ', 65535)? as u16;
-    let master = words.number(b' ', 65535)? as u16;
-    let arm_time = words.number(b' ', 4294967295)? as u32;
-    let confirm_time = words.number(b' ', 4294967295)? as u32;
-    let binary_count = words.number(b' ', 255)? as usize;
-    let analog_count = words.number(b' ', 255)? as usize;
-    let relays = words.number(b' ', 255)? as u16;
+// BINARY..: so many classes, those past the array not given.
+fn classes_of(words: &mut Words, count: usize) -> Result<[u8; POINTS_MAX], WrongWord> {
     let mut classes = [0u8; POINTS_MAX];
-    for i in 0..binary_count.min(POINTS_MAX) {
+    for i in 0..count.min(POINTS_MAX) {
         classes[i] = words.number(b' ', 255)? as u8;
     }
+    Ok(classes)
+}
+
+// ANALOG..: so many, those past the array not given; none where a limit is one that 32 bits do not hold. The words behind that one are still looked at.
+fn analogs_of(
+    words: &mut Words,
+    count: usize,
+) -> Result<Option<[AnalogSetupWords; POINTS_MAX]>, WrongWord> {
     let blank = AnalogSetupWords {
         limit: 0,
         gain: 0,
@@ -104,18 +104,33 @@ pub fn setup_of(mut words: Words) -> Result<Option<Setup>, WrongWord> {
     };
     let mut analogs = [blank; POINTS_MAX];
     let mut fits = true;
-    for i in 0..analog_count.min(POINTS_MAX) {
+    for i in 0..count.min(POINTS_MAX) {
         match analog_of(Words::new(words.word(b' ')?))? {
             Some(analog) => analogs[i] = analog,
             None => fits = false,
         }
     }
+    Ok(fits.then_some(analogs))
+}
+
+// OWN MASTER ARM CONFIRM NB NA NO BINARY.. ANALOG.., and s NS SETPOINT.. or nothing. None where a limit or an end is more than its type
+// holds.
+pub fn setup_of(mut words: Words) -> Result<Option<Setup>, WrongWord> {
+    let own = words.number(b' ', 65535)? as u16;
+    let master = words.number(b' ', 65535)? as u16;
+    let arm_time = words.number(b' ', 4294967295)? as u32;
+    let confirm_time = words.number(b' ', 4294967295)? as u32;
+    let binary_count = words.number(b' ', 255)? as usize;
+    let analog_count = words.number(b' ', 255)? as usize;
+    let relays = words.number(b' ', 255)? as u16;
+    let classes = classes_of(&mut words, binary_count)?;
+    let analogs = analogs_of(&mut words, analog_count)?;
     let outputs = outputs::outputs_of(&mut words)?;
     words.finish()?;
-    let Some(outputs) = outputs else {
+    let (Some(analogs), Some(outputs)) = (analogs, outputs) else {
         return Ok(None);
     };
-    let setup = Setup {
+    Ok(Some(Setup {
         setup: SetupWords {
             arm_time,
             confirm_time,
@@ -129,6 +144,5 @@ pub fn setup_of(mut words: Words) -> Result<Option<Setup>, WrongWord> {
         binary_count,
         analogs,
         analog_count,
-    };
-    Ok(fits.then_some(setup))
+    }))
 }

@@ -9,9 +9,10 @@ use mathlib.Core.List.{List, [], ◌∷◌, ◌++◌, append_assoc, append-nil}
 use lib.ListN.{length, get_or, set, take, drop, drop_of_length-le}
 use lib.Seq.{drop-cons, take-suc-set}
 use borrow.Author.Tests.{lt-ltb, le-ltb, eq-eqb, ne_eqb}
+use Rattle.std.specs.Prelude.{None}
 use Rattle.octets.specs.Bytes.{splice}
 use Rattle.octets.proofs.Splice.{splice-nil}
-use Rattle.text.specs.Words.{cursor_after, digit_of, hex_of, nibble_of, all_hex, unhex, bytes, no_bytes, hex_read}
+use Rattle.text.specs.Words.{cursor_after, digit_of, hex_of, nibble_of, all_hex, unhex, bytes, no_bytes, hex_read, four_bytes}
 use Rattle.text.proofs.Writing.{splice-after}
 
 pub hex-turn : (d : List ℕ) (to i : ℕ) (s : List ℕ) → i < length s
@@ -86,3 +87,12 @@ module _ (room : ℕ) (w : List ℕ) where
   pub read_all : length w / 2 ≤ room → length w % 2 ≡ 0 → all_hex w ≡ true → hex_read room w ≡ bytes (unhex w)
   unfolding hex_read
   read_all h o a = rw (le-ltb room (length w / 2) h, eq-eqb (length w % 2) 0 o, a)
+
+-- a float has four bytes
+pub not-four : (s : List ℕ) → (length s ≡ 4 → ⊥) → four_bytes (bytes s) ≡ None
+not-four [] h = refl
+not-four (a ∷ []) h = refl
+not-four (a ∷ b ∷ []) h = refl
+not-four (a ∷ b ∷ c ∷ []) h = refl
+not-four (a ∷ b ∷ c ∷ d ∷ []) h = absurd (h refl)
+not-four (a ∷ b ∷ c ∷ d ∷ e ∷ s) h = refl

@@ -19,6 +19,8 @@ ghost use Rattle.text.specs.Words.{
   TakesWord,
   TakesValue,
   nothing_in,
+  control_in,
+  real_in,
   reading_in,
   run_of,
 };
@@ -62,7 +64,7 @@ pub fn decimal_of(w: &[u8], limit: u64) -> Option<u64>
     digits_of(w, limit)
 }
 
-// A signed number: its sign and its size.
+// A signed number: its sign and its size, since `signed_of` takes any limits of 64 bits on either side.
 #[derive(Clone, Copy)]
 pub struct Signed {
     pub negative: bool,
@@ -212,7 +214,7 @@ impl<'a> Words<'a> {
         }
     }
 
-    // A number from 0 to the limit.
+    // A number from 0 to the limit, which need not be a type's last: callers narrow it.
     pub fn number(&mut self, mark: u8, limit: u64) -> Result<u64, WrongWord>
         ensures within { IfOk result (λ n. n ≤ limit) }
         ensures said { TakesValue mark (decimal_in limit) (option_copied self.old.rest) (word_in result) (option_copied self.new.rest) }
@@ -249,7 +251,9 @@ impl<'a> Words<'a> {
     }
 
     // One byte, two digits.
-    pub fn control(&mut self) -> Result<u8, WrongWord> {
+    pub fn control(&mut self) -> Result<u8, WrongWord>
+        ensures { TakesValue 32 control_in (option_copied self.old.rest) (word_in result) (option_copied self.new.rest) }
+    {
         let mut b = [0u8; 1];
         match unhex_into(&mut b, self.word(b' ')?) {
             Some(1) => Ok(b[0]),
@@ -258,12 +262,15 @@ impl<'a> Words<'a> {
     }
 
     // A float's bit pattern, eight digits, highest first.
-    pub fn real(&mut self, mark: u8) -> Result<f32, WrongWord> {
+    pub fn real(&mut self, mark: u8) -> Result<f32, WrongWord>
+        ensures { TakesValue mark real_in (option_copied self.old.rest) (word_in result) (option_copied self.new.rest) }
+    {
         let mut b = [0u8; 4];
-        match unhex_into(&mut b, self.word(mark)?) {
-            Some(4) => Ok(words::float(u32::from_be_bytes(b))),
-            _ => Err(WrongWord),
+        let n = unhex_into(&mut b, self.word(mark)?).ok_or(WrongWord)?;
+        if n != 4 {
+            return Err(WrongWord);
         }
+        Ok(words::float(u32::from_be_bytes(b)))
     }
 
     // The word `-`, where a field has nothing.
@@ -280,22 +287,19 @@ impl<'a> Words<'a> {
 
 // ---- answers
 
-// The most bytes of answers that are not yet written out.
-pub const ANSWERS_MAX: usize = 65536;
-
-// Answers that are not yet written out: the first `len` bytes. What there is no room for is lost.
+// Answers that are not yet written out: the first `len` bytes, in fixed memory. What there is no room for is lost.
 #[derive(Drop)]
-pub struct Answers {
-    pub bytes: [u8; ANSWERS_MAX],
+pub struct Answers<const N: usize> {
+    pub bytes: [u8; N],
     pub len: usize,
 }
 
-impl Answers {
+impl<const N: usize> Answers<N> {
     pub fn new() -> Self
         ensures { result.len ≡ 0 }
     {
         Answers {
-            bytes: [0; ANSWERS_MAX],
+            bytes: [0; N],
             len: 0,
         }
     }

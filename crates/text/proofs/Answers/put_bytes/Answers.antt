@@ -5,7 +5,7 @@ use Rattle.text.proofs.Writing.{put-turn}
 use Rattle.text.proofs.Answers.put_bytes.Goals as goal
 
 pub loop-b-preserved : goal.loop-b-preserved
-loop-b-preserved c = let l = c.loop-b in let s = c.args.s.now in
+loop-b-preserved g c = let l = c.loop-b in let s = c.args.s.now in
     record {
       bytes = cc (put-turn l.self.bytes l.self.len l.b-index s (omega arith), c.put.ensures.bytes, c.put.ensures.len, l.invariant.bytes);
       len = omega (arith, c.put.ensures.len, l.invariant.len, l.invariant.size);
@@ -13,4 +13,4 @@ loop-b-preserved c = let l = c.loop-b in let s = c.args.s.now in
     }
 
 pub returns-clause-bytes : goal.returns-clause-bytes
-returns-clause-bytes c = let l = c.loop-b in cc (splice-end l.self.bytes l.self.len l.b-index c.args.s.now (omega arith), l.invariant.bytes)
+returns-clause-bytes g c = let l = c.loop-b in cc (splice-end l.self.bytes l.self.len l.b-index c.args.s.now (omega arith), l.invariant.bytes)
