@@ -113,7 +113,7 @@ fn waiting(taken: usize, kept: usize) -> Reception
 fn move_on(memory: &mut [u8; FRAME_MAX], why: FrameRefusal) -> usize
     ensures { (result ≡ kept_after (refusal_of why)) × (take result memory.new ≡ take result (drop 1 memory.old)) }
 {
-    if why.number() == 15 {
+    if let FrameRefusal::BlockCheck(_) = why {
         return 0;
     }
     give_up_one(memory);
