@@ -134,15 +134,17 @@ fn link_header(n: usize, control: u8, destination: u16, source: u16) -> [u8; 8]
     requires { n ≤ user_max }
     ensures { result ≡ link_header n control destination source }
 {
+    let [to_low, to_high] = destination.to_le_bytes();
+    let [from_low, from_high] = source.to_le_bytes();
     [
         5,
         100,
         (n + 5) as u8,
         control,
-        (destination % 256) as u8,
-        (destination / 256 % 256) as u8,
-        (source % 256) as u8,
-        (source / 256 % 256) as u8,
+        to_low,
+        to_high,
+        from_low,
+        from_high,
     ]
 }
 
