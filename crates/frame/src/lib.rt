@@ -129,6 +129,14 @@ fn put_blocks(out: &mut [u8], at: usize, s: &[u8])
     }
 }
 
+// The bytes of a frame with so many user bytes.
+pub fn frame_size(n: usize) -> usize
+    requires { n ≤ user_max }
+    ensures { result ≡ frame_size n }
+{
+    10 + n + 2 * n.div_ceil(BLOCK)
+}
+
 #[tactic(auto, unfolding(crate::specs::Frame::link_header, octets::specs::Bytes::le))]
 fn link_header(n: usize, control: u8, destination: u16, source: u16) -> [u8; 8]
     requires { n ≤ user_max }
@@ -165,11 +173,10 @@ pub fn write_frame(
     if USER_MAX < n {
         return Err(WriteRefusal::UserTooLong);
     }
-    let k = n.div_ceil(BLOCK);
     let h = link_header(n, control, destination, source);
     put_with_crc(out, 0, &h);
     put_blocks(out, 10, user);
-    Ok(10 + n + 2 * k)
+    Ok(frame_size(n))
 }
 
 // The last two bytes are the check of the others.
@@ -203,12 +210,11 @@ fn check_body(s: &[u8], n: usize) -> Result<Frame, FrameRefusal>
     requires { (10 ≤ length s.now) × (n ≤ user_max) }
     ensures { (checked_of result s.now ≡ decode_body n s.now) × Whole result s.now }
 {
-    let k = n.div_ceil(BLOCK);
-    let size = 10 + n + 2 * k;
+    let size = frame_size(n);
     if s.len() < size {
         return Err(FrameRefusal::TooShort);
     }
-    if let Some(block) = first_wrong(&s[10..size], k) {
+    if let Some(block) = first_wrong(&s[10..size], n.div_ceil(BLOCK)) {
         return Err(FrameRefusal::BlockCheck(block as u8));
     }
     Ok(Frame {
@@ -245,9 +251,8 @@ pub fn copy_user(out: &mut [u8], s: &[u8], n: usize)
     requires { (n ≤ user_max) × (frame_size n ≤ length s.now) × (n ≤ length out.old) }
     ensures { out.new ≡ splice out.old 0 (user_of n s.now) }
 {
-    let size = 10 + n + 2 * n.div_ceil(BLOCK);
     let mut to = 0;
-    for block in s[10..size].chunks(BLOCK + 2) {
+    for block in s[10..frame_size(n)].chunks(BLOCK + 2) {
         let user = &block[..block.len() - 2];
         octets::copy(out, to, user);
         to += user.len();
