@@ -190,7 +190,7 @@ fn crc_ok(s: &[u8]) -> bool
 }
 
 // The first wrong one of so many blocks, counted from 0. By hand: over `chunks(BLOCK + 2).enumerate()`, as tried, no line uses `k`, of which the
-// contract and `check_body`'s proof speak; and its must-fail edit turns the range round.
+// contract speaks; and its must-fail edit turns the range round.
 fn first_wrong(b: &[u8], k: usize) -> Option<usize>
     requires { (length b.now ≤ 18 * k) × (18 * k < length b.now + 16) }
     ensures { MatchOption result (first_wrong k b.now ≡ k) (λ i. (i ≡ first_wrong k b.now) × (i < k)) }
