@@ -2,7 +2,7 @@
 // an output, as the setup gave them.
 #![tactic(auto)]
 
-ghost use Rattle.std.specs.Prelude.{◌≡◌, ◌*◌, ◌<◌, length, get_or, set};
+ghost use Rattle.std.specs.Prelude.{◌≡◌, ◌<◌, get_or, set};
 ghost use Rattle.analog_outputs.specs.Output.{analog_outputs_max, within, within_float, holds16, output_ok, takes};
 ghost use Rattle.analog_outputs.specs.OutputWords.{output_of, output_given, outputs_in, no_output};
 
@@ -31,6 +31,7 @@ pub struct AnalogOutputWords {
     pub kind: u8,
 }
 
+// The C interface gives the kind and the ends as numbers.
 pub fn output_of(kind: u32, low: u32, high: u32) -> AnalogOutput
     ensures { result ≡ output_of kind low high }
 {

@@ -129,20 +129,30 @@ fn put_blocks(out: &mut [u8], at: usize, s: &[u8])
     }
 }
 
+// The bytes of a frame with so many user bytes.
+pub fn frame_size(n: usize) -> usize
+    requires { n ≤ user_max }
+    ensures { result ≡ frame_size n }
+{
+    10 + n + 2 * n.div_ceil(BLOCK)
+}
+
 #[tactic(auto, unfolding(crate::specs::Frame::link_header, octets::specs::Bytes::le))]
 fn link_header(n: usize, control: u8, destination: u16, source: u16) -> [u8; 8]
     requires { n ≤ user_max }
     ensures { result ≡ link_header n control destination source }
 {
+    let [to_low, to_high] = destination.to_le_bytes();
+    let [from_low, from_high] = source.to_le_bytes();
     [
         5,
         100,
         (n + 5) as u8,
         control,
-        (destination % 256) as u8,
-        (destination / 256 % 256) as u8,
-        (source % 256) as u8,
-        (source / 256 % 256) as u8,
+        to_low,
+        to_high,
+        from_low,
+        from_high,
     ]
 }
 
@@ -163,11 +173,10 @@ pub fn write_frame(
     if USER_MAX < n {
         return Err(WriteRefusal::UserTooLong);
     }
-    let k = n.div_ceil(BLOCK);
     let h = link_header(n, control, destination, source);
     put_with_crc(out, 0, &h);
     put_blocks(out, 10, user);
-    Ok(10 + n + 2 * k)
+    Ok(frame_size(n))
 }
 
 // The last two bytes are the check of the others.
@@ -180,7 +189,8 @@ fn crc_ok(s: &[u8]) -> bool
     crc::check(&s[..n]) == octets::take2(s, n)
 }
 
-// The first wrong one of so many blocks, counted from 0.
+// The first wrong one of so many blocks, counted from 0. By hand: over `chunks(BLOCK + 2).enumerate()`, as tried, no line uses `k`, of which the
+// contract speaks; and its must-fail edit turns the range round.
 fn first_wrong(b: &[u8], k: usize) -> Option<usize>
     requires { (length b.now ≤ 18 * k) × (18 * k < length b.now + 16) }
     ensures { MatchOption result (first_wrong k b.now ≡ k) (λ i. (i ≡ first_wrong k b.now) × (i < k)) }
@@ -201,12 +211,11 @@ fn check_body(s: &[u8], n: usize) -> Result<Frame, FrameRefusal>
     requires { (10 ≤ length s.now) × (n ≤ user_max) }
     ensures { (checked_of result s.now ≡ decode_body n s.now) × Whole result s.now }
 {
-    let k = n.div_ceil(BLOCK);
-    let size = 10 + n + 2 * k;
+    let size = frame_size(n);
     if s.len() < size {
         return Err(FrameRefusal::TooShort);
     }
-    if let Some(block) = first_wrong(&s[10..size], k) {
+    if let Some(block) = first_wrong(&s[10..size], n.div_ceil(BLOCK)) {
         return Err(FrameRefusal::BlockCheck(block as u8));
     }
     Ok(Frame {
@@ -243,9 +252,8 @@ pub fn copy_user(out: &mut [u8], s: &[u8], n: usize)
     requires { (n ≤ user_max) × (frame_size n ≤ length s.now) × (n ≤ length out.old) }
     ensures { out.new ≡ splice out.old 0 (user_of n s.now) }
 {
-    let size = 10 + n + 2 * n.div_ceil(BLOCK);
     let mut to = 0;
-    for block in s[10..size].chunks(BLOCK + 2) {
+    for block in s[10..frame_size(n)].chunks(BLOCK + 2) {
         let user = &block[..block.len() - 2];
         octets::copy(out, to, user);
         to += user.len();

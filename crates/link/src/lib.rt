@@ -139,12 +139,12 @@ fn blocks_counted(
     ensures { result ≡ blocks_counted counts (taken_of taken) }
 {
     match taken {
-        Err(why) if why.number() == 15 => block_counted(counts, why.block()),
+        Err(TakeRefusal::Frame(FrameRefusal::BlockCheck(block))) => block_counted(counts, block),
         _ => counts,
     }
 }
 
-// The record with this frame counted.
+// The record with this frame counted: seven counts by one table of document 01's numbers. A match would write the record out once an arm.
 pub fn counted(l: LineRecord, taken: Result<Taken, TakeRefusal>) -> LineRecord
     ensures { result ≡ counted_of l (taken_of taken) }
 {

@@ -46,7 +46,8 @@ pub const OVER_RANGE: u8 = 32;
 // The flags of a point before its first reading: restart.
 pub const FRESH_FLAGS: u8 = 2;
 
-// A value as a point's record and an event hold it: a 32-bit number, a 16-bit number or a float.
+// A value as a point's record and an event hold it: a 32-bit number, a 16-bit number or a float. `AnalogState` and `AnalogKind` have the same
+// three kinds with other contents: one enum over three parameters would be no plainer, as each use would name all three.
 #[derive(Clone, Copy)]
 pub enum Value {
     Int32(i32),
@@ -87,7 +88,7 @@ pub enum AnalogState {
     Float32(GateState<f32, f32>, Scale),
 }
 
-// A binary point's record. `flags` are the shown ones, `reported` those last reported.
+// A binary point's record. `flags` are the shown ones, `reported_flags` those last reported.
 #[derive(Clone, Copy)]
 pub struct BinaryPoint {
     pub class: u8,
@@ -97,7 +98,7 @@ pub struct BinaryPoint {
     pub reported_flags: u8,
 }
 
-// An analog point's record. `value` and `flags` are the shown ones, `reported` the flags last reported.
+// An analog point's record. `value` and `flags` are the shown ones, `reported_flags` those last reported.
 #[derive(Clone, Copy)]
 pub struct AnalogPoint {
     pub class: u8,
@@ -147,7 +148,7 @@ impl ReadingRefusal {
     }
 }
 
-// What a reading that is taken comes to: the point's new record, and whether an event is raised.
+// What a reading that is taken comes to: the point's new record, and whether an event is raised. Two answers, both used whatever the other is.
 #[derive(Clone, Copy)]
 pub struct Taken<P> {
     pub point: P,
@@ -168,14 +169,14 @@ pub struct AnalogSetup {
     pub kind: AnalogKind,
 }
 
-// A value as a point shows it, scaled or clamped, and whether it is shown with over-range.
+// A value as a point shows it, scaled or clamped, and whether it is shown with over-range. Two answers, both used whatever the other is.
 #[derive(Clone, Copy)]
 pub struct Saturated<V> {
     pub value: V,
     pub over: bool,
 }
 
-// Whether the gate passes, and the sum after this reading.
+// Whether the gate passes, and the sum after this reading. Two answers, both used whatever the other is.
 #[derive(Clone, Copy)]
 pub struct Gated<L> {
     pub pass: bool,
@@ -203,7 +204,7 @@ pub fn scale_value(x: f32, s: Scale) -> Saturated<f32>
 pub fn clamp_value(v: i32) -> Saturated<i16>
     ensures { result ≡ clamp_value v }
 {
-    let value = v.clamp(-32768, 32767);
+    let value = v.clamp(i16::MIN as i32, i16::MAX as i32);
     Saturated {
         value: value as i16,
         over: value != v,

@@ -21,7 +21,7 @@ ghost use Rattle.receiver.specs.Receiver.{
   PieceReceived,
 };
 
-use frame::{BLOCK, FRAME_MAX, Frame, FrameRefusal};
+use frame::{FRAME_MAX, Frame, FrameRefusal};
 
 // The bytes of a frame's header, with its check.
 const HEADER: usize = 10;
@@ -87,8 +87,7 @@ fn stated_size(length: u8) -> usize
     requires { 5 ≤ length }
     ensures { (result ≡ frame_size (length - 5)) × (result ≤ frame_max) }
 {
-    let n = usize::from(length) - 5;
-    HEADER + n + 2 * n.div_ceil(BLOCK)
+    frame::frame_size(usize::from(length) - 5)
 }
 
 // The memory's first byte is given up, and nine stay.
@@ -113,7 +112,7 @@ fn waiting(taken: usize, kept: usize) -> Reception
 fn move_on(memory: &mut [u8; FRAME_MAX], why: FrameRefusal) -> usize
     ensures { (result ≡ kept_after (refusal_of why)) × (take result memory.new ≡ take result (drop 1 memory.old)) }
 {
-    if why.number() == 15 {
+    if let FrameRefusal::BlockCheck(_) = why {
         return 0;
     }
     give_up_one(memory);

@@ -178,7 +178,7 @@ fn fresh_head(s: SetupWords, binaries: usize, analogs: usize) -> Head
 }
 
 // A refused setup gives no outstation: its head has no points and no outputs.
-pub fn no_outstation() -> Restarted
+fn no_outstation() -> Restarted
     ensures { result ≡ no_outstation }
 {
     let none = SetupWords {
@@ -200,7 +200,8 @@ pub fn no_outstation() -> Restarted
     }
 }
 
-// A setup that breaks a limit gives no outstation. The lent words then hold what was stored up to there.
+// A setup that breaks a limit gives no outstation. The lent words then hold what was stored up to there. The lent arrays come one by one, as C
+// lends each alone: a struct of several `&mut` would have every function promise that each is still the same reference.
 pub fn restart(
     s: SetupWords,
     classes: &[u8],
