@@ -38,7 +38,7 @@ use select_latch::{ControlGroup, Selection};
 use static_objects::Points;
 
 // Why a fragment is refused.
-#[derive(Clone, Copy)]
+#[derive(Clone, Copy, Debug, PartialEq, Eq)]
 pub enum FragmentRefusal {
     // 1: time at or above 2^48, or before the last accepted call's.
     Time,
@@ -67,7 +67,7 @@ impl FragmentRefusal {
 }
 
 // What an accepted fragment comes to.
-#[derive(Clone, Copy)]
+#[derive(Clone, Copy, Debug, PartialEq, Eq)]
 pub enum FragmentAnswer {
     // The answer is the first so many lent bytes.
     Answer(usize),
