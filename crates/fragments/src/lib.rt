@@ -92,6 +92,8 @@ struct Request<'a> {
     function: u8,
     time: u64,
     bytes: &'a [u8],
+    ghost headed: { 2 ≤ length bytes.now },
+    ghost short: { length bytes.now ≤ fragment_max },
 }
 
 // What an answer says beside its objects and the indications of the state.
@@ -211,7 +213,7 @@ fn answer_read(
     r: Request<'_>,
     out: &mut [u8],
 ) -> FragmentResult
-    requires { (2 ≤ length r.bytes.now) × (length r.bytes.now ≤ fragment_max) × (fragment_max ≤ length out.old) }
+    requires { fragment_max ≤ length out.old }
     ensures { ReadHolds h (λ o u. record { binaries = binaries.now; analogs = analogs.now; held = held.old; request = request.old; answer = answer.old; objects = o; outputs = u })
         r.entry.sequence.0 r.entry.time r.entry.bytes.now result
         (λ o u. record { binaries = binaries.now; analogs = analogs.now; held = held.new; request = request.new; answer = answer.new; objects = o; outputs = u })
@@ -438,7 +440,7 @@ fn answer_request(
     r: Request<'_>,
     out: &mut [u8],
 ) -> FragmentResult
-    requires { (2 ≤ length r.bytes.now) × (length r.bytes.now ≤ fragment_max) × (fragment_max ≤ length out.old) }
+    requires { fragment_max ≤ length out.old }
     ensures { OtherHolds h (λ b a. record { binaries = b; analogs = a; held = held.old; request = request.old; answer = answer.old; objects = objects.old; outputs = outputs.now })
         r.entry.sequence.0 r.entry.function r.entry.time r.entry.bytes.now result
         (λ b a. record { binaries = b; analogs = a; held = held.new; request = request.new; answer = answer.new; objects = objects.new; outputs = outputs.now })
@@ -480,7 +482,7 @@ fn take_request(
     r: Request<'_>,
     out: &mut [u8],
 ) -> FragmentResult
-    requires { (2 ≤ length r.bytes.now) × (length r.bytes.now ≤ fragment_max) × (fragment_max ≤ length out.old) }
+    requires { fragment_max ≤ length out.old }
     ensures { RequestHolds h (record { binaries = binaries.now; analogs = analogs.now; held = held.old; request = request.old; answer = answer.old; objects = objects.old; outputs = outputs.now })
         r.entry.sequence.0 r.entry.function r.entry.time r.entry.bytes.now result
         (record { binaries = binaries.now; analogs = analogs.now; held = held.new; request = request.new; answer = answer.new; objects = objects.new; outputs = outputs.now })
