@@ -16,7 +16,7 @@ use Rattle.control.specs.declared.ControlObject.{ControlObject}
 use Rattle.control.specs.Objects.{no_object, earlier_of}
 use Rattle.control.specs.Status.{Outputs, can_do, status_of, statuses, all_zero, echoed, chosen}
 use Rattle.laws.proofs.Filling.{part-front, part_none}
-use Rattle.control.proofs.ObjectLaws.{earlier_more, earlier-none, earlier-next}
+use Rattle.control.proofs.ObjectLaws.{earlier_more, earlier-next}
 
 -- ---- one object's status, its status byte found to be 0
 
@@ -28,13 +28,6 @@ undisturbed u again c s = rw (eq-eqb _ _ s)
 
 pub seen_here : (index : ℕ) (cs : List ControlObject) (n : ℕ) → 0 < n → index ≡ (get_or cs (n - 1) no_object).index → member index (earlier_of cs n) ≡ true
 seen_here index cs n h e = rw (earlier_more cs n h, eq-eqb _ _ e)
-
-pub seen-before : (index : ℕ) (cs : List ControlObject) (n : ℕ) → 0 < n → (index ≡ (get_or cs (n - 1) no_object).index → ⊥)
-    → member index (earlier_of cs n) ≡ member index (earlier_of cs (n - 1))
-seen-before index cs n h e = rw (earlier_more cs n h, ne_eqb _ _ e)
-
-pub seen-nowhere : (index : ℕ) (cs : List ControlObject) (n : ℕ) → n ≤ 0 → member index (earlier_of cs n) ≡ false
-seen-nowhere index cs n h = rw (earlier-none cs n h)
 
 -- ---- the statuses
 
@@ -53,17 +46,9 @@ unfolding statuses
 statuses-step u cs n i h k = rw (part-front cs n i no_object h k, earlier-next cs i)
 
 module _ (ss : List ℕ) (n i : ℕ) (h : i < n) (k : n ≤ length ss) where
-  pub zero_more : get_or ss i 0 ≡ 0 → all_zero (drop (i + 1) (take n ss)) ≡ all_zero (drop i (take n ss))
-  unfolding all_zero
-  zero_more e = rw (part-front ss n i 0 h k, eq-eqb _ _ e)
-
   pub zero-stop : (get_or ss i 0 ≡ 0 → ⊥) → all_zero (drop i (take n ss)) ≡ false
   unfolding all_zero
   zero-stop e = rw (part-front ss n i 0 h k, ne_eqb _ _ e)
-
-pub zero-end : (ss : List ℕ) (n i : ℕ) → i ≤ n → n ≤ i → all_zero (drop i (take n ss)) ≡ true
-unfolding all_zero
-zero-end ss n i h k = rw (part_none ss n i h k)
 
 -- ---- the objects with status 0
 
