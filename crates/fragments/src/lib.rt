@@ -85,7 +85,7 @@ pub struct FragmentResult {
     pub operated: ControlObjects,
 }
 
-// A request of the master: its sequence and function, when it came, and all its bytes.
+// A request of the master: its sequence and function, when it came, and all its bytes. The function is IEEE 1815's byte: any below 128 may come.
 #[derive(Clone, Copy)]
 struct Request<'a> {
     sequence: ApplicationSequence,

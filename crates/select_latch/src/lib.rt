@@ -50,7 +50,8 @@ pub struct Selection {
     pub len: usize,
 }
 
-// What a control request does. The echo of so many bytes is in the lent bytes from 4.
+// What a control request does. The echo of so many bytes is in the lent bytes from 4. No `Result`: a request with a fault is answered too, and
+// effects puts both together in the same way.
 #[derive(Clone, Copy)]
 pub struct Controlled {
     pub fault: Option<Fault>,
@@ -84,7 +85,7 @@ fn group_of(kind: ObjectKind) -> ControlGroup
     }
 }
 
-// The status of every object of an OPERATE.
+// The status of every object of an OPERATE: IEEE 1815's byte, which the echo gives as it is.
 pub fn operate_status(
     latch: Option<Selection>,
     arm_time: u64,
