@@ -166,7 +166,8 @@ fn latch_after(
     }
 }
 
-// Puts the echo of the objects, where the function is answered, and says its length: function 6 is never answered.
+// Puts the echo of the objects, where the function is answered, and says its length: function 6 is never answered. `answer_max ≤ length out` is a
+// short clause, so it stands at each call on the way: a type around it would be made and opened at every one.
 fn answer(f: ControlFunction, out: &mut [u8], o: &[u8], x: Form, ss: [u8; OBJECTS_MAX]) -> usize
     requires { (answer_max ≤ length out.old) × HasObjects x o.now }
     ensures { (out.new ≡ splice out.old 4 (echo_by f (echo_of x.width (value_size x.kind) (take x.count ss) o.now)))
