@@ -84,8 +84,8 @@ pub struct ControlObject {
     pub command: Command,
 }
 
-// Up to OBJECTS_MAX objects, in the order asked. An array with its count beside it: it goes by value up to the host's call, and the kit's
-// ArrayVec is not Copy.
+// Up to OBJECTS_MAX objects, in the order asked. An array with its count beside it, and no ArrayVec, which is not Copy: it goes by value up to
+// C's answer.
 #[derive(Clone, Copy)]
 pub struct ControlObjects {
     pub items: [ControlObject; OBJECTS_MAX],

@@ -173,7 +173,7 @@ fn taken<W: ObjectWords>(cs: ControlObjects) -> ([W; OBJECTS_MAX], usize)
     (items, count)
 }
 
-// Those for relays.
+// Those for relays: C's struct, as the next is, so there are two of these.
 fn crobs_of(cs: ControlObjects) -> CrobsWords
     ensures { CrobsAs result (filter is_crob (list_of cs)) }
 {

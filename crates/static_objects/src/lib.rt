@@ -23,7 +23,7 @@ use point_store::{ANALOG_WORDS, BINARY_WORDS, Installed};
 use points::Value;
 use read_headers::{Header, PointKind};
 
-// The points that the host lends: their words, and how many are installed.
+// The points that the host lends: their words, and how many are installed. Counts beside arrays, since the host lends the arrays.
 #[derive(Clone, Copy)]
 pub struct Points<'a> {
     pub binaries: &'a [u32; BINARY_WORDS],
