@@ -37,7 +37,8 @@ struct ReadRequest {
     classes: Classes,
 }
 
-// The classes, and the one that a header asks for.
+// The classes, and the one that a header asks for. Not shared with event_store's `classes_pending`, which notes a plain number in three flags,
+// each with its own part of the invariant: a method for both would be no plainer.
 fn with_class(m: Classes, class: Option<u8>) -> Classes
     ensures { (result.one ≡ (m.one || is_class 1 class))
         × (result.two ≡ (m.two || is_class 2 class))
