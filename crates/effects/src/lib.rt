@@ -100,6 +100,7 @@ fn write_effect(restarted: bool, s: &[u8]) -> RequestEffect
     }
 }
 
+// `fragment_max ≤ length out` is a short clause, so it stands at each call on the way: a type around it would be made and opened at every one.
 fn control_request_effect(
     seen: RequestContext,
     ws: &[u32; ANALOG_OUTPUT_WORDS],

@@ -85,7 +85,7 @@ pub struct FragmentResult {
     pub operated: ControlObjects,
 }
 
-// A request of the master: its sequence and function, when it came, and all its bytes.
+// A request of the master: its sequence and function, when it came, and all its bytes. The function is IEEE 1815's byte: any below 128 may come.
 #[derive(Clone, Copy)]
 struct Request<'a> {
     sequence: ApplicationSequence,
@@ -159,7 +159,8 @@ fn con_by(f: Option<Fault>, carried: bool, overflow: bool) -> bool
     f.is_none() && (carried || overflow)
 }
 
-// Puts the response header in front of the objects; the carried events are marked.
+// Puts the response header in front of the objects; the carried events are marked. What `out` must have room for is a short clause, so it stands
+// at each function: a type around it would be made and opened at every call. `held` and its status: as in event_store.
 fn put_response_header(
     out: &mut [u8],
     q: ApplicationSequence,
