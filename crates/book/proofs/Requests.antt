@@ -17,7 +17,7 @@ use Rattle.application.specs.declared.Fault.TheVariants.{FunctionUnknown, Object
 use Rattle.std.specs.Prelude.{Option, Some, None, Result, Ok, Err}
 use Rattle.application.specs.declared.Indications.{Indications}
 use Rattle.application.specs.Fragment as F
-use Rattle.application.specs.Fragment.{classified, function_of, sequence_of, control_of, is_confirm, objects_of}
+use Rattle.application.specs.Fragment.{function_of, sequence_of, control_of, is_confirm, objects_of}
 use Rattle.application.specs.Response.{response_of, fault_bits, weight}
 use Rattle.read_headers.specs.declared.Header.{Header}
 use Rattle.read_headers.specs.Parse.{Parsed, headers, fault}

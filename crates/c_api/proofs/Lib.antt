@@ -1,2 +1,1 @@
 pub mod FragmentLaws
-pub mod TakenRecords

@@ -86,18 +86,6 @@ holding c xs h k e = record { objects = e; count = sym (length-list_of c h k) �
 
 -- ---- the indices of the objects before
 
-pub earlier_more : (cs : List ControlObject) (n : ℕ) → 0 < n → earlier_of cs n ≡ (get_or cs (n - 1) no_object).index ∷ earlier_of cs (n - 1)
-unfolding earlier_of
-earlier_more cs zero h = absurd (omega arith)
-earlier_more cs (suc n) h =
-    let e : n ≡ suc n - 1 = omega arith in
-    ap (λ (k : ℕ). (get_or cs k no_object).index ∷ earlier_of cs k) e
-
-pub earlier-none : (cs : List ControlObject) (n : ℕ) → n ≤ 0 → earlier_of cs n ≡ []
-unfolding earlier_of
-earlier-none cs zero h = refl
-earlier-none cs (suc n) h = absurd (omega arith)
-
 pub earlier-next : (cs : List ControlObject) (i : ℕ) → earlier_of cs (i + 1) ≡ (get_or cs i no_object).index ∷ earlier_of cs i
 unfolding earlier_of
 earlier-next cs i = ap (λ (k : ℕ). earlier_of cs k) (add-one i)

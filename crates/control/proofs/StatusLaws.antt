@@ -1,7 +1,7 @@
 -- Laws of one object's status, and of the loops over the objects and their statuses.
 -- Assumes nothing.
 use mathlib.Core.Path.{◌≡◌, refl, sym, ap, ◌∙◌}
-use mathlib.Core.Bool.{Bool, true, false, not}
+use mathlib.Core.Bool.{Bool, not}
 use mathlib.Core.List.{List, [], ◌∷◌, ◌++◌}
 use Prim.Native.Nat.{ℕ, ◌+◌, ◌-◌, ◌≤◌, ◌<◌}
 use native.Mathlib.Omega.{arith}
@@ -14,27 +14,15 @@ use Rattle.laws.specs.First.{first, ◌⇒◌}
 use Rattle.laws.specs.Lists.{member}
 use Rattle.control.specs.declared.ControlObject.{ControlObject}
 use Rattle.control.specs.Objects.{no_object, earlier_of}
-use Rattle.control.specs.Status.{Outputs, can_do, status_of, statuses, all_zero, echoed, chosen}
+use Rattle.control.specs.Status.{Outputs, can_do, status_of, statuses, echoed, chosen}
 use Rattle.laws.proofs.Filling.{part-front, part_none}
-use Rattle.control.proofs.ObjectLaws.{earlier_more, earlier-none, earlier-next}
+use Rattle.control.proofs.ObjectLaws.{earlier-next}
 
 -- ---- one object's status, its status byte found to be 0
 
 pub undisturbed : (u : Outputs) (again : Bool) (c : ControlObject) → c.status ≡ 0
     → status_of u again c ≡ first (not (can_do u c.index c.command) ⇒ 4 ∷ again ⇒ 8 ∷ []) 0
 undisturbed u again c s = rw (eq-eqb _ _ s)
-
--- ---- an index among those of the objects before
-
-pub seen_here : (index : ℕ) (cs : List ControlObject) (n : ℕ) → 0 < n → index ≡ (get_or cs (n - 1) no_object).index → member index (earlier_of cs n) ≡ true
-seen_here index cs n h e = rw (earlier_more cs n h, eq-eqb _ _ e)
-
-pub seen-before : (index : ℕ) (cs : List ControlObject) (n : ℕ) → 0 < n → (index ≡ (get_or cs (n - 1) no_object).index → ⊥)
-    → member index (earlier_of cs n) ≡ member index (earlier_of cs (n - 1))
-seen-before index cs n h e = rw (earlier_more cs n h, ne_eqb _ _ e)
-
-pub seen-nowhere : (index : ℕ) (cs : List ControlObject) (n : ℕ) → n ≤ 0 → member index (earlier_of cs n) ≡ false
-seen-nowhere index cs n h = rw (earlier-none cs n h)
 
 -- ---- the statuses
 
@@ -51,19 +39,6 @@ pub statuses-step : (u : Outputs) (cs : List ControlObject) (n i : ℕ) → i < 
     ≡ status_of u (member (get_or cs i no_object).index (earlier_of cs i)) (get_or cs i no_object) ∷ statuses u (earlier_of cs (i + 1)) (drop (i + 1) (take n cs))
 unfolding statuses
 statuses-step u cs n i h k = rw (part-front cs n i no_object h k, earlier-next cs i)
-
-module _ (ss : List ℕ) (n i : ℕ) (h : i < n) (k : n ≤ length ss) where
-  pub zero_more : get_or ss i 0 ≡ 0 → all_zero (drop (i + 1) (take n ss)) ≡ all_zero (drop i (take n ss))
-  unfolding all_zero
-  zero_more e = rw (part-front ss n i 0 h k, eq-eqb _ _ e)
-
-  pub zero-stop : (get_or ss i 0 ≡ 0 → ⊥) → all_zero (drop i (take n ss)) ≡ false
-  unfolding all_zero
-  zero-stop e = rw (part-front ss n i 0 h k, ne_eqb _ _ e)
-
-pub zero-end : (ss : List ℕ) (n i : ℕ) → i ≤ n → n ≤ i → all_zero (drop i (take n ss)) ≡ true
-unfolding all_zero
-zero-end ss n i h k = rw (part_none ss n i h k)
 
 -- ---- the objects with status 0
 

@@ -84,8 +84,8 @@ pub struct ControlObject {
     pub command: Command,
 }
 
-// Up to OBJECTS_MAX objects, in the order asked. An array with its count beside it: it goes by value up to the host's call, and the kit's
-// ArrayVec is not Copy.
+// Up to OBJECTS_MAX objects, in the order asked. An array with its count beside it, and no ArrayVec, which is not Copy: it goes by value up to
+// C's answer.
 #[derive(Clone, Copy)]
 pub struct ControlObjects {
     pub items: [ControlObject; OBJECTS_MAX],
@@ -237,7 +237,7 @@ pub fn none() -> ControlObjects
     }
 }
 
-// The objects at the front of the bytes.
+// The objects at the front of the bytes. `at` counts beside the `for`: by bytes, where `i` counts objects.
 fn taken(b: &[u8], x: Form) -> ControlObjects
     requires { (span x.width (value_size x.kind) x.count ≤ length b.now) × (x.width ≤ 2) × (x.count ≤ objects_max) }
     ensures { Holding result (objects x.kind x.width x.count b.now) }
@@ -355,7 +355,7 @@ pub fn all_zero(ss: [u8; OBJECTS_MAX], count: usize) -> bool
     ss.iter().take(count).all(|&s| s == 0)
 }
 
-// The objects whose status is 0.
+// The objects whose status is 0. `j` counts beside the `for`, since what is chosen moves down: no plainer.
 pub fn with_zero(cs: ControlObjects, ss: [u8; OBJECTS_MAX]) -> ControlObjects
     ensures { Holding result (chosen (list_of cs) (take cs.count ss)) }
 {
@@ -373,6 +373,7 @@ pub fn with_zero(cs: ControlObjects, ss: [u8; OBJECTS_MAX]) -> ControlObjects
 }
 
 // Puts n objects with these statuses at the offset. It takes two sizes and a number and not a `Form`, whose kind says nothing here: that is plainer.
+// `from` counts beside the `for`: by bytes, where `i` counts objects.
 fn put_objects(out: &mut [u8], at: usize, b: &[u8], w: usize, z: usize, ss: &[u8], n: usize)
     requires { (at + span w z n ≤ length out.old) × (span w z n ≤ length b.now) × (n ≤ length ss.now) }
     ensures { out.new ≡ splice out.old at (echoed w z (take n ss.now) b.now) }

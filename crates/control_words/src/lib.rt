@@ -156,7 +156,7 @@ impl ObjectWords for AnalogCommandWords {
     }
 }
 
-// The objects of one kind, in the order asked, and how many they are.
+// The objects of one kind, in the order asked, and how many they are. `count` counts beside the `for`, since they move down: no plainer.
 fn taken<W: ObjectWords>(cs: ControlObjects) -> ([W; OBJECTS_MAX], usize)
     ensures { (map W.object_of (take result.1 result.0) ≡ map some (filter W.is_kind (list_of cs)))
         × (result.1 ≡ length (filter W.is_kind (list_of cs))) }
@@ -173,7 +173,7 @@ fn taken<W: ObjectWords>(cs: ControlObjects) -> ([W; OBJECTS_MAX], usize)
     (items, count)
 }
 
-// Those for relays.
+// Those for relays: C's struct, as the next is, so there are two of these.
 fn crobs_of(cs: ControlObjects) -> CrobsWords
     ensures { CrobsAs result (filter is_crob (list_of cs)) }
 {

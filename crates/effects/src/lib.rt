@@ -48,7 +48,7 @@ fn is_confirmed(
 ) -> bool
     ensures { result ≡ is_confirmed confirm_time q.0 uns time awaited.sequence.0 awaited.time }
 {
-    !uns && q.0 == awaited.sequence.0 && application::elapsed(awaited.time, time) <= confirm_time
+    !uns && q == awaited.sequence && application::elapsed(awaited.time, time) <= confirm_time
 }
 
 // IIN2.3 after an accepted CONFIRM.
@@ -100,6 +100,7 @@ fn write_effect(restarted: bool, s: &[u8]) -> RequestEffect
     }
 }
 
+// `fragment_max ≤ length out` is a short clause, so it stands at each call on the way: a type around it would be made and opened at every one.
 fn control_request_effect(
     seen: RequestContext,
     ws: &[u32; ANALOG_OUTPUT_WORDS],
@@ -134,7 +135,7 @@ fn control_request_effect(
     }
 }
 
-// What a request other than READ does, by its function, of the bytes after control and function.
+// What a request other than READ does, by its function, of the bytes after control and function. The function is IEEE 1815's byte: any may come.
 pub fn effect_by(
     seen: RequestContext,
     ws: &[u32; ANALOG_OUTPUT_WORDS],

@@ -40,7 +40,8 @@ fn variation(kind: EventKind) -> u8
     }
 }
 
-// Puts a header at the offset, and answers the offset after it.
+// Puts a header at the offset, and answers the offset after it. `out` and `at` travel together: each writer says `splice out at ..`, and one law
+// joins that with the next.
 fn put_heading(out: &mut [u8], at: usize, kind: EventKind, n: u16) -> usize
     requires { at + 5 ≤ length out.old }
     ensures { (result ≡ at + 5) × (out.new ≡ splice out.old at (event_heading (kind_number kind) 0 n)) }

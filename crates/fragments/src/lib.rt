@@ -38,7 +38,7 @@ use select_latch::{ControlGroup, Selection};
 use static_objects::Points;
 
 // Why a fragment is refused.
-#[derive(Clone, Copy)]
+#[derive(Clone, Copy, Debug, PartialEq, Eq)]
 pub enum FragmentRefusal {
     // 1: time at or above 2^48, or before the last accepted call's.
     Time,
@@ -67,7 +67,7 @@ impl FragmentRefusal {
 }
 
 // What an accepted fragment comes to.
-#[derive(Clone, Copy)]
+#[derive(Clone, Copy, Debug, PartialEq, Eq)]
 pub enum FragmentAnswer {
     // The answer is the first so many lent bytes.
     Answer(usize),
@@ -85,13 +85,15 @@ pub struct FragmentResult {
     pub operated: ControlObjects,
 }
 
-// A request of the master: its sequence and function, when it came, and all its bytes.
+// A request of the master: its sequence and function, when it came, and all its bytes. The function is IEEE 1815's byte: any below 128 may come.
 #[derive(Clone, Copy)]
 struct Request<'a> {
     sequence: ApplicationSequence,
     function: u8,
     time: u64,
     bytes: &'a [u8],
+    ghost headed: { 2 ≤ length bytes.now },
+    ghost short: { length bytes.now ≤ fragment_max },
 }
 
 // What an answer says beside its objects and the indications of the state.
@@ -157,7 +159,8 @@ fn con_by(f: Option<Fault>, carried: bool, overflow: bool) -> bool
     f.is_none() && (carried || overflow)
 }
 
-// Puts the response header in front of the objects; the carried events are marked.
+// Puts the response header in front of the objects; the carried events are marked. What `out` must have room for is a short clause, so it stands
+// at each function: a type around it would be made and opened at every call. `held` and its status: as in event_store.
 fn put_response_header(
     out: &mut [u8],
     q: ApplicationSequence,
@@ -211,7 +214,7 @@ fn answer_read(
     r: Request<'_>,
     out: &mut [u8],
 ) -> FragmentResult
-    requires { (2 ≤ length r.bytes.now) × (length r.bytes.now ≤ fragment_max) × (fragment_max ≤ length out.old) }
+    requires { fragment_max ≤ length out.old }
     ensures { ReadHolds h (λ o u. record { binaries = binaries.now; analogs = analogs.now; held = held.old; request = request.old; answer = answer.old; objects = o; outputs = u })
         r.entry.sequence.0 r.entry.time r.entry.bytes.now result
         (λ o u. record { binaries = binaries.now; analogs = analogs.now; held = held.new; request = request.new; answer = answer.new; objects = o; outputs = u })
@@ -438,7 +441,7 @@ fn answer_request(
     r: Request<'_>,
     out: &mut [u8],
 ) -> FragmentResult
-    requires { (2 ≤ length r.bytes.now) × (length r.bytes.now ≤ fragment_max) × (fragment_max ≤ length out.old) }
+    requires { fragment_max ≤ length out.old }
     ensures { OtherHolds h (λ b a. record { binaries = b; analogs = a; held = held.old; request = request.old; answer = answer.old; objects = objects.old; outputs = outputs.now })
         r.entry.sequence.0 r.entry.function r.entry.time r.entry.bytes.now result
         (λ b a. record { binaries = b; analogs = a; held = held.new; request = request.new; answer = answer.new; objects = objects.new; outputs = outputs.now })
@@ -480,7 +483,7 @@ fn take_request(
     r: Request<'_>,
     out: &mut [u8],
 ) -> FragmentResult
-    requires { (2 ≤ length r.bytes.now) × (length r.bytes.now ≤ fragment_max) × (fragment_max ≤ length out.old) }
+    requires { fragment_max ≤ length out.old }
     ensures { RequestHolds h (record { binaries = binaries.now; analogs = analogs.now; held = held.old; request = request.old; answer = answer.old; objects = objects.old; outputs = outputs.now })
         r.entry.sequence.0 r.entry.function r.entry.time r.entry.bytes.now result
         (record { binaries = binaries.now; analogs = analogs.now; held = held.new; request = request.new; answer = answer.new; objects = objects.new; outputs = outputs.now })

@@ -10,7 +10,8 @@ ghost use Rattle.last_request.specs.Repeat.{kept, last_in, is_repeat, kept_answe
 use application::FRAGMENT_MAX;
 use control::ANSWER_MAX;
 
-// How many of the lent bytes the last request and its answer have. An answer of no bytes: none was sent.
+// How many of the lent bytes the last request and its answer have. An answer of no bytes: none was sent. Lengths beside arrays, since the host
+// lends the arrays.
 #[derive(Clone, Copy)]
 pub struct LastLengths {
     pub request_len: usize,

@@ -12,7 +12,7 @@ use Rattle.laws.specs.Limits.{fragment_max, events_max}
 use Rattle.laws.specs.Outcome.{Outcome, accepted, refused}
 use Rattle.laws.proofs.SameLaws.{same_refl}
 use Rattle.application.specs.Fragment as F
-use Rattle.application.specs.Fragment.{classified, function_of, sequence_of, control_of, is_confirm, objects_of}
+use Rattle.application.specs.Fragment.{function_of, sequence_of, control_of, is_confirm, objects_of}
 use Rattle.control.specs.Status.{Outputs}
 use Rattle.select_latch.specs.Select.{LatchView, no_select}
 use Rattle.events.specs.BufferView.{BufferView, pushed, released}

@@ -1,6 +1,6 @@
 -- Laws of a setup: what its limits tell, and the outstation that it gives.
 -- Assumes nothing.
-use mathlib.Core.Path.{◌≡◌, refl, sym}
+use mathlib.Core.Path.{◌≡◌, refl}
 use mathlib.Core.Bool.{Bool, true, false, not, ◌&&◌}
 use mathlib.Core.List.{map}
 use Prim.Native.Nat.{ℕ, ◌≤◌}
@@ -10,7 +10,6 @@ use lib.Dec.{leb, eqb}
 use lib.ListN.{take}
 use Rattle.laws.specs.Limits.{points_max}
 use Rattle.laws.specs.Lists.{all}
-use Rattle.laws.proofs.AllLaws.{refuted}
 use Rattle.points.specs.Setup.{class_ok, analog_ok}
 use Rattle.analog_outputs.specs.Output.{output_ok}
 use Rattle.outstation.specs.Setup.{Setup, binary_classes, analog_setups, analog_outputs, setup_ok}
@@ -63,10 +62,6 @@ bounds u h =
       some = leb-true _ _ j.0;
       confirm = leb-true _ _ k.0;
     }
-
--- a setup that breaks one is not accepted
-pub broken : (u : Setup) → (Bounds u → ⊥) → false ≡ setup_ok u
-broken u h = sym (refuted (setup_ok u) (λ e. h (bounds u e)))
 
 -- a setup that keeps them is as good as its inputs
 module _ (u : Setup) (b : Bounds u) where

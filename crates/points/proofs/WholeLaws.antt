@@ -2,7 +2,6 @@
 -- Assumes nothing.
 use mathlib.Core.Path.{◌≡◌, refl, sym, ap, ◌∙◌}
 use Prim.Native.Nat.{ℕ, zero, suc, ◌+◌, ◌-◌, ◌^◌, ◌<◌, ◌≤◌}
-use native.Mathlib.Nat.{le_refl, le-suc}
 use native.Mathlib.Omega.{arith}
 use mathlib.Core.Bool.{Bool, true, false, not, cond, true≢false, false≢true}
 use lib.Dec.{T, ltb, eqb, ltb→lt, lit<}
@@ -18,10 +17,6 @@ use Rattle.points.specs.Gate.{eq_z}
 use Rattle.std.specs.Int.{int_max, int_min}
 
 -- ---- the size of a difference
-pub mag-le : (z : ℤ) → mag z ≤ nat_abs z
-mag-le (pos n) = le_refl n
-mag-le (negsuc n) = le-suc n
-
 subℕ-size : (a b h : ℕ) → a ≤ h → b ≤ h → nat_abs (sub_ℕ a b) ≤ h
 subℕ-size a b h p q = go (ltb a b) (ltb→lt a b)
   where

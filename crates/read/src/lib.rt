@@ -22,7 +22,8 @@ use static_objects::Points;
 // The bytes of a response's objects: 2,048 less the four bytes in front of them.
 const RESPONSE_OBJECTS_MAX: usize = FRAGMENT_MAX - 4;
 
-// The fault of the READ, where it has one, and the size of the response. No `Result`: a READ with a fault is answered too, and both are used then.
+// The fault of the READ, where it has one, and the size of the response. No `Result`: a READ with a fault is answered too, with a size of 4,
+// and `RepliedAs` says both in either case.
 #[derive(Clone, Copy, Debug, PartialEq, Eq)]
 pub struct Reply {
     pub fault: Option<Fault>,
@@ -36,7 +37,8 @@ struct ReadRequest {
     classes: Classes,
 }
 
-// The classes, and the one that a header asks for.
+// The classes, and the one that a header asks for. Not shared with event_store's `classes_pending`, which notes a plain number in three flags,
+// each with its own part of the invariant: a method for both would be no plainer.
 fn with_class(m: Classes, class: Option<u8>) -> Classes
     ensures { (result.one ≡ (m.one || is_class 1 class))
         × (result.two ≡ (m.two || is_class 2 class))

@@ -100,12 +100,6 @@ front-is s classes m =
     (limits-and s (length classes) classes m ∙ ap (λ (l : List ℕ). setup_ok (setup_with s (length classes) [] m [] []) && classes_ok l) (take-length classes))
 
 -- how many points and analog outputs there are at most
-pub few-binaries : (s : SetupWords) (n : ℕ) (m : ℕ) → setup_ok (setup_with s n [] m [] []) ≡ true → n ≤ points_max
-few-binaries s n m h = (bounds (setup_with s n [] m [] []) h).binaries
-
-pub few-outputs : (s : SetupWords) (n : ℕ) (m : ℕ) → setup_ok (setup_with s n [] m [] []) ≡ true → s.analog_output_count ≤ analog_outputs_max
-few-outputs s n m h = (bounds (setup_with s n [] m [] []) h).analog_outputs
-
 module _ (s : SetupWords) (classes : List ℕ) (m : ℕ) (h : front_ok s classes m ≡ true) where
   pub few-classes : length classes ≤ points_max
   few-classes = (bounds (setup_with s (length classes) classes m [] (outputs_given s)) h).binaries

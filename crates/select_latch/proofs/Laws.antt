@@ -23,7 +23,7 @@ use Rattle.select_latch.specs.declared.ControlGroup.TheVariants as G
 use Rattle.select_latch.specs.declared.ControlFunction.TheVariants as F
 use Rattle.select_latch.specs.declared.Selection.{Selection}
 use Rattle.select_latch.specs.declared.ControlFunction.{ControlFunction}
-use Rattle.select_latch.specs.Select.{is_select, is_operate, is_unanswered, group_of, same_group, LatchView, no_select, selected, latch_of, operate_status, statuses_by, control_effect_with, control_effect}
+use Rattle.select_latch.specs.Select.{is_operate, is_unanswered, group_of, same_group, LatchView, no_select, selected, latch_of, operate_status, statuses_by, control_effect_with, control_effect}
 
 -- ---- OPERATE's status, by the tests in the code's order
 
@@ -79,12 +79,6 @@ pub apart : (a b : ControlGroup) → true ≡ not (sameb Groups.the_type a b) �
 apart a b e = sym (group-same a b) ∙ not_so (sameb Groups.the_type a b) e
 
 -- the derived `==` of the functions
-pub select-is : (f : ControlFunction) → sameb Functions.the_type f F.Select ≡ is_select f
-select-is F.Select = refl
-select-is F.Operate = refl
-select-is F.DirectOperate = refl
-select-is F.DirectOperateNoResponse = refl
-
 pub operate-is : (f : ControlFunction) → sameb Functions.the_type f F.Operate ≡ is_operate f
 operate-is F.Select = refl
 operate-is F.Operate = refl

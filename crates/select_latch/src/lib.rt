@@ -50,7 +50,8 @@ pub struct Selection {
     pub len: usize,
 }
 
-// What a control request does. The echo of so many bytes is in the lent bytes from 4.
+// What a control request does. The echo of so many bytes is in the lent bytes from 4. No `Result`: a request with a fault is answered too, and
+// effects puts both together in the same way.
 #[derive(Clone, Copy)]
 pub struct Controlled {
     pub fault: Option<Fault>,
@@ -84,7 +85,7 @@ fn group_of(kind: ObjectKind) -> ControlGroup
     }
 }
 
-// The status of every object of an OPERATE.
+// The status of every object of an OPERATE: IEEE 1815's byte, which the echo gives as it is.
 pub fn operate_status(
     latch: Option<Selection>,
     arm_time: u64,
@@ -165,7 +166,8 @@ fn latch_after(
     }
 }
 
-// Puts the echo of the objects, where the function is answered, and says its length: function 6 is never answered.
+// Puts the echo of the objects, where the function is answered, and says its length: function 6 is never answered. `answer_max ≤ length out` is a
+// short clause, so it stands at each call on the way: a type around it would be made and opened at every one.
 fn answer(f: ControlFunction, out: &mut [u8], o: &[u8], x: Form, ss: [u8; OBJECTS_MAX]) -> usize
     requires { (answer_max ≤ length out.old) × HasObjects x o.now }
     ensures { (out.new ≡ splice out.old 4 (echo_by f (echo_of x.width (value_size x.kind) (take x.count ss) o.now)))

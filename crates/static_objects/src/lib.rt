@@ -23,7 +23,7 @@ use point_store::{ANALOG_WORDS, BINARY_WORDS, Installed};
 use points::Value;
 use read_headers::{Header, PointKind};
 
-// The points that the host lends: their words, and how many are installed.
+// The points that the host lends: their words, and how many are installed. Counts beside arrays, since the host lends the arrays.
 #[derive(Clone, Copy)]
 pub struct Points<'a> {
     pub binaries: &'a [u32; BINARY_WORDS],
@@ -86,7 +86,8 @@ fn size(s: ShownPoint) -> usize
     }
 }
 
-// Puts a header of the point `first` and m more at the offset, and answers the offset after it.
+// Puts a header of the point `first` and m more at the offset, and answers the offset after it. `out` and `at` travel together: each writer says
+// `splice out at ..`, and one law joins that with the next.
 fn put_heading(
     out: &mut [u8],
     at: usize,
@@ -160,7 +161,8 @@ fn binaries_size(n: usize) -> usize
     if n == 0 { 0 } else { 7 + n }
 }
 
-// Puts the bytes of n binaries from `from` on at the offset, with no header.
+// Puts the bytes of n binaries from `from` on at the offset, with no header. The words are C's, and the three numbers go by value: a struct of them
+// would be made and opened at every call.
 fn put_states(
     out: &mut [u8],
     at: usize,

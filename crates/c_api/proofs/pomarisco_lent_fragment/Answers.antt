@@ -6,4 +6,4 @@ use Rattle.c_api.proofs.pomarisco_lent_fragment.Goals as goal
 pub returns : goal.returns
 returns c =
     let r = c.fragment-r in
-    host-given _ r.result _ _ _ _ _ _ r.ensures c.operated_words.ensures c.answer_words.ensures
+    host-given _ r.result _ _ _ _ _ _ r.ensures c.operated_words.ensures c.into.ensures

@@ -26,5 +26,5 @@ returns c =
     (to_end a.r.bytes.now 2) (rw c.installed_of.ensures at re.ensures) in
     read-in a.h a.binaries.now a.analogs.now a.held.now a.request.now a.answer.now a.r.sequence.0 a.r.time a.r.bytes.now _ _ _ re.result a.out.now _ _ _ _
     c.remember-kept.result c.after_read.result c.none.result c.none.ensures c.after_read.ensures c.remember-kept.ensures
-    c.requires.1 c.requires.2 t.result _ t.ensures refl g rs.ensures c.any_carried.ensures
+    a.r.short c.requires t.result _ t.ensures refl g rs.ensures c.any_carried.ensures
     c.put_response_header.ensures

@@ -40,7 +40,7 @@ slice_bounds-remember-end-2 c =
 
 pub remember-kept-requires : goal.remember-kept-requires
 remember-kept-requires c =
-    (c.requires.1, simp length-take (omega (arith, less (goal.at.remember-kept-requires c).After-put_answer-n)))
+    (c.args.r.short, simp length-take (omega (arith, less (goal.at.remember-kept-requires c).After-put_answer-n)))
 
 pub shape_of-out : goal.shape_of-out
 shape_of-out c =
@@ -54,7 +54,7 @@ returns c =
     let pa = c.put_answer-n in
     let short : length (take pa.result pa.new.out) ≤ 113 = simp length-take (omega (arith, less (goal.at.returns c).After-put_answer-n)) in
     other-in a.h a.held.now a.request.now a.answer.now a.objects.now a.outputs.now a.r.sequence.0 a.r.function a.r.time a.r.bytes.now _ _ _ _ dd.result a.out.now _ _
-    pa.result _ c.remember-kept.result c.after_request.result c.after_request.ensures c.remember-kept.ensures c.requires.1 short c.requires.2
+    pa.result _ c.remember-kept.result c.after_request.result c.after_request.ensures c.remember-kept.ensures a.r.short short c.requires
     c.answer_as.ensures _ seen.result c.buffer_status-t.ensures seen.ensures
     (λ (u : BufferView). subst (λ (x : List ℕ). EffectMeets dd.result a.out.now dd.new.out (effect_by (context_view seen.result a.outputs.now u) a.r.sequence.0 a.r.function a.r.time x)) (to_end a.r.bytes.now 2) (dd.ensures u))
     c.clear.ensures pa.ensures

@@ -21,22 +21,11 @@ mem s =
 abbrev was : Start → OutstationView
 was s = view_of s.args.h (mem s)
 
-pub answer_read-requires : goal.answer_read-requires
-answer_read-requires c =
-    c.requires
-
 pub returns-then-r-eq1 : goal.returns-then-r-eq1
 returns-then-r-eq1 c =
     let a = c.args in
     let r = c.answer_read in
     by_read (was (goal.at.returns-then-r-eq1 c).Start) a.r.sequence.0 a.r.function a.r.time a.r.bytes.now (PartMeets a.h r.result _ a.out.now _) (eq-eqb _ _ c.if-r-eq1.true) (r.ensures a.objects.now a.outputs.now)
-
-pub is_repeat-requires : goal.is_repeat-requires
-is_repeat-requires c = c.requires.0
-
-pub repeat_request-requires : goal.repeat_request-requires
-repeat_request-requires c =
-    c.requires.2
 
 pub returns-then-is_repeat : goal.returns-then-is_repeat
 returns-then-is_repeat c =
@@ -44,10 +33,6 @@ returns-then-is_repeat c =
     let r = c.repeat_request in
     by-repeat (was (goal.at.returns-then-is_repeat c).Start) a.r.sequence.0 a.r.function a.r.time a.r.bytes.now (PartMeets a.h r.result _ a.out.now _) (ne_eqb _ _ c.if-r-eq1.false)
     (sym (c.is_repeat.ensures ∙ ap (λ (k : Option LastLengths). is_repeat (last_in a.request.now a.answer.now k) a.r.bytes.now) c.last_of.ensures) ∙ c.if-is_repeat.true) (r.ensures (mem (goal.at.returns-then-is_repeat c).Start))
-
-pub answer_request-requires : goal.answer_request-requires
-answer_request-requires c =
-    c.requires
 
 pub returns : goal.returns
 returns c =
