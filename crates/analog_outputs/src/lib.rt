@@ -51,7 +51,7 @@ pub fn output_of(kind: u32, low: u32, high: u32) -> AnalogOutput
     }
 }
 
-// A whole number from the first end to the second.
+// A whole number from the first end to the second. This and the next two have the names of their definitions, which is plainer than their bodies.
 #[tactic(auto, unfolding(crate::specs::Output::within))]
 fn within(low: i32, high: i32, v: i32) -> bool
     ensures { result ≡ within low high v }

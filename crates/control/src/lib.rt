@@ -176,7 +176,7 @@ pub fn header(o: &[u8]) -> Result<Form, Fault>
     header_as(kind, o)
 }
 
-// The signed number of these bits, two's complement.
+// The signed number of these bits, two's complement: its definition's name beside `words::signed`'s.
 fn signed_16(bits: u16) -> i16
     ensures { result ≡ to_z w16 bits }
 {

@@ -27,7 +27,7 @@ pub struct Event {
     pub class: u8,
 }
 
-// A held event; carried: it is in the response that awaits confirmation.
+// A held event; carried: it is in the response that awaits confirmation. A mark of the event, and no case of it: the event is the same with and without.
 #[derive(Clone, Copy)]
 pub struct Held {
     pub event: Event,
@@ -59,6 +59,7 @@ pub struct Space {
 }
 
 // How many slots hold an event.
+// As `points::installed` with another limit: one function for both would be no plainer than `min`.
 pub fn filled(count: usize) -> usize
     ensures { result ≡ min count events_max }
 {

@@ -164,7 +164,7 @@ pub fn counted(l: LineRecord, taken: Result<Taken, TakeRefusal>) -> LineRecord
     }
 }
 
-// A function with user data: n at least 1.
+// A function with user data: n at least 1. `fcv` is the bit as it came.
 fn with_data(fcv: u8, n: usize) -> Result<Taken, TakeRefusal>
     ensures { result ≡ taken_by (with_data fcv n) n }
 {

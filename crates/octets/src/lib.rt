@@ -59,7 +59,7 @@ pub fn take4(s: &[u8], at: usize) -> u32
     take(s, at, 4) as u32
 }
 
-// The two byte strings are equal.
+// The two byte strings are equal. A function and not `==` at each place: its contract says `same`, in which the definitions above are stated.
 #[tactic(auto, using(laws::proofs::SameLaws::same_as_eq))]
 pub fn equal(a: &[u8], b: &[u8]) -> bool
     ensures { result ≡ same a.now b.now }

@@ -38,7 +38,7 @@ pub struct Reception {
     pub kept: usize,
 }
 
-// Refusal 11: more bytes are needed.
+// Refusal 11: more bytes are needed. By its name plainer than the comparison.
 fn is_short(r: Result<Frame, FrameRefusal>) -> bool
     ensures { result ≡ eqb (number_of (read_of r)) 11 }
 {

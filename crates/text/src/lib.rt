@@ -150,6 +150,7 @@ pub fn unhex_into(out: &mut [u8], w: &[u8]) -> Option<usize>
     if w.len() % 2 != 0 {
         return None;
     }
+    // Two digits a byte: an index serves both.
     for k in 0..n {
         let high = nibble(w[2 * k])?;
         let low = nibble(w[2 * k + 1])?;

@@ -212,7 +212,7 @@ pub struct Sender {
     pub at: usize,
 }
 
-// A segment that was written: its size, and whether it is the fragment's last.
+// A segment that was written: its size, and whether it is the fragment's last; two answers, both used whatever the other is.
 #[derive(Clone, Copy, Debug, PartialEq, Eq)]
 pub struct SentSegment {
     pub size: usize,
