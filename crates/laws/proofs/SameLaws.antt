@@ -1,13 +1,16 @@
 -- Laws of `same`, the comparison of byte strings: what it tells, and that `==` is it.
 -- Assumes nothing.
-use mathlib.Core.Path.{◌≡◌, refl, ap, ap₂}
-use mathlib.Core.Bool.{Bool, true, false, ◌&&◌}
+use mathlib.Core.Path.{◌≡◌, refl, sym, ap, ap₂, ◌∙◌}
+use mathlib.Core.Bool.{Bool, true, false, ◌&&◌, and-false}
 use mathlib.Core.List.{List, [], ◌∷◌}
-use Prim.Native.Nat.{ℕ}
+use Prim.Native.Nat.{ℕ, suc}
 use native.Mathlib.Omega.{arith}
 use borrow.Author.Tests.{eq-eqb, eqb-true}
 use lib.Dec.{eqb}
+use lib.ListN.{length, take}
 use lib.Pointwise.{pointwise}
+use lib.Seq.{take_all}
+use Rattle.std.specs.List.{list_all, zip}
 use Rattle.laws.specs.Lists.{same}
 
 pub same_refl : (a : List ℕ) → same a a ≡ true
@@ -33,3 +36,23 @@ same_as_eq [] [] = refl
 same_as_eq [] (y ∷ ys) = refl
 same_as_eq (x ∷ xs) [] = refl
 same_as_eq (x ∷ xs) (y ∷ ys) = ap (λ t. eqb x y && t) (same_as_eq xs ys)
+
+-- byte strings of two lengths are not equal
+pub same_lengths : (a b : List ℕ) → (length a ≡ length b → ⊥) → same a b ≡ false
+unfolding same
+same_lengths [] [] h = absurd (h refl)
+same_lengths [] (y ∷ ys) h = refl
+same_lengths (x ∷ xs) [] h = refl
+same_lengths (x ∷ xs) (y ∷ ys) h = rw (same_lengths xs ys (λ e. h (ap suc e))) (and-false (eqb x y))
+
+-- Of one length, they are compared by a test of each place, or by `starts_with`. With these two the check of `octets::equal` tells such a body that is
+-- right from one that is not: its must-fail edits are refused for what they pass over.
+pub same_by_places : (a b : List ℕ) → length a ≡ length b → same a b ≡ list_all (λ p. eqb p.0 p.1) (zip a b)
+unfolding same
+same_by_places [] [] n = refl
+same_by_places [] (y ∷ ys) n = absurd (omega (arith, n))
+same_by_places (x ∷ xs) [] n = absurd (omega (arith, n))
+same_by_places (x ∷ xs) (y ∷ ys) n = ap (λ t. eqb x y && t) (same_by_places xs ys (omega (arith, n)))
+
+pub same_by_front : (a b : List ℕ) → length a ≡ length b → same a b ≡ pointwise eqb a (take (length a) b)
+same_by_front a b n = sym (ap (pointwise eqb a) (take_all (length a) b (omega (arith, n))) ∙ same_as_eq a b)

@@ -10,6 +10,11 @@ pub passed-no : {A : Type 0} (t : Bool) (k : ℕ) (o : Outcome A) (a : A) → co
 passed-no true k o a e = (cc, cc)
 passed-no false k o a e = (refl, e)
 
+-- both of two tests
+pub both_true : (a b : Bool) → cond a b false ≡ true → (a ≡ true) × (b ≡ true)
+both_true true b t = (refl, t)
+both_true false b t = (t, cc)
+
 pub cond_same : {A : Type 0} (t : Bool) (x : A) → cond t x x ≡ x
 cond_same true x = refl
 cond_same false x = refl

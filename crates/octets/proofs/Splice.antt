@@ -1,14 +1,13 @@
 -- Laws of `splice`: bytes stored one after the other from an offset.
 -- Assumes nothing.
-use mathlib.Core.Path.{◌≡◌, refl, sym, ap, ◌∙◌}
-use Prim.Native.Nat.{ℕ, suc, ◌+◌, ◌-◌, ◌≤◌}
-use borrow.Rule.Slice.PartMut.{put_mid}
-use native.Mathlib.Nat.{add-zero}
+use mathlib.Core.Path.{◌≡◌, refl, sym, ap, ap₂, ◌∙◌}
+use Prim.Native.Nat.{ℕ, suc, ◌+◌, ◌≤◌, ◌<◌}
+use native.Mathlib.Nat.{add-zero, add_assoc}
 use native.Mathlib.Numerals.{add-one}
 use native.Mathlib.Omega.{arith}
 use mathlib.Core.List.{List, [], ◌∷◌, ◌++◌, append_assoc}
-use lib.ListN.{length, take, drop, set, length-set, length-drop, take-append-drop, drop_of_length-le}
-use lib.Seq.{sets, sets-eq, take_at, drop_at, length-take-le, take-add, drop-drop}
+use lib.ListN.{length, get_or, take, drop, set, length-set, length-drop, take-append-drop, drop_of_length-le}
+use lib.Seq.{sets, sets-eq, take_at, drop_at, length-take-le, take-add, drop-cons}
 use Rattle.octets.specs.Bytes.{splice}
 
 pub splice-nil : (d : List ℕ) (at : ℕ) → splice d at [] ≡ d
@@ -68,12 +67,12 @@ splice-same d at n room =
 pub splice-start : (d : List ℕ) (at : ℕ) (s : List ℕ) → splice d (at + 0) (drop 0 s) ≡ splice d at s
 splice-start d at s = ap (λ (k : ℕ). splice d k s) (add-zero at)
 
+pub splice-turn : (d : List ℕ) (at i : ℕ) (s : List ℕ) → i < length s
+    → splice (set d (at + i) (get_or s i 0)) (at + (i + 1)) (drop (i + 1) s) ≡ splice d (at + i) (drop i s)
+splice-turn d at i s h =
+    ap₂ (λ (k : ℕ) (l : List ℕ). splice (set d (at + i) (get_or s i 0)) k l) (sym (add_assoc at i 1)) (ap (λ (k : ℕ). drop k s) (add-one i))
+    ∙ sym (splice-cons d (at + i) (get_or s i 0) (drop (suc i) s))
+    ∙ ap (splice d (at + i)) (sym (drop-cons s i 0 h))
+
 pub splice-end : (d : List ℕ) (at i : ℕ) (s : List ℕ) → length s ≤ i → splice d at (drop i s) ≡ d
 splice-end d at i s h = ap (splice d at) (drop_of_length-le s h) ∙ splice-nil d at
-
--- what `d[at..at + s.len()].copy_from_slice(s)` leaves
-pub splice-put_mid : (d : List ℕ) (at : ℕ) (s : List ℕ) → at + length s ≤ length d → put_mid at (at + length s - at) d s ≡ splice d at s
-splice-put_mid d at s room =
-    let k : at + length s - at ≡ length s = omega arith in
-    let e : drop (at + length s - at) (drop at d) ≡ drop (at + length s) d = rw (k, drop-drop (length s) at d) in
-    ap (λ (x : List ℕ). take at d ++ (s ++ x)) e ∙ sym (append_assoc (take at d) s _) ∙ sym (splice-parts d at s room)

@@ -103,7 +103,7 @@ pub fn operate_status(
         return 2;
     }
     let len = selection.len.min(ECHO_MAX);
-    if o != &selection.objects[..len] {
+    if !octets::equal(o, &selection.objects[..len]) {
         return 2;
     }
     if sequence != application::next(selection.sequence) {
