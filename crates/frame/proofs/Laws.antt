@@ -6,9 +6,9 @@ use native.Mathlib.Omega.{arith}
 use mathlib.Core.List.{List, [], ◌∷◌, ◌++◌, append-nil}
 use lib.ListN.{length, take, drop, length-append, length-take, length-drop, drop_of_length-le}
 use borrow.Author.Tests.{lt-ltb, le-ltb}
-use lib.Seq.{length-take-le, drop-drop, take_all, take_at, drop_at}
+use lib.Seq.{length-take-le, drop-drop, take-take, take_all, take_at, drop_at}
 use mathlib.Core.Bool.{Bool, true, false, cond}
-use Rattle.laws.proofs.Parts.{part-is}
+use Rattle.laws.proofs.Parts.{part-is, part_length}
 use Rattle.octets.specs.Bytes.{splice, le}
 use Rattle.octets.proofs.Splice.{splice-append}
 use Rattle.octets.proofs.Le.{length-le}
@@ -49,9 +49,19 @@ next-chunk w s x (y ∷ r) e h =
     (ap (take w) e ∙ take_at x (y ∷ r) w n, ap (drop w) e ∙ drop_at x (y ∷ r) w n)
 
 -- one block more is put
-pub blocks-turn : (d : List ℕ) (to : ℕ) (s x r : List ℕ) → s ≡ x ++ r → length x ≡ min 16 (length s) → 0 < length s
+pub blocks-turn : (d : List ℕ) (to from e left : ℕ) (s : List ℕ) → 0 < left → from ≤ length s → e ≡ min (from + 16) (length s)
+    → splice (splice d to (with_crc (take (e - from) (drop from s)))) (to + (e - from) + 2) (blocks (left - 1) (drop (from + 16) s))
+    ≡ splice d to (blocks left (drop from s))
+blocks-turn d to from e left s pos h k =
+    let g : List ℕ = take (e - from) (drop from s) in
+    let l : length g ≡ e - from = part_length from e s (omega arith) in
+    let n : to + (e - from) + 2 ≡ to + length (with_crc g) = simp length-with-crc (omega arith) in
+    rw (n, sym (drop-drop 16 from s), sym (splice-append d to (with_crc g) (blocks (left - 1) (drop 16 (drop from s)))), part-is 16 from e s h k, sym (blocks_more left (drop from s) pos))
+
+-- the same where the blocks come as pieces of s, and all of them are put
+pub blocks-piece : (d : List ℕ) (to : ℕ) (s x r : List ℕ) → s ≡ x ++ r → length x ≡ min 16 (length s) → 0 < length s
     → splice (splice d to (with_crc x)) (to + (length x + 2)) (blocks (block_count (length r)) r) ≡ splice d to (blocks (block_count (length s)) s)
-blocks-turn d to s x r e h pos =
+blocks-piece d to s x r e h pos =
     let c = next-chunk 16 s x r e h in
     let l : length s ≡ length x + length r = ap length e ∙ length-append x r in
     let k : block_count (length s) - 1 ≡ block_count (length r) = omega arith in
@@ -138,16 +148,33 @@ module _ (at e left : ℕ) (b : List ℕ) (pos : 0 < left) (h : at ≤ length b)
   pub wrong-stop : crc_ok (take (e - at) (drop at b)) ≡ false → first_wrong left (drop at b) ≡ 0
   wrong-stop t = rw (wrong-more left (drop at b) pos, sym (part-is 18 at e b h k), t)
 
+  -- a block without its check, `&b[at..e - 2]`
+  pub without-crc-part : without_crc (take 18 (drop at b)) ≡ take (e - 2 - at) (drop at b)
+  unfolding without_crc
+  without-crc-part =
+      let l : length (take (e - at) (drop at b)) ≡ e - at = part_length at e b (omega arith) in
+      let n : e - at - 2 ≡ e - 2 - at = omega arith in
+      rw (sym (part-is 18 at e b h k), l, take-take (e - at - 2) (e - at) (drop at b) (omega arith), n)
+
+  -- the user bytes of one block more are copied
+  pub users-turn : (d : List ℕ) (to : ℕ)
+      → splice (splice d to (take (e - 2 - at) (drop at b))) (to + (e - 2 - at)) (users (left - 1) (drop (at + 18) b)) ≡ splice d to (users left (drop at b))
+  users-turn d to =
+      let g : List ℕ = take (e - 2 - at) (drop at b) in
+      let l : length g ≡ e - 2 - at = length-take-le (e - 2 - at) (drop at b) (simp length-drop (omega arith)) in
+      let n : to + (e - 2 - at) ≡ to + length g = omega arith in
+      rw (n, sym (drop-drop 18 at b), sym (splice-append d to g (users (left - 1) (drop 18 (drop at b)))), sym without-crc-part, sym (users-more left (drop at b) pos))
+
 -- how many blocks n bytes of a frame's body are
 abbrev pub chunk_count : ℕ → ℕ
 chunk_count n = (n + 15) / 18
 
--- the user bytes of one block more are copied
-pub users-turn : (d : List ℕ) (to : ℕ) (s x r : List ℕ) → s ≡ x ++ r → length x ≡ min 18 (length s) → 0 < length s → length s ≤ 18 * chunk_count (length s)
+-- the same where the blocks come as pieces of s, and all of them are copied
+pub users-piece : (d : List ℕ) (to : ℕ) (s x r : List ℕ) → s ≡ x ++ r → length x ≡ min 18 (length s) → 0 < length s → length s ≤ 18 * chunk_count (length s)
     → 18 * chunk_count (length s) < length s + 16
     → splice (splice d to (take (length x - 2) x)) (to + (length x - 2)) (users (chunk_count (length r)) r) ≡ splice d to (users (chunk_count (length s)) s)
 unfolding without_crc
-users-turn d to s x r e h pos most least =
+users-piece d to s x r e h pos most least =
     let c = next-chunk 18 s x r e h in
     let l : length s ≡ length x + length r = ap length e ∙ length-append x r in
     let k : chunk_count (length s) - 1 ≡ chunk_count (length r) = omega arith in

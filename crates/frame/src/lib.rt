@@ -1,7 +1,7 @@
 // Link frames: written into lent bytes, and read back from bytes.
 #![tactic(auto)]
 
-ghost use Rattle.std.specs.Prelude.{◌≡◌, ◌+◌, ◌*◌, ◌-◌, ◌≤◌, ◌<◌, length, MatchOption};
+ghost use Rattle.std.specs.Prelude.{◌≡◌, ◌+◌, ◌*◌, ◌-◌, ◌≤◌, ◌<◌, length, get_or, MatchOption};
 ghost use Rattle.laws.specs.Limits.{user_max};
 ghost use Rattle.octets.specs.Bytes.{splice};
 ghost use Rattle.frame.specs.Frame.{
@@ -226,7 +226,25 @@ fn check_body(s: &[u8], n: usize) -> Result<Frame, FrameRefusal>
     })
 }
 
+// Checks bytes that begin as a frame does. Apart from the tests before it, which so go into each caller: on a noisy line most bytes begin no frame.
+#[inline(never)]
+#[tactic(auto, unfolding(crate::specs::Frame::decode))]
+fn check_begun(s: &[u8]) -> Result<Frame, FrameRefusal>
+    requires { (10 ≤ length s.now) × (get_or s.now 0 0 ≡ 5) × (get_or s.now 1 0 ≡ 100) }
+    ensures { (checked_of result s.now ≡ decode user_max s.now) × Whole result s.now }
+{
+    if !crc_ok(&s[..10]) {
+        return Err(FrameRefusal::HeaderCheck);
+    }
+    let len = usize::from(s[2]);
+    if len < 5 {
+        return Err(FrameRefusal::Length);
+    }
+    check_body(s, len - 5)
+}
+
 // Checks the frame at the front of the bytes; its user data stays in its blocks.
+#[inline(always)]
 #[tactic(auto, unfolding(crate::specs::Frame::decode))]
 pub fn check_frame(s: &[u8]) -> Result<Frame, FrameRefusal>
     ensures { (checked_of result s.now ≡ decode user_max s.now) × Whole result s.now }
@@ -237,14 +255,7 @@ pub fn check_frame(s: &[u8]) -> Result<Frame, FrameRefusal>
     if s[0] != 5 || s[1] != 100 {
         return Err(FrameRefusal::Start);
     }
-    if !crc_ok(&s[..10]) {
-        return Err(FrameRefusal::HeaderCheck);
-    }
-    let len = usize::from(s[2]);
-    if len < 5 {
-        return Err(FrameRefusal::Length);
-    }
-    check_body(s, len - 5)
+    check_begun(s)
 }
 
 // Copies the user data of a frame that was checked to the front of the lent bytes: for callers that decide between check and copy.

@@ -45,15 +45,23 @@ module _ (head : Heading) (h : ℕ) where
 
 module _ (head : Heading) (h : ℕ) (fixed : (k i n : ℕ) → length (head k i n) ≡ h) where
   module _ (out₀ : List ℕ) (at : ℕ) (whole : List Object) (none : lead 0 whole ≡ 0) where
-    pub running-start : at + length (encoded head whole) ≤ length out₀ → Running head h out₀ at whole out₀ at 0 0 0 0 whole
-    running-start r =
+    -- no run is open: where one would stand, and which its first would be, is any
+    starting : (run first : ℕ) → run ≤ at → at + length (encoded head whole) ≤ length out₀ → Running head h out₀ at whole out₀ at run 0 first 0 whole
+    starting run first b r =
         record {
-          left = ap (λ (d : List ℕ). splice d at (following head 0 whole)) (splice-nil out₀ 0);
+          left = ap (λ (d : List ℕ). splice d at (following head 0 whole)) (splice-nil out₀ run);
           long = refl;
           room = refl;
           fits = omega (arith, encoded-size head h fixed whole none);
-          apart = λ n. omega arith;
+          apart = λ n. omega (arith, b);
         }
+
+    pub running-start : (first : ℕ) → at + length (encoded head whole) ≤ length out₀ → Running head h out₀ at whole out₀ at at 0 first 0 whole
+    running-start first r = starting at first (omega arith) r
+
+    -- with the numbers that stand for no run
+    pub running-none : at + length (encoded head whole) ≤ length out₀ → Running head h out₀ at whole out₀ at 0 0 0 0 whole
+    running-none r = starting 0 0 (omega arith) r
 
     -- the last run's header is put
     pub running-end : (out : List ℕ) (to run last first m : ℕ) (ys : List Object) → Running head h out₀ at whole out to run last first m ys → ys ≡ []

@@ -4,7 +4,7 @@ use Prim.Native.Nat.{ℕ, ◌+◌, ◌-◌, ◌≤◌, min}
 use lib.ListN.{length, take, length-append}
 use lib.Seq.{length-take-le}
 use Rattle.octets.proofs.Splice.{splice-nil}
-use Rattle.frame.proofs.Laws.{chunk_count, users-turn, users-none}
+use Rattle.frame.proofs.Laws.{chunk_count, users-piece, users-none}
 use Rattle.frame.proofs.copy_user.Goals as goal
 use Rattle.frame.proofs.copy_user.Goals.{In-Some}
 
@@ -39,7 +39,7 @@ loop-block-preserved c =
       omega (arith, w, s, inv.2, inv.3, k.1.2),
       omega (arith, w, s, inv.2, inv.3, k.1.2),
       omega (arith, w, s, t, inv.2, inv.3, inv.4, k.1.2),
-      cc (users-turn l.out l.to l.block-iterator.rest.now b rest k.1.0 w k.1.2 inv.2 inv.3, t, inv.5),
+      cc (users-piece l.out l.to l.block-iterator.rest.now b rest k.1.0 w k.1.2 inv.2 inv.3, t, inv.5),
     )
 
 pub returns : goal.returns

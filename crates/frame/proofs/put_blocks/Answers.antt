@@ -3,7 +3,7 @@ use native.Mathlib.Omega.{arith}
 use Prim.Native.Nat.{ℕ, ◌+◌, ◌≤◌, min}
 use lib.ListN.{length, length-append}
 use Rattle.octets.proofs.Splice.{splice-nil}
-use Rattle.frame.proofs.Laws.{blocks-turn, blocks-none}
+use Rattle.frame.proofs.Laws.{blocks-piece, blocks-none}
 use Rattle.frame.specs.Frame.{block_count}
 use Rattle.frame.proofs.put_blocks.Goals as goal
 use Rattle.frame.proofs.put_blocks.Goals.{In-Some}
@@ -34,7 +34,7 @@ loop-block-preserved c =
       k.0 ∙ inv.0,
       omega (arith, c.put_with_crc.auto.out, inv.1),
       omega (arith, w, s, k.1.2, inv.2),
-      cc (blocks-turn l.out l.to l.block-iterator.rest.now b rest k.1.0 w k.1.2, inv.3),
+      cc (blocks-piece l.out l.to l.block-iterator.rest.now b rest k.1.0 w k.1.2, inv.3),
     )
 
 pub returns : goal.returns

@@ -3,7 +3,7 @@ use Rattle.octets.specs.Bytes.{splice}
 use Rattle.static_objects.specs.Static.{static_variation, point_bytes, static_heading, range_bytes}
 use Rattle.read_headers.specs.declared.PointKind.TheVariants as K
 use Rattle.static_objects.proofs.StaticLaws.{heading-length, points-over, points-next, points-all, none_first, kind-some}
-use Rattle.static_objects.proofs.RunWriting.{running-start, running-end}
+use Rattle.static_objects.proofs.RunWriting.{running-none, running-end}
 use Rattle.static_objects.proofs.AnalogRuns.{run_variation, heading-is, run-fits, run-joined-fits, run-joined, run-begun-fits, run-begun}
 use Rattle.static_objects.specs.Alone.{analogs_alone}
 use Rattle.static_objects.proofs.put_analogs.Goals as goal
@@ -17,7 +17,7 @@ loop-i-init c =
     let whole = points-all i K.Analog a.from a.n in
     rw whole
     (record {
-      running = running-start (static_heading K.Analog) 7 (heading-length K.Analog) _ _ _ (none_first i K.Analog a.from a.n) c.requires.0;
+      running = running-none (static_heading K.Analog) 7 (heading-length K.Analog) _ _ _ (none_first i K.Analog a.from a.n) c.requires.0;
       before = tt;
     })
 
