@@ -1,9 +1,9 @@
 // Events: what is held of each, and what the selection of a response does with it.
 #![tactic(auto)]
 
-ghost use Rattle.std.specs.Prelude.{◌≡◌, min, ◌≤◌};
+ghost use Rattle.std.specs.Prelude.{◌≡◌, min, ◌≤◌, cond, leb};
 ghost use Rattle.laws.specs.Limits.{events_max};
-ghost use Rattle.events.specs.Placing.{kind_of, object_size, is_asked, cost_of, place_event};
+ghost use Rattle.events.specs.Placing.{kind_of, last_number, object_size, is_asked, cost_of, place_event};
 
 use points::Value;
 
@@ -49,6 +49,21 @@ pub enum EventKind {
     Int32,
     Int16,
     Float32,
+}
+
+impl EventKind {
+    // The kind of a number, 1 to 4; 0 and any other are no kind's. For whoever keeps the last event's kind as a number.
+    pub fn numbered(n: u8) -> Option<EventKind>
+        ensures { last_number result ≡ cond (leb n 4) n 0 }
+    {
+        match n {
+            1 => Some(EventKind::Binary),
+            2 => Some(EventKind::Int32),
+            3 => Some(EventKind::Int16),
+            4 => Some(EventKind::Float32),
+            _ => None,
+        }
+    }
 }
 
 // A response as it is filled: the bytes left for events, and the kind of the last event.
