@@ -1,6 +1,6 @@
 -- A setup in numbers, and the head and words that a restart gives. Any numbers stand for a setup.
 -- Assumes nothing.
-use Rattle.std.specs.Prelude.{ℕ, ◌≡◌, Bool, cond, List, [], ◌∷◌, map, eqb, length}
+use Rattle.std.specs.Prelude.{ℕ, ◌≡◌, Bool, true, false, cond, List, [], ◌∷◌, ◌++◌, map, eqb, length, take, drop}
 use Rattle.std.specs.Float.{binary32}
 use Rattle.std.specs.Float.Ieee.{of_bits}
 use Rattle.laws.specs.First.{first, ◌⇒◌}
@@ -8,14 +8,14 @@ use Rattle.points.specs.declared.AnalogKind.{AnalogKind}
 use Rattle.points.specs.declared.AnalogKind.TheVariants as Ks
 use Rattle.points.specs.declared.AnalogSetup.{AnalogSetup}
 use Rattle.points.specs.declared.AnalogPoint.{AnalogPoint}
-use Rattle.points.specs.Setup.{analog_ok, fresh_analog}
+use Rattle.points.specs.Setup.{analog_ok, fresh_binary, fresh_analog}
 use Rattle.analog_outputs.specs.declared.AnalogOutput.{AnalogOutput}
 use Rattle.analog_outputs.specs.declared.AnalogOutputWords.{AnalogOutputWords}
 use Rattle.analog_outputs.specs.Output.{output_ok}
-use Rattle.analog_outputs.specs.OutputWords.{output_given}
+use Rattle.analog_outputs.specs.OutputWords.{output_given, outputs_in}
 use Rattle.outstation.specs.Setup.{Setup, setup_ok}
 use Rattle.outstation.specs.OutstationView.{restarted, bare_setup}
-use Rattle.point_store.specs.PointWords.{gate_of}
+use Rattle.point_store.specs.PointWords.{gate_of, binaries_in, analogs_in}
 use Rattle.outstation.specs.declared.Head.{Head}
 use Rattle.outstation.specs.Lent.{Lent, with_outputs, outstation_view, CountsWithin, on}
 use Rattle.restart.specs.declared.SetupWords.{SetupWords}
@@ -117,3 +117,22 @@ pub record RestartHolds (s : SetupWords) (classes : List ℕ) (setups : List Ana
       ≡ restarted (cond (setup_ok (setup_of s classes setups)) (setup_of s classes setups) bare_setup)
   -- no count passes its array
   pub counted : (m : Lent) → CountsWithin (on h (record { binaries = bs; analogs = ps; held = m.held }) (with_outputs os m))
+
+-- ---- to the letter, where a caller lends words or keeps the head for more than their view
+
+-- the answer, each field of the head
+abbrev pub restart_answer : SetupWords → List ℕ → List AnalogSetupWords → Restarted
+restart_answer s classes setups =
+    cond (setup_ok (setup_of s classes setups))
+    (record { head = fresh_head s.arm_time s.confirm_time s.outputs s.analog_output_count (length classes) (length setups); refusal = 0 })
+    no_outstation
+
+-- what it says of the words: the binaries and the analog outputs are stored where all but the analogs keeps the limits, be it that an analog then
+-- does not; the analogs' words before were qs. Those of a good setup are stored and the ones past them stay; all stay where the analogs' turn does
+-- not come, and where there are none
+pub record Fresh (s : SetupWords) (classes : List ℕ) (setups : List AnalogSetupWords) (bs qs ps os : List ℕ) : Type 0 where
+  pub binaries : front_ok s classes (length setups) ≡ true → take (length classes) (binaries_in bs) ≡ map fresh_binary classes
+  pub outputs : front_ok s classes (length setups) ≡ true → take s.analog_output_count (outputs_in os) ≡ take s.analog_output_count (outputs_given s)
+  pub analogs : setup_ok (setup_of s classes setups) ≡ true → analogs_in ps ≡ map fresh_analog_of setups ++ drop (length setups) (analogs_in qs)
+  pub untouched : front_ok s classes (length setups) ≡ false → ps ≡ qs
+  pub unlent : length setups ≡ 0 → ps ≡ qs

@@ -2,7 +2,7 @@
 // words; the head then says that nothing is held, awaited, kept or selected.
 #![tactic(auto)]
 
-ghost use Rattle.std.specs.Prelude.{◌≡◌, true, [], map, ◌≤◌, length, take};
+ghost use Rattle.std.specs.Prelude.{◌≡◌, true, [], ◌++◌, map, ◌≤◌, length, take, drop};
 ghost use Rattle.laws.specs.Lists.{all};
 ghost use Rattle.laws.specs.Limits.{points_max};
 ghost use Rattle.points.specs.Setup.{class_ok, fresh_binary};
@@ -10,7 +10,7 @@ ghost use Rattle.analog_outputs.specs.Output.{analog_outputs_max};
 ghost use Rattle.analog_outputs.specs.OutputWords.{outputs_in, output_given};
 ghost use Rattle.outstation.specs.Setup.{setup_ok};
 ghost use Rattle.point_store.specs.PointWords.{binaries_in, analogs_in};
-ghost use Rattle.restart.specs.Restart.{analog_setup_of, given_ok, analog_given_ok, fresh_analog_of, setup_with, fresh_head, no_outstation, RestartHolds};
+ghost use Rattle.restart.specs.Restart.{analog_setup_of, given_ok, analog_given_ok, fresh_analog_of, setup_with, fresh_head, no_outstation, RestartHolds, restart_answer, Fresh};
 
 use analog_outputs::{ANALOG_OUTPUT_WORDS, ANALOG_OUTPUTS_MAX, AnalogOutputWords};
 use outstation::Head;
@@ -135,7 +135,7 @@ fn fresh_outputs(outputs: &mut [u32; ANALOG_OUTPUT_WORDS], given: &[AnalogOutput
 // Stores the fresh analogs, up to the first whose setup breaks a limit.
 fn fresh_analogs(analogs: &mut [u32; ANALOG_WORDS], setups: &[AnalogSetupWords]) -> bool
     requires { length setups.now ≤ points_max }
-    ensures { (result ≡ all (map analog_given_ok setups.now)) × (result ≡ true → take (length setups.now) (analogs_in analogs.new) ≡ map fresh_analog_of setups.now) }
+    ensures { (result ≡ all (map analog_given_ok setups.now)) × (result ≡ true → analogs_in analogs.new ≡ map fresh_analog_of setups.now ++ drop (length setups.now) (analogs_in analogs.old)) × (length setups.now ≡ 0 → analogs.new ≡ analogs.old) }
 {
     for (i, w) in setups.iter().enumerate() {
         let a = AnalogSetup::from(*w);
@@ -210,7 +210,9 @@ pub fn restart(
     analogs: &mut [u32; ANALOG_WORDS],
     outputs: &mut [u32; ANALOG_OUTPUT_WORDS],
 ) -> Restarted
-    ensures { RestartHolds s classes.now setups.now result.refusal result.head binaries.new analogs.new outputs.new }
+    ensures view { RestartHolds s classes.now setups.now result.refusal result.head binaries.new analogs.new outputs.new }
+    ensures answer { result ≡ restart_answer s classes.now setups.now }
+    ensures words { Fresh s classes.now setups.now binaries.new analogs.old analogs.new outputs.new }
 {
     if limits_ok(s, classes.len(), setups.len()) {
         let given = &s.analog_outputs[..usize::from(s.analog_output_count)];

@@ -14,14 +14,14 @@ pub loop-i-preserved : goal.loop-i-preserved
 loop-i-preserved c =
     let at = c.loop-i in
     rw (add-one, c.store_binary.ensures, c.fresh_binary.ensures)
-    (storing-more _ _ _ _ _ at.invariant c.loop-i-test.true _ (sym c.class_ok.ensures ∙ c.if-not-class_ok.false)
+    (storing-more _ _ _ _ _ _ at.invariant c.loop-i-test.true _ (sym c.class_ok.ensures ∙ c.if-not-class_ok.false)
     (rw (binaries-length at.binaries) (omega arith)))
 
 pub returns-then-not-class_ok : goal.returns-then-not-class_ok
 returns-then-not-class_ok c = (
-  sym (storing-fails _ _ _ _ _ c.loop-i.invariant c.loop-i-test.true _ (sym c.class_ok.ensures ∙ c.if-not-class_ok.true)),
+  sym (storing-fails _ _ _ _ _ _ c.loop-i.invariant c.loop-i-test.true _ (sym c.class_ok.ensures ∙ c.if-not-class_ok.true)),
   (λ e. absurd (false≢true e)),
 )
 
 pub returns : goal.returns
-returns c = let e = storing-end _ _ _ _ _ c.loop-i.invariant (omega arith) in (sym e.0, (λ _. e.1))
+returns c = let e = storing-end _ _ _ _ _ _ c.loop-i.invariant (omega arith) in (sym e.0, (λ _. e.1))

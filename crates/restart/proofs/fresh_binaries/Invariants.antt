@@ -6,4 +6,4 @@ use Rattle.restart.proofs.StoringLaws.{Storing}
 use Rattle.restart.proofs.fresh_binaries.Given as goal
 
 abbrev pub invariant-loop-i : goal.invariant-loop-i
-invariant-loop-i l = Storing class_ok fresh_binary l.classes (binaries_in l.binaries) l.i
+invariant-loop-i l = Storing class_ok fresh_binary l.classes (binaries_in l.initial.binaries) (binaries_in l.binaries) l.i

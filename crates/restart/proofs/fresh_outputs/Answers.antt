@@ -15,14 +15,14 @@ pub loop-i-preserved : goal.loop-i-preserved
 loop-i-preserved c =
     let at = c.loop-i in
     rw (add-one, c.store_output.ensures)
-    (storing-more _ _ _ _ _ at.invariant c.loop-i-test.true _ ((rw c.from.ensures at (sym (ap output_ok c.output_of-o.ensures))) ∙ sym c.output_ok.ensures ∙ c.if-not-output_ok.false)
+    (storing-more _ _ _ _ _ _ at.invariant c.loop-i-test.true _ ((rw c.from.ensures at (sym (ap output_ok c.output_of-o.ensures))) ∙ sym c.output_ok.ensures ∙ c.if-not-output_ok.false)
     (rw (outputs-length at.outputs) (omega arith)))
 
 pub returns-then-not-output_ok : goal.returns-then-not-output_ok
 returns-then-not-output_ok c = (
-  sym (storing-fails _ _ _ _ _ c.loop-i.invariant c.loop-i-test.true _ ((rw c.from.ensures at (sym (ap output_ok c.output_of-o.ensures))) ∙ sym c.output_ok.ensures ∙ c.if-not-output_ok.true)),
+  sym (storing-fails _ _ _ _ _ _ c.loop-i.invariant c.loop-i-test.true _ ((rw c.from.ensures at (sym (ap output_ok c.output_of-o.ensures))) ∙ sym c.output_ok.ensures ∙ c.if-not-output_ok.true)),
   (λ e. absurd (false≢true e)),
 )
 
 pub returns : goal.returns
-returns c = let e = storing-end _ _ _ _ _ c.loop-i.invariant (omega arith) in (sym e.0, (λ _. e.1))
+returns c = let e = storing-end _ _ _ _ _ _ c.loop-i.invariant (omega arith) in (sym e.0, (λ _. e.1))

@@ -6,4 +6,4 @@ use Rattle.restart.proofs.StoringLaws.{Storing}
 use Rattle.restart.proofs.fresh_outputs.Given as goal
 
 abbrev pub invariant-loop-i : goal.invariant-loop-i
-invariant-loop-i l = Storing given_ok output_given l.given (outputs_in l.outputs) l.i
+invariant-loop-i l = Storing given_ok output_given l.given (outputs_in l.initial.outputs) (outputs_in l.outputs) l.i
