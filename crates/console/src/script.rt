@@ -59,9 +59,12 @@ impl Script {
             self.from = self.filled;
             self.skipping = true;
         }
-        self.bytes.copy_within(self.from..self.filled, 0);
-        self.filled = self.filled - self.from;
-        self.from = 0;
+        // Nothing is moved where it stands at the front: a long line may come a byte a read.
+        if 0 < self.from {
+            self.bytes.copy_within(self.from..self.filled, 0);
+            self.filled = self.filled - self.from;
+            self.from = 0;
+        }
         begins
     }
 

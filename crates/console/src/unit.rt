@@ -10,7 +10,7 @@ use point_store::{ANALOG_WORDS, BINARY_WORDS};
 use points::POINTS_MAX;
 use tables::TableTook;
 
-#[derive(Drop)]
+#[derive(Clone, Copy)]
 pub struct Unit {
     // None before the first setup.
     pub head: Option<Head>,

@@ -4,7 +4,7 @@ use frame::FRAME_MAX;
 use link::{LineRecord, Station};
 use transport::{Assembly, Sender};
 
-#[derive(Drop)]
+#[derive(Clone, Copy)]
 pub struct LineSession {
     // The station's addresses, where there is an outstation.
     pub station: Option<Station>,
