@@ -1,10 +1,10 @@
 -- Laws of the selection: a placement's three answers, and what each makes of the rest.
 -- Assumes nothing.
-use mathlib.Core.Path.{◌≡◌, refl, ap, ◌∙◌}
+use mathlib.Core.Path.{◌≡◌, refl, sym, ap, ◌∙◌}
 use mathlib.Core.Bool.{Bool, true, false, not, cond}
 use mathlib.Core.List.{List, [], ◌∷◌}
 use Prim.Native.Nat.{ℕ, ◌-◌, ◌≤◌, ◌<◌}
-use Rattle.std.proofs.Common.{Some}
+use Rattle.std.proofs.Common.{Some, eqb}
 use borrow.Author.Tests.{le-leb, lt-leb}
 use Rattle.events.specs.Placing.{is_asked, kind_of, cost_of, fits, space_after, place_event}
 use Rattle.events.specs.BufferView.{marked, carry}
@@ -65,3 +65,19 @@ module _ (m : Classes) (k : Space) (h : Held) (hs : List Held) where
 pub carry-nil : (m : Classes) (k : Space) → carry m k [] ≡ []
 unfolding carry
 carry-nil m k = refl
+
+-- where no class is asked for nothing is carried
+module _ (m : Classes) (one : m.one ≡ false) (two : m.two ≡ false) (three : m.three ≡ false) where
+  none-of : (a b c : Bool) → cond a false (cond b false (cond c false false)) ≡ false
+  none-of true b c = refl
+  none-of false true c = refl
+  none-of false false true = refl
+  none-of false false false = refl
+
+  unasked : (c : ℕ) → is_asked m c ≡ false
+  unasked c = rw (one, two, three) (none-of (eqb c 1) (eqb c 2) (eqb c 3))
+
+  pub carry-unasked : (k : Space) (hs : List Held) → carry m k hs ≡ hs
+  carry-unasked k [] = carry-nil m k
+  carry-unasked k (h ∷ hs) =
+      carry-pass m k h hs (sym (placement-pass m k h.event (unasked h.event.class))) ∙ ap (λ (l : List Held). h ∷ l) (carry-unasked k hs)

@@ -21,17 +21,14 @@ module _ (s : SetupWords) (classes : List ℕ) (xs : List AnalogSetupWords) wher
   abbrev pub limits : Bool
   limits = setup_ok (setup_with s (length classes) [] (length xs) [] [])
 
-  -- the parts of a setup, in the order in which a restart tests them
-  pub whole : setup_ok (setup_of s classes xs)
-      ≡ (((limits && all (map class_ok classes)) && all (map given_ok (outputs_counted s))) && all (map analog_given_ok xs))
-  whole =
-      setup-and s classes xs
-      ∙ ap (λ (b : Bool). b && all (map analog_given_ok xs))
-      (front-is s classes (length xs) ∙ ap (λ (b : Bool). (limits && all (map class_ok classes)) && b) (sym (counted-ok s)))
-
-  -- all but the analogs
+  -- all but the analogs, in the order in which a restart tests the parts
   pub front-whole : front_ok s classes (length xs) ≡ ((limits && all (map class_ok classes)) && all (map given_ok (outputs_counted s)))
   front-whole = front-is s classes (length xs) ∙ ap (λ (b : Bool). (limits && all (map class_ok classes)) && b) (sym (counted-ok s))
+
+  -- all of them
+  pub whole : setup_ok (setup_of s classes xs)
+      ≡ (((limits && all (map class_ok classes)) && all (map given_ok (outputs_counted s))) && all (map analog_given_ok xs))
+  whole = setup-and s classes xs ∙ ap (λ (b : Bool). b && all (map analog_given_ok xs)) front-whole
 
   -- all but the analogs keeps the limits, and is stored
   pub fresh-front : front_ok s classes (length xs) ≡ true → (bs qs ps os : List ℕ) → length (outputs_counted s) ≡ s.analog_output_count

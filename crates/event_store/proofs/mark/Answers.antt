@@ -1,10 +1,20 @@
 use Rattle.events.proofs.CarryLaws.{carry-nil}
-use mathlib.Core.Path.{sym, ap, ◌∙◌}
-use Rattle.event_store.proofs.LentLaws.{lent-start, lent-rewritten, marks, skips, stops}
+use Rattle.std.proofs.lemmas.Bool.{not-true}
+use mathlib.Core.Path.{◌≡◌, sym, ap, ◌∙◌}
+use mathlib.Core.Bool.{false}
+use Rattle.event_store.proofs.LentLaws.{lent-start, lent-rewritten, marks, skips, stops, lent-unasked}
 use Rattle.events.specs.Placing.{place_event}
 use native.Mathlib.Omega.{arith}
 use Rattle.event_store.proofs.mark.Goals as goal
 use Rattle.event_store.proofs.mark.Goals.{in-Pass, in-Carry}
+
+pub returns-then-not-m-3 : goal.returns-then-not-m-3
+returns-then-not-m-3 c =
+    let m = c.args.m in
+    let one : m.one ≡ false = search (not-true) in
+    let two : m.two ≡ false = search (not-true) in
+    let three : m.three ≡ false = search (not-true) in
+    lent-unasked m one two three _ _ _
 
 pub loop-i-init : goal.loop-i-init
 loop-i-init c = lent-start _ _ _ c.told-held
