@@ -5,8 +5,10 @@ import re
 import shutil
 import subprocess
 import sys
+import threading
 
 import cuttings
+import longlines
 import repeats
 
 HERE = os.path.dirname(os.path.abspath(__file__))
@@ -32,8 +34,7 @@ SEEDS = {
 # A program that has not answered one script after so many seconds has failed.
 TIMEOUT = 60
 
-# Longest line that is a call, in bytes.
-LINE = 65536
+LINE = longlines.LINE
 
 
 def build():
@@ -57,10 +58,10 @@ def arguments():
 
 
 class Script:
-    """A fixed script, or a random one that is made when it is needed and then removed."""
+    """A fixed script, or a random one that is made when it is needed and then removed. The program may be given it in pieces."""
 
-    def __init__(self, name, path, stored=None, words=None):
-        self.name, self.path, self.stored, self.words = name, path, stored, words
+    def __init__(self, name, path, stored=None, words=None, piece=None):
+        self.name, self.path, self.stored, self.words, self.piece = name, path, stored, words, piece
 
     def make(self, generate):
         if self.words is not None:
@@ -83,6 +84,17 @@ def made(maker, directory):
         yield Script(f"{maker.__name__}: {name}", path, stored)
 
 
+def in_pieces(directory):
+    """The script of long lines, written to the directory with its answers, once for each size of the pieces."""
+    path = os.path.join(directory, "longlines.script")
+    stored = path[:-len("script")] + "answers"
+    for target, content in zip((path, stored), longlines.script()):
+        with open(target, "wb") as out:
+            out.write(content)
+    for piece in longlines.PIECES:
+        yield Script(f"longlines: {piece} at once", path, stored, piece=piece)
+
+
 def scripts(groups, directory):
     """Every script of the groups, the fixed ones first."""
     found = []
@@ -96,6 +108,8 @@ def scripts(groups, directory):
                 found.append(Script(f"tests/{group}/{name}", path, stored))
         if group in MAKERS:
             found.extend(made(MAKERS[group], directory))
+        if group == "line":
+            found.extend(in_pieces(directory))
     for kind in list(groups) + (["all"] if set(groups) == set(GROUPS) else []):
         seeds, lines = SEEDS[kind]
         for seed in seeds:
@@ -105,23 +119,52 @@ def scripts(groups, directory):
     return found
 
 
+def run_from(program, script, environment):
+    """The answers to what is read from an open file, and why the program did not end well, or None."""
+    try:
+        done = subprocess.run([program], stdin=script, stdout=subprocess.PIPE,
+                              stderr=subprocess.PIPE, env=environment, timeout=TIMEOUT)
+    except subprocess.TimeoutExpired:
+        return b"", f"no end after {TIMEOUT} s"
+    except OSError as error:
+        return b"", str(error)
+    if done.returncode != 0:
+        last = done.stderr.decode("utf-8", "replace").strip().split("\n")[-1]
+        return done.stdout, f"ended with {done.returncode} {last}"
+    return done.stdout, None
+
+
+def feed(text, piece, pipe):
+    """Writes the text in pieces, each of which one read gives."""
+    try:
+        for start in range(0, len(text), piece):
+            os.write(pipe, text[start:start + piece])
+    except OSError:
+        pass  # The program has ended; its status tells.
+    finally:
+        os.close(pipe)
+
+
+def run_in_pieces(program, path, piece):
+    """As `run`, the script coming in pieces of so many bytes."""
+    with open(path, "rb") as script:
+        text = script.read()
+    source, pipe = os.pipe2(os.O_DIRECT | os.O_CLOEXEC)
+    feeder = threading.Thread(target=feed, args=(text, piece, pipe))
+    feeder.start()
+    with os.fdopen(source, "rb") as script:
+        done = run_from(program, script, os.environ)
+    feeder.join()
+    return done
+
+
 def run(program, path, fault=None):
     """The program's answers to a script, as bytes, and why it did not end well, or None."""
     environment = {name: value for name, value in os.environ.items() if name != "REFERENCE_FAULT"}
     if fault is not None:
         environment["REFERENCE_FAULT"] = fault
     with open(path, "rb") as script:
-        try:
-            done = subprocess.run([program], stdin=script, stdout=subprocess.PIPE,
-                                  stderr=subprocess.PIPE, env=environment, timeout=TIMEOUT)
-        except subprocess.TimeoutExpired:
-            return b"", f"no end after {TIMEOUT} s"
-        except OSError as error:
-            return b"", str(error)
-    if done.returncode != 0:
-        last = done.stderr.decode("utf-8", "replace").strip().split("\n")[-1]
-        return done.stdout, f"ended with {done.returncode} {last}"
-    return done.stdout, None
+        return run_from(program, script, environment)
 
 
 def short(text, most=160):
