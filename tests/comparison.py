@@ -58,10 +58,14 @@ def arguments():
 
 
 class Script:
-    """A fixed script, or a random one that is made when it is needed and then removed. The program may be given it in pieces."""
+    """A fixed script, or a random one that is made when it is needed and then removed.
+
+    `piece`: the program reads it in pieces of so many bytes.
+    """
 
     def __init__(self, name, path, stored=None, words=None, piece=None):
-        self.name, self.path, self.stored, self.words, self.piece = name, path, stored, words, piece
+        self.name, self.path, self.stored, self.words = name, path, stored, words
+        self.piece = piece
 
     def make(self, generate):
         if self.words is not None:
@@ -85,7 +89,7 @@ def made(maker, directory):
 
 
 def in_pieces(directory):
-    """The script of long lines, written to the directory with its answers, once for each size of the pieces."""
+    """The script of long lines, written to the directory with its answers, for each piece."""
     path = os.path.join(directory, "longlines.script")
     stored = path[:-len("script")] + "answers"
     for target, content in zip((path, stored), longlines.script()):
@@ -119,8 +123,11 @@ def scripts(groups, directory):
     return found
 
 
-def run_from(program, script, environment):
-    """The answers to what is read from an open file, and why the program did not end well, or None."""
+def run_from(program, script, fault=None):
+    """The program's answers to what an open file gives, as `run`."""
+    environment = {name: value for name, value in os.environ.items() if name != "REFERENCE_FAULT"}
+    if fault is not None:
+        environment["REFERENCE_FAULT"] = fault
     try:
         done = subprocess.run([program], stdin=script, stdout=subprocess.PIPE,
                               stderr=subprocess.PIPE, env=environment, timeout=TIMEOUT)
@@ -153,18 +160,15 @@ def run_in_pieces(program, path, piece):
     feeder = threading.Thread(target=feed, args=(text, piece, pipe))
     feeder.start()
     with os.fdopen(source, "rb") as script:
-        done = run_from(program, script, os.environ)
+        done = run_from(program, script)
     feeder.join()
     return done
 
 
 def run(program, path, fault=None):
     """The program's answers to a script, as bytes, and why it did not end well, or None."""
-    environment = {name: value for name, value in os.environ.items() if name != "REFERENCE_FAULT"}
-    if fault is not None:
-        environment["REFERENCE_FAULT"] = fault
     with open(path, "rb") as script:
-        return run_from(program, script, environment)
+        return run_from(program, script, fault)
 
 
 def short(text, most=160):

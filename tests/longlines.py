@@ -1,6 +1,7 @@
-"""Makes a script of lines on both sides of the longest one, with its answers, and says in what pieces the program reads it.
+"""A script of lines on both sides of the longest one, with its answers, and the pieces it comes in.
 
-A line that is longer than `LINE` is no call and answered once, with `fault`, however it comes; the calls after it are answered as ever.
+A line that is longer than `LINE` is no call: it is answered once, with `fault`, however it comes,
+and the calls after it are answered as ever.
 """
 
 # Longest line that is a call, in bytes.
@@ -11,7 +12,7 @@ PIECES = (1, 4095, 4096)
 
 
 def long_call(length):
-    """A call of so many bytes, its digits in pairs, that is refused for the few bytes lent; too long it is no call."""
+    """A call of so many bytes, its digits in pairs, that is refused for the few bytes lent."""
     name = b"frame-read 1 " if length % 2 else b"frame-read 10 "
     return name + b"A" * (length - len(name))
 

@@ -6,6 +6,7 @@ use mathlib.Core.List.{List, [], ◌∷◌}
 use Prim.Native.Nat.{ℕ, ◌-◌, ◌≤◌, ◌<◌}
 use Rattle.std.proofs.Common.{Some, eqb}
 use borrow.Author.Tests.{le-leb, lt-leb}
+use Rattle.laws.proofs.Tests.{cond_same}
 use Rattle.events.specs.Placing.{is_asked, kind_of, cost_of, fits, space_after, place_event}
 use Rattle.events.specs.BufferView.{marked, carry}
 use Rattle.events.specs.declared.Event.{Event}
@@ -68,14 +69,8 @@ carry-nil m k = refl
 
 -- where no class is asked for nothing is carried
 module _ (m : Classes) (one : m.one ≡ false) (two : m.two ≡ false) (three : m.three ≡ false) where
-  none-of : (a b c : Bool) → cond a false (cond b false (cond c false false)) ≡ false
-  none-of true b c = refl
-  none-of false true c = refl
-  none-of false false true = refl
-  none-of false false false = refl
-
   unasked : (c : ℕ) → is_asked m c ≡ false
-  unasked c = rw (one, two, three) (none-of (eqb c 1) (eqb c 2) (eqb c 3))
+  unasked c = rw (one, two, three, cond_same (eqb c 3) false, cond_same (eqb c 2) false, cond_same (eqb c 1) false)
 
   pub carry-unasked : (k : Space) (hs : List Held) → carry m k hs ≡ hs
   carry-unasked k [] = carry-nil m k
